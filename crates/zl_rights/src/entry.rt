@@ -1,0 +1,10 @@
+use crate::kind::Kind;
+use crate::rights::Rights;
+
+/// A handle without its place: the object that it names, the object's kind, and its rights.
+#[derive(Clone, Copy, PartialEq, Eq, Debug)]
+pub struct Entry {
+    pub koid: u64,
+    pub kind: Kind,
+    pub rights: Rights,
+}

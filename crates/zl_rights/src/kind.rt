@@ -1,0 +1,66 @@
+ghost use Rattle.std.specs.Prelude.{◌≡◌, ◌≢◌, IfSome, IfNone};
+ghost use Rattle.zl_rights.specs.declared.kind.Kind.{Kind};
+ghost use Rattle.zl_rights.specs.Numbers.{bits, kind_number, default_rights_of};
+
+use crate::rights::Rights;
+use bitflags::Flags;
+
+/// The kind of a kernel object.
+///
+/// Source: the page "Kernel objects" of the Fuchsia documentation.
+#[derive(Clone, Copy, PartialEq, Eq, Debug)]
+pub enum Kind {
+    Process,
+    Channel,
+    Event,
+    Port,
+    Job,
+}
+
+impl Kind {
+    /// The number of the kind, as images and answers have it.
+    ///
+    /// Source: `zx_obj_type_t` of the Fuchsia documentation.
+    pub fn number(self) -> u32
+        ensures { result ≡ kind_number self }
+    {
+        match self {
+            Kind::Process => 1,
+            Kind::Channel => 4,
+            Kind::Event => 5,
+            Kind::Port => 6,
+            Kind::Job => 17,
+        }
+    }
+
+    /// The kind with this number, or nothing where no kind has it.
+    pub fn from_number(number: u32) -> Option<Kind>
+        ensures found { IfSome result (λ kind. kind_number kind ≡ number) }
+        ensures missing { IfNone result ((kind : Kind) → kind_number kind ≢ number) }
+    {
+        match number {
+            1 => Some(Kind::Process),
+            4 => Some(Kind::Channel),
+            5 => Some(Kind::Event),
+            6 => Some(Kind::Port),
+            17 => Some(Kind::Job),
+            _ => None,
+        }
+    }
+
+    /// The rights of the first handle to a new object of this kind.
+    ///
+    /// Source: the page "Rights" of the Fuchsia documentation; of processes and jobs own profile.
+    pub fn default_rights(self) -> Rights
+        ensures { bits result ≡ default_rights_of self }
+    {
+        let number = match self {
+            Kind::Process => 184_847,
+            Kind::Channel => 61_454,
+            Kind::Event => 53_251,
+            Kind::Port => 32_783,
+            Kind::Job => 251_407,
+        };
+        Rights::from_bits_retain(number)
+    }
+}

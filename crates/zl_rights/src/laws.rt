@@ -1,0 +1,15 @@
+//! Laws of the definitions: each function's contract is one law, and its body is empty.
+
+ghost use Rattle.std.specs.Prelude.{◌≡◌};
+ghost use Rattle.zl_rights.specs.World.{World};
+ghost use Rattle.zl_rights.specs.Settle.{Settles};
+
+/// Every world settles.
+pub fn every_world_settles()
+    ensures { (w : World) → (settled : World) × Settles w settled }
+{}
+
+/// What settling leaves of a world is one world.
+pub fn settling_is_one()
+    ensures { (w u v : World) → Settles w u → Settles w v → u ≡ v }
+{}

@@ -1,0 +1,21 @@
+//! Rights, signals, kinds and statuses, and the definitions of the world, settling and waking.
+//!
+//! It stands on `bitflags` alone. It promises that rights and signals are sets of named bits and
+//! that `narrow` is exact; `laws` proves of the definitions that every world settles to one result
+//! and that one round of waking suffices.
+#![tactic(auto)]
+
+mod entry;
+mod kind;
+pub mod laws;
+mod policy;
+mod rights;
+mod signals;
+mod status;
+
+pub use entry::Entry;
+pub use kind::Kind;
+pub use policy::{Action, Condition, Mode};
+pub use rights::{Rights, narrow};
+pub use signals::Signals;
+pub use status::Status;

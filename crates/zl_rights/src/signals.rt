@@ -1,0 +1,73 @@
+ghost use Rattle.std.specs.Prelude.{⊤, ◌≡◌, [], ◌∷◌, codes};
+ghost use Rattle.zl_rights.specs.Numbers.{changed};
+
+use bitflags::{Flag, Flags, bitflag_items};
+
+/// What is active at an object: a set of named bits.
+///
+/// `SIGNALED` of an event and `TERMINATED` of a process or a job are one bit.
+/// Source: the page "Signals" of the Fuchsia documentation.
+#[derive(Clone, Copy, PartialEq, Eq, Debug)]
+pub struct Signals(u32);
+
+bitflag_items! {
+    impl Signals: u32 {
+        const READABLE = 0x1;
+        const WRITABLE = 0x2;
+        const PEER_CLOSED = 0x4;
+        const SIGNALED = 0x8;
+        const TERMINATED = 0x8;
+        const NO_JOBS = 0x10;
+        const NO_PROCESSES = 0x20;
+        const USER_0 = 0x100_0000;
+        const USER_1 = 0x200_0000;
+        const USER_2 = 0x400_0000;
+        const USER_3 = 0x800_0000;
+        const USER_4 = 0x1000_0000;
+        const USER_5 = 0x2000_0000;
+        const USER_6 = 0x4000_0000;
+        const USER_7 = 0x8000_0000;
+    }
+}
+
+impl Flags for Signals {
+    type Bits = u32;
+
+    ghost exact = { ⊤ };
+
+    ghost table = { (codes "READABLE", 0x1) ∷ (codes "WRITABLE", 0x2) ∷ (codes "PEER_CLOSED", 0x4)
+        ∷ (codes "SIGNALED", 0x8) ∷ (codes "TERMINATED", 0x8) ∷ (codes "NO_JOBS", 0x10)
+        ∷ (codes "NO_PROCESSES", 0x20) ∷ (codes "USER_0", 0x1000000)
+        ∷ (codes "USER_1", 0x2000000) ∷ (codes "USER_2", 0x4000000)
+        ∷ (codes "USER_3", 0x8000000) ∷ (codes "USER_4", 0x10000000)
+        ∷ (codes "USER_5", 0x20000000) ∷ (codes "USER_6", 0x40000000)
+        ∷ (codes "USER_7", 0x80000000) ∷ [] };
+
+    ghost set_of = { λ s. s.0 };
+
+    fn flags<'a>() -> &'a [Flag<Signals>] {
+        Signals::FLAGS
+    }
+
+    fn bits(&self) -> u32 {
+        self.0
+    }
+
+    fn from_bits_retain(bits: u32) -> Signals {
+        Signals(bits)
+    }
+}
+
+impl Signals {
+    /// These signals without `clear`, and then with `set`.
+    ///
+    /// Source: the page "zx_object_signal" of the Fuchsia documentation.
+    pub fn changed(self, clear: Signals, set: Signals) -> Signals
+        ensures { result.0 ≡ changed self.0 clear.0 set.0 }
+    {
+        let mut signals = self;
+        signals.remove(clear);
+        signals.insert(set);
+        signals
+    }
+}

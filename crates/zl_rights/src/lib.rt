@@ -19,3 +19,12 @@ pub use policy::{Action, Condition, Mode};
 pub use rights::{Rights, narrow};
 pub use signals::Signals;
 pub use status::Status;
+
+/// The number of an object, never used twice.
+pub type Koid = u64;
+
+/// The koid of a process.
+pub type Pid = u64;
+
+/// The value of a handle in the table of its process: 1 to 65,535.
+pub type HValue = u32;

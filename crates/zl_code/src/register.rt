@@ -1,0 +1,44 @@
+ghost use Rattle.std.specs.Prelude.{ℕ, ◌≡◌, ◌<◌, ◌≤◌, IfSome, IfNone};
+
+use std::marker::Model;
+
+/// One of the 32 registers of a process.
+#[derive(Clone, Copy)]
+pub struct Register {
+    number: u8,
+}
+
+impl Model for Register {
+    ghost Value = { ℕ };
+
+    ghost view = { λ r. r.number };
+
+    ghost invariant = { λ r. r.number < 32 };
+
+    ghost inverse = { λ n. record { number = n } };
+}
+
+impl Register {
+    /// How many registers there are.
+    pub const COUNT: usize = 32;
+
+    /// The register of this number, 0 to 31; nothing for another number.
+    pub fn new(number: u8) -> Option<Register>
+        ensures found { IfSome result (λ register. register ≡ number) }
+        ensures missing { IfNone result (32 ≤ number) }
+    {
+        if number < 32 {
+            Some(Register { number })
+        } else {
+            None
+        }
+    }
+
+    /// The number of the register, 0 to 31.
+    pub fn number(self) -> u8
+        ensures value { result ≡ self }
+        ensures below { result < 32 }
+    {
+        self.number
+    }
+}

@@ -1,0 +1,8 @@
+-- What the definitions see of a program.
+use Rattle.std.specs.Prelude.{false}
+use Rattle.zl_code.specs.Image.{Program as ProgramValue}
+use Rattle.zl_calls.specs.declared.program.Program.{Program}
+use Rattle.zl_calls.specs.declared.program.Program.TheVariants as program
+
+abbrev pub program_value : Program → ProgramValue
+program_value (program.Raw image) = record { checked = false; image = image }

@@ -1,0 +1,83 @@
+ghost use Rattle.std.specs.Prelude.{◌≡◌, ◌==◌, ◌≤◌, ◌++◌, ◌∷◌, [], length, OnOk, OnErr, IfSome, IfNone, slice_get, Some, None};
+ghost use Rattle.zl_calls.specs.Program.{program_value};
+
+use std::alloc::{AllocError, Global};
+use std::marker::Model;
+use zl_code::Image;
+
+/// A program as a library lists it.
+#[derive(Drop)]
+pub enum Program {
+    /// A program that was not checked; its processes may be refused and may be stuck.
+    Raw(Image),
+}
+
+impl Program {
+    /// The image of the program.
+    pub fn image(&self) -> &Image
+        ensures { result.now ≡ (program_value self.now).image }
+    {
+        match self {
+            Program::Raw(image) => image,
+        }
+    }
+}
+
+/// The programs of a lab, by their numbers from 0.
+#[derive(Drop)]
+pub struct Library {
+    programs: Vec<Program>,
+}
+
+impl Model for Library {
+    ghost use Rattle.std.specs.Prelude.{map};
+    ghost use Rattle.zl_code.specs.Image.{Library as Programs};
+
+    ghost Value = { Programs };
+
+    ghost use Rattle.zl_calls.specs.Program.{program_value};
+
+    ghost view = { λ l. map program_value l.programs.items };
+}
+
+impl Library {
+    /// A library without programs.
+    pub fn new(alloc: Global) -> Library
+        ensures { result ≡ [] }
+    {
+        Library {
+            programs: Vec::new(alloc),
+        }
+    }
+
+    /// How many programs there are.
+    pub fn len(&self) -> usize
+        ensures { result ≡ length self.now }
+    {
+        self.programs.len()
+    }
+
+    /// Whether there is no program.
+    pub fn is_empty(&self) -> bool
+        ensures { result ≡ (length self.now == 0) }
+    {
+        self.programs.is_empty()
+    }
+
+    /// Adds the program, which gets the next number. Only memory can be refused; then nothing changes.
+    pub fn push(&mut self, program: Program) -> Result<(), AllocError>
+        ensures ok { OnOk result (self.new ≡ self.old ++ program_value program ∷ []) }
+        ensures err { OnErr result (self.new ≡ self.old) }
+    {
+        self.programs.push(program)?;
+        Ok(())
+    }
+
+    /// The program of this number, if there is one.
+    pub fn get(&self, number: usize) -> Option<&Program>
+        ensures found { IfSome result (λ program. slice_get self.now number ≡ Some (program_value program.now)) }
+        ensures missing { IfNone result (length self.now ≤ number) }
+    {
+        self.programs.get(number)
+    }
+}

@@ -1,2 +1,10 @@
 pub mod Image
 pub mod Spells
+pub mod Local
+pub mod Request
+pub mod Tests
+pub mod Refusals
+pub mod Effects
+pub mod Calls
+pub mod Steps
+pub mod Boot

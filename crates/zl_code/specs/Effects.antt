@@ -1,0 +1,124 @@
+-- The table of calls: what a call does that is answered OK, and what its answer gives.
+use Rattle.std.specs.Prelude.{ℕ, ◌+◌, ◌%◌, ◌^◌, ℤ, pos, ◌-ℤ◌, Bool, true, false, ◌&&◌, not, ◌==◌, nat_lt, List, [], ◌∷◌, map, Option, Some, None, if◌then◌else◌}
+use Rattle.std.specs.List.{filter}
+use Rattle.zl_rights.specs.declared.kind.Kind.{Kind}
+use Rattle.zl_rights.specs.declared.kind.Kind.TheVariants as kind
+use Rattle.zl_rights.specs.declared.status.Status.{Status}
+use Rattle.zl_rights.specs.declared.status.Status.TheVariants as status
+use Rattle.zl_rights.specs.declared.entry.Entry.{Entry}
+use Rattle.zl_rights.specs.Numbers.{rights_of, default_rights_of, changed}
+use Rattle.zl_rights.specs.Map.{get, put, without, update, has_key}
+use Rattle.zl_rights.specs.World.{World, Process, Ended, Object, Body, EventBody}
+use Rattle.zl_rights.specs.Signals.{lives}
+use Rattle.zl_code.specs.Image.{Library}
+use Rattle.zl_code.specs.Request.{Request, close, dup, event_create, signal, process_exit}
+use Rattle.zl_code.specs.Tests.{entry_at, object_at, copy_of}
+use Rattle.zl_code.specs.Refusals.{handle_operands}
+
+-- ---- changes of a world
+
+-- the world with the process p as f leaves it
+unfoldable pub on_process : World → ℕ → (Process → Process) → World
+on_process w p f = record w { processes = update w.processes p f }
+
+-- the world with the object k as f leaves it
+unfoldable pub on_object : World → ℕ → (Object → Object) → World
+on_object w k f = record w { objects = update w.objects k f }
+
+-- the process with the handle at the value
+abbrev pub process_with : ℕ → Entry → Process → Process
+process_with v e q = record q { handles = put q.handles v e; last = None }
+
+-- the process without the handle; a value that isn't live changes nothing
+abbrev pub process_without : ℕ → Process → Process
+process_without v q = if has_key q.handles v then record q { handles = without q.handles v; last = Some v } else q
+
+-- the handles enter the table of p, each at its value
+unfoldable pub insert_all : World → ℕ → List Entry → List ℕ → World
+insert_all w p [] vs = w
+insert_all w p (e ∷ es) [] = w
+insert_all w p (e ∷ es) (v ∷ vs) = insert_all (on_process w p (process_with v e)) p es vs
+
+-- the handles leave the table of p, from left to right
+unfoldable pub remove_all : World → ℕ → List ℕ → World
+remove_all w p [] = w
+remove_all w p (h ∷ hs) = remove_all (on_process w p (process_without h)) p hs
+
+-- a new object, with the next koid
+unfoldable pub with_object : World → Body → World
+with_object w b = record w {
+  objects = put w.objects w.next_koid (record { body = b; raised = 0 });
+  next_koid = w.next_koid + 1;
+}
+
+abbrev pub process_ended : ℤ → Process → Process
+process_ended code q = if lives q.state then record q { state = Ended code; handles = []; last = None } else q
+
+-- the process ends, and its handles close
+unfoldable pub ended : World → ℕ → ℤ → World
+ended w p code = record (on_process w p (process_ended code)) { blocked = filter (λ q. not (q == p)) w.blocked }
+
+-- ---- the handles that a call takes and makes
+
+-- the handles of the caller that are gone on every answer
+unfoldable pub taken_handles : Request → List ℕ
+taken_handles request = map (λ o. o.value) (filter (λ o. o.is_taken) (handle_operands request))
+
+-- the first handle to a new object
+abbrev pub new_entry : ℕ → Kind → Entry
+new_entry k kind = record { koid = k; kind = kind; rights = rights_of (default_rights_of kind) }
+
+-- the handles that enter the caller's table
+unfoldable pub new_handles : World → ℕ → Request → List Entry
+new_handles w p (dup h rights) = copy_of (entry_at w p h) rights
+new_handles w p event_create = new_entry w.next_koid kind.Event ∷ []
+new_handles w p _ = []
+
+-- ---- the free choice of values
+
+abbrev pub may_get_after : Option ℕ → Process → ℕ → Bool
+may_get_after (Some last) q v = v == last
+may_get_after None q v = nat_lt 0 v && (nat_lt v 65536 && not (has_key q.handles v))
+
+-- the value that was removed last, if there is one, else any unused one
+abbrev pub may_get : Process → ℕ → Bool
+may_get q v = may_get_after q.last q v
+
+abbrev pub may_get_all : Process → List Entry → List ℕ → Bool
+may_get_all q [] [] = true
+may_get_all q [] (v ∷ vs) = false
+may_get_all q (e ∷ es) [] = false
+may_get_all q (e ∷ es) (v ∷ vs) = may_get q v && may_get_all (process_with v e q) es vs
+
+abbrev pub gets_all : Option Process → List Entry → List ℕ → Bool
+gets_all None es vs = false
+gets_all (Some q) es vs = may_get_all q es vs
+
+-- these values may be given to the new handles; taken is the world without the operands that are always consumed
+unfoldable pub may_choose : World → World → ℕ → Request → List ℕ → Bool
+may_choose w taken p request vs = gets_all (get taken.processes p) (new_handles w p request) vs
+
+-- ---- the effect
+
+abbrev pub object_changed : ℕ → ℕ → Object → Object
+object_changed clear set o = record o { raised = changed o.raised clear set }
+
+-- What the call does beside its caller's registers, where it is answered OK and new handles get the values vs.
+-- w is the world before it; taken is that world without the operands that are always consumed.
+unfoldable pub effect : Library → World → World → ℕ → Request → List ℕ → World
+effect lib w taken p (close h) vs = taken
+effect lib w taken p (dup h rights) vs = insert_all taken p (new_handles w p (dup h rights)) vs
+effect lib w taken p event_create vs = with_object (insert_all taken p (new_handles w p event_create) vs) EventBody
+effect lib w taken p (signal h clear set) vs = on_object taken (object_at w p h) (object_changed clear set)
+effect lib w taken p (process_exit code) vs = taken
+
+-- ---- what the answer gives
+
+-- the values of the destinations behind the status
+unfoldable pub gives : World → ℕ → Request → Status → List ℕ → List ℕ
+gives w p request status.Ok vs = vs
+gives w p request _ vs = []
+
+-- the low 32 bits as a signed number
+abbrev pub signed_word : ℕ → ℤ
+signed_word n = if nat_lt (n % 2 ^ 32) (2 ^ 31) then pos (n % 2 ^ 32) else pos (n % 2 ^ 32) -ℤ pos (2 ^ 32)

@@ -1,0 +1,43 @@
+-- What a call asks for, and where it stands in the registers.
+use Rattle.std.specs.Prelude.{ℕ, List, [], ◌∷◌, Option, Some}
+use Rattle.zl_rights.specs.World.{Cpu}
+use Rattle.zl_code.specs.declared.instr.CallInstr.{CallInstr}
+use Rattle.zl_code.specs.declared.instr.CallInstr.TheVariants as call
+use Rattle.zl_code.specs.declared.history.CallName.{CallName}
+use Rattle.zl_code.specs.declared.history.CallName.TheVariants as name
+use Rattle.zl_code.specs.Local.{reg}
+
+-- a call with the values of its operands; h is the value of a handle
+pub data Request : Type 0 where
+  close : (h : ℕ) → Request
+  dup : (h rights : ℕ) → Request
+  event_create : Request
+  signal : (h clear set : ℕ) → Request
+  process_exit : (code : ℕ) → Request
+
+-- a call as it stands at an instruction
+pub record Site : Type 0 where
+  pub request : Request
+  -- the registers of the operands that are consumed
+  pub consumed : List ℕ
+  -- the registers of the answer, the status first
+  pub destinations : List ℕ
+
+abbrev pub site : Request → List ℕ → List ℕ → Site
+site request consumed destinations = record { request = request; consumed = consumed; destinations = destinations }
+
+-- the call with its operands read, or nothing where it is stuck
+unfoldable pub site_of : CallInstr → Cpu → Option Site
+site_of (call.Close a b) c = Some (site (close (reg c b)) (b ∷ []) (a ∷ []))
+site_of (call.Dup a b d imm) c = Some (site (dup (reg c b) imm) [] (a ∷ d ∷ []))
+site_of (call.EventCreate a b) c = Some (site event_create [] (a ∷ b ∷ []))
+site_of (call.Signal a b d e) c = Some (site (signal (reg c b) (reg c d) (reg c e)) [] (a ∷ []))
+site_of (call.ProcessExit a) c = Some (site (process_exit (reg c a)) [] [])
+
+-- the name of the call, as traces have it
+abbrev pub name_of : CallInstr → CallName
+name_of (call.Close a b) = name.Close
+name_of (call.Dup a b d imm) = name.Dup
+name_of (call.EventCreate a b) = name.EventCreate
+name_of (call.Signal a b d e) = name.Signal
+name_of (call.ProcessExit a) = name.ProcessExit

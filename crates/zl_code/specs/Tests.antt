@@ -1,0 +1,177 @@
+-- The words in which the table of calls is written.
+use Rattle.std.specs.Prelude.{ℕ, ◌+◌, ◌^◌, Bool, true, false, ◌&&◌, not, ◌==◌, nat_le, List, [], ◌∷◌, length, Option, Some, None, if◌then◌else◌, unwrap_or}
+use Rattle.std.specs.List.{list_any, sum_by, count_by}
+use Rattle.zl_rights.specs.declared.rights.Rights.{Rights}
+use Rattle.zl_rights.specs.declared.kind.Kind.{Kind}
+use Rattle.zl_rights.specs.declared.status.Status.{Status}
+use Rattle.zl_rights.specs.declared.status.Status.TheVariants as status
+use Rattle.zl_rights.specs.declared.policy.Condition.{Condition}
+use Rattle.zl_rights.specs.declared.policy.Condition.TheVariants as condition
+use Rattle.zl_rights.specs.declared.policy.Action.{Action}
+use Rattle.zl_rights.specs.declared.policy.Action.TheVariants as action
+use Rattle.zl_rights.specs.declared.entry.Entry.{Entry}
+use Rattle.zl_rights.specs.Numbers.{bits, within, narrowed, same_kind, condition_number, BY_POLICY}
+use Rattle.zl_rights.specs.Map.{Map, get}
+use Rattle.zl_rights.specs.World.{World, Process, Object, Body, ChannelEnd, JobBody, ProcessBody}
+use Rattle.zl_code.specs.declared.history.Outcome.{Outcome}
+use Rattle.zl_code.specs.declared.history.Outcome.TheVariants as outcome
+
+-- ---- answers
+
+-- the first that is there
+abbrev pub first : List (Option Outcome) → Option Outcome
+first [] = None
+first (None ∷ rest) = first rest
+first (Some o ∷ rest) = Some o
+
+-- this answer, where the test passes
+abbrev pub answer_if : Bool → Status → Option Outcome
+answer_if true s = Some (outcome.Answered s)
+answer_if false s = None
+
+-- ---- what the world has
+
+abbrev pub handles_in : Option Process → Map Entry
+handles_in None = []
+handles_in (Some p) = p.handles
+
+-- the table of the process p
+abbrev pub table_of : World → ℕ → Map Entry
+table_of w p = handles_in (get w.processes p)
+
+-- the handle h of the process p
+abbrev pub entry_at : World → ℕ → ℕ → Option Entry
+entry_at w p h = get (table_of w p) h
+
+abbrev pub koid_in : Option Entry → ℕ
+koid_in None = 0
+koid_in (Some e) = e.koid
+
+-- the object that the handle h of the process p names
+abbrev pub object_at : World → ℕ → ℕ → ℕ
+object_at w p h = koid_in (entry_at w p h)
+
+abbrev pub body_in : Option Object → Option Body
+body_in None = None
+body_in (Some o) = Some o.body
+
+abbrev pub body_of : World → ℕ → Option Body
+body_of w k = body_in (get w.objects k)
+
+abbrev pub parent_in : Option Body → ℕ
+parent_in (Some (JobBody parent depth policy killed)) = parent
+parent_in (Some (ProcessBody job)) = job
+parent_in _ = 0
+
+-- the job in which the job or process k is; of the root job 0
+abbrev pub parent_of : World → ℕ → ℕ
+parent_of w k = parent_in (body_of w k)
+
+abbrev pub policy_in : Option Body → Map Action
+policy_in (Some (JobBody parent depth policy killed)) = policy
+policy_in _ = []
+
+-- the job's action for the condition; unset allows
+abbrev pub action_of : World → ℕ → Condition → Action
+action_of w job c = unwrap_or (get (policy_in (body_of w job)) (condition_number c)) action.Allow
+
+-- ---- policy
+
+abbrev pub ends_if_kill : Action → Outcome → Outcome
+ends_if_kill action.Kill o = outcome.Ended BY_POLICY
+ends_if_kill _ o = o
+
+-- a fault, or the end where the policy of the caller's job kills for it
+abbrev pub faults : World → ℕ → Condition → Status → Option Outcome
+faults w p c s = Some (ends_if_kill (action_of w (parent_of w p) c) (outcome.Answered s))
+
+abbrev pub unless_allowed : Action → Option Outcome
+unless_allowed action.Allow = None
+unless_allowed action.Deny = Some (outcome.Answered status.AccessDenied)
+unless_allowed action.Kill = Some (outcome.Ended BY_POLICY)
+
+-- what the policy of the caller's job says to making such an object
+unfoldable pub creates : World → ℕ → Condition → Option Outcome
+creates w p c = unless_allowed (action_of w (parent_of w p) c)
+
+abbrev pub by_policy : World → ℕ → Option Condition → Option Outcome
+by_policy w p None = None
+by_policy w p (Some c) = creates w p c
+
+-- ---- handle operands
+
+-- A handle operand: its value, the kinds and rights that it needs, and whether the call takes it away.
+pub record Operand : Type 0 where
+  pub value : ℕ
+  -- none: any kind
+  pub kinds : List Kind
+  pub needed : ℕ
+  -- gone on every answer
+  pub is_taken : Bool
+  -- 0 passes, and names nothing
+  pub may_be_zero : Bool
+
+abbrev pub any : List Kind
+any = []
+
+abbrev pub takes : List Kind → Kind → Bool
+takes [] k = true
+takes (x ∷ xs) k = list_any (same_kind k) (x ∷ xs)
+
+abbrev pub operand_of : World → ℕ → List Kind → ℕ → Option Entry → Option Outcome
+operand_of w p kinds needed None = faults w p condition.BadHandle status.BadHandle
+operand_of w p kinds needed (Some e) =
+    if not (takes kinds e.kind) then faults w p condition.WrongObject status.WrongType
+    else answer_if (not (within needed (bits e.rights))) status.AccessDenied
+
+-- the handle h has to be live, of such a kind, and with the needed rights
+unfoldable pub operand : World → ℕ → List Kind → ℕ → ℕ → Option Outcome
+operand w p kinds needed h = operand_of w p kinds needed (entry_at w p h)
+
+abbrev pub contains : List ℕ → ℕ → Bool
+contains xs x = list_any (λ y. y == x) xs
+
+abbrev pub operand_after : World → ℕ → List ℕ → Operand → Option Outcome
+operand_after w p seen o =
+    if o.may_be_zero && (o.value == 0) then None
+    else (if o.is_taken && contains seen o.value then faults w p condition.BadHandle status.BadHandle
+    else operand w p o.kinds o.needed o.value)
+
+abbrev pub seen_after : List ℕ → Operand → List ℕ
+seen_after seen o = if o.is_taken then o.value ∷ seen else seen
+
+-- from left to right, where a taken value that was taken before isn't live any more
+unfoldable pub examined : World → ℕ → List ℕ → List Operand → Option Outcome
+examined w p seen [] = None
+examined w p seen (o ∷ os) = first (operand_after w p seen o ∷ examined w p (seen_after seen o) os ∷ [])
+
+-- ---- counts
+
+-- the table of p has place for n handles more
+unfoldable pub has_room : World → ℕ → ℕ → Bool
+has_room w p n = nat_le (length (table_of w p) + n) 1024
+
+-- n koids are left
+unfoldable pub has_koids : World → ℕ → Bool
+has_koids w n = nat_le (w.next_koid + n) (2 ^ 62)
+
+abbrev pub queued_to : ℕ → Body → ℕ
+queued_to k (ChannelEnd peer queue) = sum_by (λ m. count_by (λ h. h.koid == k) m.handles) queue
+queued_to k _ = 0
+
+-- how many handles, in tables and in queues, name the object k
+unfoldable pub handles_to : World → ℕ → ℕ
+handles_to w k =
+    sum_by (λ p. count_by (λ h. h.1.koid == k) p.1.handles) w.processes
+    + sum_by (λ o. queued_to k o.1.body) w.objects
+
+-- ---- rights
+
+abbrev pub with_rights : Entry → Option Rights → List Entry
+with_rights e None = []
+with_rights e (Some rights) = record e { rights = rights } ∷ []
+
+-- the entry of a copy, or none where such rights may not be asked for
+abbrev pub copy_of : Option Entry → ℕ → List Entry
+copy_of None asked = []
+copy_of (Some e) asked = with_rights e (narrowed e.rights asked)

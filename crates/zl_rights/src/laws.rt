@@ -3,6 +3,7 @@
 ghost use Rattle.std.specs.Prelude.{◌≡◌};
 ghost use Rattle.zl_rights.specs.World.{World};
 ghost use Rattle.zl_rights.specs.Settle.{Settles};
+ghost use Rattle.zl_rights.specs.Wakes.{wakes};
 
 /// Every world settles.
 pub fn every_world_settles()
@@ -12,4 +13,9 @@ pub fn every_world_settles()
 /// What settling leaves of a world is one world.
 pub fn settling_is_one()
     ensures { (w u v : World) → Settles w u → Settles w v → u ≡ v }
+{}
+
+/// One round of waking suffices: packets and wakes change no signal, so a second round changes nothing.
+pub fn one_round_of_waking_suffices()
+    ensures { (w : World) → wakes (wakes w) ≡ wakes w }
 {}

@@ -1,0 +1,66 @@
+-- The table of a process: its handles by their values, and what operations make of it.
+use Rattle.std.specs.Prelude.{◌≡◌, ℕ, ◌<◌, ◌≤◌, Bool, ◌||◌, ◌==◌, List, length, Option, Some, None, IfSome, Result, Ok, Err, IsTrue, if◌then◌else◌}
+use Rattle.std.specs.List.{list_any}
+use Rattle.std.specs.Ordering.{nat_cmp}
+use Rattle.std.specs.FinMap.Entries.{is_sorted}
+use Rattle.zl_rights.specs.declared.kind.Kind.{Kind}
+use Rattle.zl_rights.specs.declared.entry.Entry.{Entry}
+use Rattle.zl_rights.specs.declared.status.Status.{Status}
+use Rattle.zl_rights.specs.declared.status.Status.TheVariants as status
+use Rattle.zl_rights.specs.Numbers.{bits, within, same_kind}
+use Rattle.zl_rights.specs.Map.{Map, get, put, without, has_key}
+use Rattle.zl_table.specs.declared.table.InsertFault.{InsertFault}
+use Rattle.zl_table.specs.declared.table.InsertFault.TheVariants as fault
+
+-- a table: its handles by their values, and the value removed last, until the next insertion
+pub record Handles : Type 0 where
+  pub entries : Map Entry
+  pub last : Option ℕ
+
+-- what is true of every table
+pub record IsTable (t : Handles) : Type 0 where
+  pub sorted : IsTrue (is_sorted nat_cmp t.entries)
+  pub few : length t.entries ≤ 1024
+  pub values : (value : ℕ) → IsTrue (has_key t.entries value) → (0 < value) × (value ≤ 65535)
+
+-- the entry goes into the table at an unused value: the value removed last, if there is one
+pub record Inserts (old : Handles) (entry : Entry) (value : ℕ) (new : Handles) : Type 0 where
+  pub unused : get old.entries value ≡ None
+  pub above : 0 < value
+  pub below : value ≤ 65535
+  pub again : IfSome old.last (λ last. value ≡ last)
+  pub entries : new.entries ≡ put old.entries value entry
+  pub last : new.last ≡ None
+
+-- the entry leaves the table, and its value is the one removed last
+pub record Removes (old : Handles) (value : ℕ) (entry : Entry) (new : Handles) : Type 0 where
+  pub was : get old.entries value ≡ Some entry
+  pub entries : new.entries ≡ without old.entries value
+  pub last : new.last ≡ Some value
+
+-- the entry with the greatest value leaves the table
+pub record Drains (old : Handles) (entry : Entry) (new : Handles) : Type 0 where
+  pub value : ℕ
+  pub greatest : (other : ℕ) → value < other → get old.entries other ≡ None
+  pub removes : Removes old value entry new
+
+-- whether a handle of this kind is asked for; no kinds stand for any
+abbrev pub takes : List Kind → Kind → Bool
+takes kinds kind = length kinds == 0 || list_any (same_kind kind) kinds
+
+-- what the entry, if there is one, answers where one of the kinds and the needed rights are asked for
+abbrev pub granted : Option Entry → List Kind → ℕ → Result Entry Status
+granted None kinds needed = Err status.BadHandle
+granted (Some e) kinds needed =
+    if takes kinds e.kind
+    then (if within needed (bits e.rights) then Ok e else Err status.AccessDenied)
+    else Err status.WrongType
+
+-- what a value is looked up as, where one of the kinds and the needed rights are asked for
+abbrev pub looked_up : Map Entry → ℕ → List Kind → ℕ → Result Entry Status
+looked_up m value kinds needed = granted (get m value) kinds needed
+
+-- the entry that a refused insertion hands back
+abbrev pub refused_entry : InsertFault → Entry
+refused_entry (fault.Full e) = e
+refused_entry (fault.NoMemory e) = e

@@ -1,0 +1,108 @@
+use crate::{InsertFault, Table};
+use std::test::Fail;
+use zl_rights::{Entry, Kind, Rights, Status};
+
+fn event(koid: u64) -> Entry {
+    Entry {
+        koid,
+        kind: Kind::Event,
+        rights: Rights::READ,
+    }
+}
+
+#[test]
+fn values_come_back_last_freed_first(rt: HostRuntime) -> Result<(), Fail> {
+    let mut table = Table::new(rt.alloc());
+    for value in [1, 2, 3] {
+        assert_eq!(rt; table.insert(event(10))?, value);
+    }
+    assert_eq!(rt; table.remove(1), Some(event(10)));
+    assert_eq!(rt; table.remove(2), Some(event(10)));
+    for value in [2, 1, 4] {
+        assert_eq!(rt; table.insert(event(10))?, value);
+    }
+    Ok(())
+}
+
+#[test]
+fn a_full_table_hands_the_entry_back(rt: HostRuntime) -> Result<(), Fail> {
+    let mut table = Table::new(rt.alloc());
+    for koid in 0..1024 {
+        table.insert(event(koid))?;
+    }
+    assert_eq!(rt; table.len(), Table::CAPACITY);
+    let refused = table.insert(event(2000));
+    assert!(rt; matches!(refused, Err(InsertFault::Full(Entry { koid: 2000, .. }))));
+    Ok(())
+}
+
+#[test]
+fn a_value_that_is_not_live_is_a_bad_handle(rt: HostRuntime) -> Result<(), Fail> {
+    let mut table = Table::new(rt.alloc());
+    table.insert(event(10))?;
+    for value in [0, 65_536, 77, u32::MAX] {
+        assert_eq!(rt; table.get(value), None, "at {value}");
+        let looked_up = table.lookup(value, &[], Rights::READ);
+        assert_eq!(rt; looked_up, Err(Status::BadHandle), "at {value}");
+    }
+    Ok(())
+}
+
+#[test]
+fn a_lookup_tests_the_kind_before_the_rights(rt: HostRuntime) -> Result<(), Fail> {
+    let mut table = Table::new(rt.alloc());
+    let value = table.insert(event(10))?;
+    let both = table.lookup(value, &[Kind::Port, Kind::Job], Rights::WRITE);
+    assert_eq!(rt; both, Err(Status::WrongType));
+    let right = table.lookup(value, &[Kind::Port, Kind::Event], Rights::WRITE);
+    assert_eq!(rt; right, Err(Status::AccessDenied));
+    assert_eq!(rt;
+        table.lookup(value, &[Kind::Event], Rights::READ),
+        Ok(event(10))
+    );
+    assert_eq!(rt; table.lookup(value, &[], Rights::READ), Ok(event(10)));
+    Ok(())
+}
+
+#[test]
+fn a_rewritten_handle_keeps_its_value(rt: HostRuntime) -> Result<(), Fail> {
+    let mut table = Table::new(rt.alloc());
+    let value = table.insert(event(10))?;
+    assert!(rt; table.rewrite(value, Rights::WAIT));
+    assert!(rt; !table.rewrite(7, Rights::WAIT));
+    let entry = Entry {
+        rights: Rights::WAIT,
+        ..event(10)
+    };
+    assert_eq!(rt; table.get(value), Some(entry));
+    Ok(())
+}
+
+#[test]
+fn a_drain_goes_from_the_greatest_value_down(rt: HostRuntime) -> Result<(), Fail> {
+    let mut table = Table::new(rt.alloc());
+    for koid in [10, 11] {
+        table.insert(event(koid))?;
+    }
+    assert_eq!(rt; table.drain(), Some(event(11)));
+    assert_eq!(rt; table.drain(), Some(event(10)));
+    assert_eq!(rt; table.drain(), None);
+    assert!(rt; table.is_empty());
+    Ok(())
+}
+
+// Under `rt try --test --fail-alloc N` the Nth allocation is refused; else each insertion succeeds.
+#[test]
+fn an_insertion_without_memory_leaves_the_table(rt: HostRuntime) {
+    let mut table = Table::new(rt.alloc());
+    for koid in 0..20 {
+        let before = table.len();
+        let result = table.insert(event(koid));
+        if let Err(InsertFault::NoMemory(entry)) = result {
+            assert_eq!(rt; entry, event(koid));
+            assert_eq!(rt; table.len(), before);
+            assert!(rt; table.insert(entry).is_ok());
+        }
+        assert_eq!(rt; table.len(), before + 1);
+    }
+}

@@ -1,1 +1,3 @@
 pub mod Program
+pub mod Cpu
+pub mod World

@@ -1,0 +1,101 @@
+-- What the definitions see of the world of this crate.
+use Rattle.std.specs.Prelude.{ℕ, ◌≡◌, ◌<◌, Bool, false, length, slice_get, List, [], map, Option, Some, None, if◌then◌else◌}
+use Rattle.std.specs.Option.{option_map}
+use Rattle.zl_rights.specs.Map.{get}
+use Rattle.zl_rights.specs.World.{World, Process as ProcessValue, State as StateValue, Created, Ready, Blocked, Ended, Gone, Object as ObjectValue, Body as BodyValue, JobBody, ProcessBody, EventBody}
+use Rattle.zl_rights.specs.Signals.{is_ready, is_process}
+use Rattle.zl_code.specs.declared.history.CallName.{CallName}
+use Rattle.zl_code.specs.declared.history.ProcState.{ProcState}
+use Rattle.zl_code.specs.declared.history.ProcState.TheVariants as seen
+use Rattle.zl_code.specs.Image.{Library}
+use Rattle.zl_code.specs.Steps.{Next, AtCall, Moves, IsStuck, next_for}
+use Rattle.zl_calls.specs.declared.objects.Body.{Body}
+use Rattle.zl_calls.specs.declared.objects.Body.TheVariants as body
+use Rattle.zl_calls.specs.declared.objects.Object.{Object}
+use Rattle.zl_calls.specs.declared.process.State.{State}
+use Rattle.zl_calls.specs.declared.process.State.TheVariants as state
+use Rattle.zl_calls.specs.declared.process.Process.{Process}
+
+-- the programs of a lab, and its world
+pub record Lab : Type 0 where
+  pub programs : Library
+  pub world : World
+
+-- ---- views
+
+abbrev pub state_value : State → StateValue
+state_value state.Ready = Ready
+state_value (state.Ended code) = Ended code
+
+abbrev pub process_value : Process → ProcessValue
+process_value p = record {
+  program = p.program;
+  cpu = p.cpu;
+  state = state_value p.state;
+  handles = p.table.entries;
+  last = p.table.last;
+}
+
+abbrev pub body_value : Body → BodyValue
+body_value body.RootJob = JobBody 0 1 [] false
+body_value (body.Process job lives) = ProcessBody job
+body_value body.Event = EventBody
+
+abbrev pub object_value : Object → ObjectValue
+object_value o = record { body = body_value o.body; raised = o.raised.0 }
+
+abbrev pub process_entry : Process → ℕ × ProcessValue
+process_entry p = (p.pid, process_value p)
+
+abbrev pub object_entry : Object → ℕ × ObjectValue
+object_entry o = (o.koid, object_value o)
+
+-- the world of these processes and objects; nothing blocks or waits yet
+abbrev pub world_value : List Process → List Object → ℕ → World
+world_value processes objects next_koid = record {
+  processes = map process_entry processes;
+  objects = map object_entry objects;
+  waits = [];
+  blocked = [];
+  next_koid = next_koid;
+  waits_made = 0;
+}
+
+-- ---- what is seen of a process
+
+abbrev pub seen_in : StateValue → ProcState
+seen_in Created = seen.Created
+seen_in Ready = seen.Ready
+seen_in (Blocked awaited destinations) = seen.Blocked
+seen_in (Ended code) = seen.Ended code
+seen_in Gone = seen.Gone
+
+abbrev pub seen_of : Option ProcessValue → ProcState
+seen_of None = seen.Gone
+seen_of (Some p) = seen_in p.state
+
+-- what the world has at the pid is the process at this place
+pub record IsPlaceOf (processes : List Process) (pid place : ℕ) : Type 0 where
+  pub within : place < length processes
+  pub holds : get (map process_entry processes) pid ≡ option_map process_value (slice_get processes place)
+
+-- what a trace tells of the process; a number that was never a process is gone
+abbrev pub state_in : Lab → ℕ → ProcState
+state_in l pid = seen_of (get l.world.processes pid)
+
+abbrev pub call_in : Next → Option CallName
+call_in (AtCall call site) = Some call
+call_in (Moves to) = None
+call_in IsStuck = None
+
+abbrev pub call_of : Library → Option ProcessValue → Option CallName
+call_of lib None = None
+call_of lib (Some p) = if is_ready p.state then call_in (next_for lib p) else None
+
+-- the call at which the process is, if it is ready and at one
+abbrev pub call_for : Lab → ℕ → Option CallName
+call_for l pid = call_of l.programs (get l.world.processes pid)
+
+-- the process is there and ready
+abbrev pub is_ready_in : Lab → ℕ → Bool
+is_ready_in l pid = is_process l.world is_ready pid

@@ -1,0 +1,239 @@
+//! The system calls, each over its process and the objects, with the answer as the result.
+
+ghost use Rattle.std.specs.Prelude.{◌≡◌, ◌<◌, ◌^◌};
+ghost use Rattle.zl_code.specs.Effects.{signed_word};
+
+use crate::objects::{Body, Objects};
+use crate::process::Process;
+use bitflags::Flags;
+use std::alloc::Global;
+use zl_code::Register;
+use zl_rights::{Entry, HValue, Kind, Rights, Signals, Status, narrow};
+use zl_table::{InsertFault, Table};
+
+/// Closes the handle; 0 is answered OK. The handle's register becomes 0 on every answer.
+///
+/// `BadHandle` unless the value is live or 0.
+/// Source: the page "zx_handle_close" of the Fuchsia documentation.
+pub fn close(
+    process: &mut Process,
+    objects: &mut Objects,
+    status: Register,
+    handle: Register,
+) -> Status
+    requires { process.old.cpu.counter < 2 ^ 32 }
+    ensures { process.new.state ≡ process.old.state }
+{
+    let value = process.cpu.register(handle);
+    let answer = close_value(&mut process.table, objects, value);
+    process.cpu.set(handle, 0);
+    process.answer(status, answer);
+    answer
+}
+
+fn close_value(table: &mut Table, objects: &mut Objects, value: u64) -> Status {
+    if value == 0 {
+        return Status::Ok;
+    }
+    let Ok(value) = HValue::try_from(value) else {
+        return Status::BadHandle;
+    };
+    let Some(entry) = table.remove(value) else {
+        return Status::BadHandle;
+    };
+    objects.release(entry.koid);
+    Status::Ok
+}
+
+/// Makes a second handle to the object, with the rights asked for.
+///
+/// `BadHandle`, `AccessDenied` without the right to duplicate, `InvalidArgs` where `asked` is
+/// neither `Rights::SAME_RIGHTS` alone nor a subset of the handle's rights, `NoResources` where the
+/// table is full or the object has too many handles, `NoMemory`.
+/// Source: the page "zx_handle_duplicate" of the Fuchsia documentation.
+pub fn dup(
+    process: &mut Process,
+    objects: &mut Objects,
+    status: Register,
+    handle: Register,
+    copy: Register,
+    asked: u32,
+) -> Status
+    requires { process.old.cpu.counter < 2 ^ 32 }
+    ensures { process.new.state ≡ process.old.state }
+{
+    let value = process.cpu.register(handle);
+    match dup_value(&mut process.table, objects, value, asked) {
+        Ok(made) => process.give(status, copy, made),
+        Err(refused) => process.refuse(status, copy, refused),
+    }
+}
+
+fn dup_value(
+    table: &mut Table,
+    objects: &mut Objects,
+    value: u64,
+    asked: u32,
+) -> Result<HValue, Status> {
+    let entry = look_up(table, value, Rights::DUPLICATE)?;
+    let rights = narrow(entry.rights, asked)?;
+    if table.len() >= Table::CAPACITY || !objects.may_hold(entry.koid) {
+        return Err(Status::NoResources);
+    }
+    let made = insert(table, Entry { rights, ..entry })?;
+    objects.hold(entry.koid);
+    Ok(made)
+}
+
+/// Makes an event, with a handle that has the default rights.
+///
+/// `NoResources` where the table is full or no koid is left, `NoMemory`.
+/// Source: the page "zx_event_create" of the Fuchsia documentation.
+pub fn event_create(
+    process: &mut Process,
+    objects: &mut Objects,
+    status: Register,
+    event: Register,
+) -> Status
+    requires { process.old.cpu.counter < 2 ^ 32 }
+    ensures { process.new.state ≡ process.old.state }
+{
+    match create_event(&mut process.table, objects) {
+        Ok(made) => process.give(status, event, made),
+        Err(refused) => process.refuse(status, event, refused),
+    }
+}
+
+fn create_event(table: &mut Table, objects: &mut Objects) -> Result<HValue, Status> {
+    if table.len() >= Table::CAPACITY || !objects.has_koid() {
+        return Err(Status::NoResources);
+    }
+    let Ok(koid) = objects.create(Body::Event) else {
+        return Err(Status::NoMemory);
+    };
+    let entry = Entry {
+        koid,
+        kind: Kind::Event,
+        rights: Kind::Event.default_rights(),
+    };
+    match insert(table, entry) {
+        Ok(made) => {
+            objects.hold(koid);
+            Ok(made)
+        }
+        Err(refused) => {
+            objects.take_back(koid);
+            Err(refused)
+        }
+    }
+}
+
+/// Takes the signals `clear` from the object, and then gives it the signals `set`.
+///
+/// `BadHandle`, `AccessDenied` without the right to signal, `InvalidArgs` for a bit that calls may
+/// not change at an object of its kind.
+/// Source: the page "zx_object_signal" of the Fuchsia documentation.
+pub fn signal(
+    process: &mut Process,
+    objects: &mut Objects,
+    status: Register,
+    handle: Register,
+    clear: Register,
+    set: Register,
+) -> Status
+    requires { process.old.cpu.counter < 2 ^ 32 }
+    ensures { process.new.state ≡ process.old.state }
+{
+    let value = process.cpu.register(handle);
+    let clear = process.cpu.register(clear);
+    let set = process.cpu.register(set);
+    let answer = match signal_value(&process.table, objects, value, clear, set) {
+        Ok(()) => Status::Ok,
+        Err(refused) => refused,
+    };
+    process.answer(status, answer);
+    answer
+}
+
+fn signal_value(
+    table: &Table,
+    objects: &mut Objects,
+    value: u64,
+    clear: u64,
+    set: u64,
+) -> Result<(), Status> {
+    let entry = look_up(table, value, Rights::SIGNAL)?;
+    let settable = settable(entry.kind);
+    let (Some(clear), Some(set)) = (
+        signals_within(clear, settable),
+        signals_within(set, settable),
+    ) else {
+        return Err(Status::InvalidArgs);
+    };
+    objects.change(entry.koid, clear, set);
+    Ok(())
+}
+
+/// Ends the process; its code is the low 32 bits of the register as a signed number (own profile).
+///
+/// Source: the page "zx_process_exit" of the Fuchsia documentation.
+pub fn process_exit(
+    alloc: Global,
+    process: &mut Process,
+    objects: &mut Objects,
+    code: Register,
+) -> i32 {
+    let code = signed_word(process.cpu.register(code));
+    end(alloc, process, objects, code);
+    code
+}
+
+/// The process ends with the code; its handles close, and what isn't held any more is gone.
+pub fn end(alloc: Global, process: &mut Process, objects: &mut Objects, code: i32) {
+    let mut table = process.end(alloc, code);
+    while let Some(entry) = table.drain() {
+        objects.release(entry.koid);
+    }
+    objects.end(process.pid);
+}
+
+// The signals that calls may set and clear at an object of this kind.
+fn settable(kind: Kind) -> u32 {
+    match kind {
+        Kind::Event => 0xff00_0008,
+        _ => 0xff00_0000,
+    }
+}
+
+fn signals_within(bits: u64, settable: u32) -> Option<Signals> {
+    let bits = u32::try_from(bits).ok()?;
+    if bits & settable == bits {
+        Some(Signals::from_bits_retain(bits))
+    } else {
+        None
+    }
+}
+
+// The low 32 bits as a signed number.
+fn signed_word(value: u64) -> i32
+    ensures { result ≡ signed_word value }
+{
+    let low = (value & 0xffff_ffff) as u32;
+    low.cast_signed()
+}
+
+// The handle of any kind at the value, if it has the rights.
+fn look_up(table: &Table, value: u64, rights: Rights) -> Result<Entry, Status> {
+    match HValue::try_from(value) {
+        Ok(value) => table.lookup(value, &[], rights),
+        Err(_) => Err(Status::BadHandle),
+    }
+}
+
+fn insert(table: &mut Table, entry: Entry) -> Result<HValue, Status> {
+    match table.insert(entry) {
+        Ok(value) => Ok(value),
+        Err(InsertFault::Full(_)) => Err(Status::NoResources),
+        Err(InsertFault::NoMemory(_)) => Err(Status::NoMemory),
+    }
+}

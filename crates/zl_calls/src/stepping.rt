@@ -1,0 +1,103 @@
+//! Which process stands where, what stands next for it, and what it then does.
+
+ghost use Rattle.std.specs.Prelude.{◌≡◌, ◌<◌, ◌^◌, None, map, MatchOption, OnSome};
+ghost use Rattle.std.specs.Option.{option_map};
+ghost use Rattle.zl_rights.specs.Map.{get};
+ghost use Rattle.zl_code.specs.Request.{name_of};
+ghost use Rattle.zl_code.specs.Steps.{next_for};
+ghost use Rattle.zl_calls.specs.World.{process_entry, process_value, call_in, IsPlaceOf};
+
+use crate::calls;
+use crate::cpu::Cpu;
+use crate::objects::Objects;
+use crate::process::Process;
+use crate::program::Library;
+use std::alloc::Global;
+use zl_code::{CallInstr, CallName, LocalInstr, Outcome};
+use zl_rights::Pid;
+
+/// Where the process stands in the list.
+pub fn place_of(processes: &[Process], pid: Pid) -> Option<usize>
+    ensures { MatchOption result (get (map process_entry processes.now) pid ≡ None) (IsPlaceOf processes.now pid) }
+{
+    for (place, process) in processes.iter().enumerate() {
+        if process.pid == pid {
+            return Some(place);
+        }
+    }
+    None
+}
+
+/// The call that stands next, if one does.
+pub fn next_call(library: &Library, process: &Process) -> Option<CallInstr>
+    ensures named { option_map name_of result ≡ call_in (next_for library.now (process_value process.now)) }
+    ensures within { OnSome result (process.now.cpu.counter < 4096) }
+{
+    let program = library.get(process.program)?;
+    program.image().call_at(process.cpu.counter())
+}
+
+/// The local instruction that stands next, if one does.
+pub fn next_local(library: &Library, process: &Process) -> Option<LocalInstr>
+    ensures within { OnSome result (process.now.cpu.counter < 4096) }
+{
+    let program = library.get(process.program)?;
+    program.image().local_at(process.cpu.counter())
+}
+
+/// The name of the call.
+pub fn name_of(call: CallInstr) -> CallName
+    ensures { result ≡ name_of call }
+{
+    match call {
+        CallInstr::Close { .. } => CallName::Close,
+        CallInstr::Dup { .. } => CallName::Dup,
+        CallInstr::EventCreate { .. } => CallName::EventCreate,
+        CallInstr::Signal { .. } => CallName::Signal,
+        CallInstr::ProcessExit { .. } => CallName::ProcessExit,
+    }
+}
+
+/// Does the call.
+pub fn act(alloc: Global, process: &mut Process, objects: &mut Objects, call: CallInstr) -> Outcome
+    requires { process.old.cpu.counter < 2 ^ 32 }
+{
+    match call {
+        CallInstr::Close { status, handle } => Outcome::Answered(calls::close(
+            process, objects, status, handle,
+        )),
+        CallInstr::Dup {
+            status,
+            handle,
+            copy,
+            rights,
+        } => Outcome::Answered(calls::dup(process, objects, status, handle, copy, rights)),
+        CallInstr::EventCreate { status, event } => {
+            Outcome::Answered(calls::event_create(process, objects, status, event))
+        }
+        CallInstr::Signal {
+            status,
+            handle,
+            clear,
+            set,
+        } => Outcome::Answered(calls::signal(process, objects, status, handle, clear, set)),
+        CallInstr::ProcessExit { code } => Outcome::Ended(calls::process_exit(
+            alloc, process, objects, code,
+        )),
+    }
+}
+
+/// Does the local instruction.
+pub fn run(cpu: &mut Cpu, local: LocalInstr)
+    requires { cpu.old.counter < 2 ^ 32 }
+{
+    match local {
+        LocalInstr::Const {
+            destination,
+            number,
+        } => {
+            cpu.set(destination, u64::from(number));
+            cpu.advance();
+        }
+    }
+}

@@ -1,0 +1,199 @@
+ghost use Rattle.std.specs.Prelude.{◌≡◌, IsSome, IsTrue, None, slice_get, map};
+ghost use Rattle.zl_calls.specs.World.{call_for, state_in, is_ready_in};
+
+use crate::calls::end;
+use crate::cpu::Cpu;
+use crate::objects::{Body, Objects};
+use crate::process::{Process, State};
+use crate::program::Library;
+use crate::stepping::{act, name_of, next_call, next_local, place_of, run};
+use std::alloc::{AllocError, Global};
+use std::marker::Model;
+use zl_code::{Boot, BootCause, BootFault, CallName, Outcome, ProcState, Statement};
+use zl_rights::{Koid, Pid};
+use zl_table::Table;
+
+/// The code with which a stuck process ends (own profile).
+const STUCK: i32 = -1028;
+
+// The most processes and koids, the root job's among them, that a boot makes (own profile).
+const MOST_PROCESSES: usize = 64;
+
+const MOST_KOIDS: Koid = 1024;
+
+/// The world of a lab: its programs, every process ever made, and the objects.
+#[derive(Drop)]
+pub struct World {
+    alloc: Global,
+    library: Library,
+    processes: Vec<Process>,
+    objects: Objects,
+}
+
+impl Model for World {
+    ghost use Rattle.zl_calls.specs.World.{Lab};
+
+    ghost Value = { Lab };
+
+    ghost use Rattle.zl_calls.specs.World.{world_value};
+
+    ghost view = { λ w. record { programs = w.library; world = world_value w.processes.items w.objects.list.items w.objects.next_koid } };
+}
+
+/// What a process did that wasn't at a call.
+#[derive(Clone, Copy, PartialEq, Eq, Debug)]
+pub enum Local {
+    /// One local instruction.
+    Ran,
+    /// Nothing, as its next instruction can't be done; it ended.
+    Stuck,
+}
+
+impl World {
+    /// The world that the statements of a boot make, in their order.
+    ///
+    /// The fault names the first statement that can't be done: `Unknown` where it names no job or no
+    /// program, `Limit` for the 65th process or where no koid up to 1,024 is left. A limit of the
+    /// trace above `Boot::MOST_ITEMS` is `Limit` of a statement one past the last. `NoMemory` may
+    /// come at any statement.
+    pub fn boot(alloc: Global, library: Library, boot: &Boot) -> Result<World, BootFault> {
+        let Ok(mut world) = World::empty(alloc, library) else {
+            return Err(fault_at(0, BootCause::NoMemory));
+        };
+        for (number, statement) in boot.statements.iter().enumerate() {
+            if let Err(cause) = world.make(*statement) {
+                return Err(fault_at(number, cause));
+            }
+        }
+        if boot.limit > Boot::MOST_ITEMS {
+            return Err(fault_at(boot.statements.len(), BootCause::Limit));
+        }
+        world.objects.remove_unheld(Objects::ROOT_JOB);
+        Ok(world)
+    }
+
+    // The root job alone.
+    fn empty(alloc: Global, library: Library) -> Result<World, AllocError> {
+        let objects = Objects::new(alloc)?;
+        Ok(World {
+            alloc,
+            library,
+            processes: Vec::new(alloc),
+            objects,
+        })
+    }
+
+    fn make(&mut self, statement: Statement) -> Result<(), BootCause> {
+        match statement {
+            Statement::Process { job, program, word } => self.make_process(job, program, word),
+        }
+    }
+
+    fn make_process(&mut self, job: Koid, program: u64, word: u64) -> Result<(), BootCause> {
+        let Some(listed) = self.library.get(program as usize) else {
+            return Err(BootCause::Unknown);
+        };
+        if !self.objects.is_job(job) {
+            return Err(BootCause::Unknown);
+        }
+        if self.processes.len() >= MOST_PROCESSES || self.objects.next_koid > MOST_KOIDS {
+            return Err(BootCause::Limit);
+        }
+        let memory = listed.image().memory();
+        let Ok(cpu) = Cpu::new(self.alloc, memory, word) else {
+            return Err(BootCause::NoMemory);
+        };
+        let Ok(pid) = self.objects.create(Body::Process { job, lives: true }) else {
+            return Err(BootCause::NoMemory);
+        };
+        let process = Process {
+            pid,
+            program: program as usize,
+            state: State::Ready,
+            cpu,
+            table: Table::new(self.alloc),
+        };
+        match self.processes.push(process) {
+            Ok(()) => Ok(()),
+            Err(_) => Err(BootCause::NoMemory),
+        }
+    }
+
+    /// The koid of the n-th process ever made, from 0.
+    pub fn process_at(&self, n: usize) -> Option<Pid>
+        ensures { result ≡ slice_get (map (λ p. p.0) self.now.world.processes) n }
+    {
+        Some(self.processes.get(n)?.pid)
+    }
+
+    /// What the process is in; a number that was never a process is gone.
+    pub fn state_of(&self, pid: Pid) -> ProcState
+        ensures { result ≡ state_in self.now pid }
+    {
+        match place_of(&self.processes, pid) {
+            Some(place) => self.processes[place].state(),
+            None => ProcState::Gone,
+        }
+    }
+
+    /// The call at which the process is, if it is ready and at one.
+    pub fn call_at(&self, pid: Pid) -> Option<CallName>
+        ensures { result ≡ call_for self.now pid }
+    {
+        let place = place_of(&self.processes, pid)?;
+        let process = &self.processes[place];
+        if !process.is_ready() {
+            return None;
+        }
+        let call = next_call(&self.library, process)?;
+        Some(name_of(call))
+    }
+
+    /// Does the system call at which the process is, with all that follows from it.
+    ///
+    /// The process has to be ready and at a call. It takes no memory at `close`, `signal` and
+    /// `process_exit`; a call that was refused memory is answered `NoMemory`.
+    pub fn perform(&mut self, pid: Pid) -> Outcome
+        requires { IsSome (call_for self.old pid) }
+    {
+        let Some(place) = place_of(&self.processes, pid) else {
+            unreachable!()
+        };
+        let Some(call) = next_call(&self.library, &self.processes[place]) else {
+            unreachable!()
+        };
+        let process = &mut self.processes[place];
+        act(self.alloc, process, &mut self.objects, call)
+    }
+
+    /// Does the local instruction at which the process is. Where it can't be done, the process ends
+    /// with -1028.
+    ///
+    /// The process has to be ready and not at a call. It takes no memory.
+    pub fn local(&mut self, pid: Pid) -> Local
+        requires ready { IsTrue (is_ready_in self.old pid) }
+        requires no_call { call_for self.old pid ≡ None }
+    {
+        let Some(place) = place_of(&self.processes, pid) else {
+            unreachable!()
+        };
+        let next = next_local(&self.library, &self.processes[place]);
+        let process = &mut self.processes[place];
+        match next {
+            Some(local) => {
+                run(&mut process.cpu, local);
+                Local::Ran
+            }
+            None => {
+                end(self.alloc, process, &mut self.objects, STUCK);
+                Local::Stuck
+            }
+        }
+    }
+}
+
+fn fault_at(statement: usize, cause: BootCause) -> BootFault
+    ensures { result ≡ record { statement = statement; cause = cause } }
+{
+    BootFault { statement, cause }
+}

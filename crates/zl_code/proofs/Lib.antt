@@ -1,0 +1,6 @@
+pub mod Running
+pub mod RowsWords
+pub mod Stored
+pub mod RowsFaults
+pub mod RowsCalls
+pub mod RowsRuns

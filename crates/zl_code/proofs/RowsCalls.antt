@@ -1,0 +1,453 @@
+-- Each cause of each call, by computation in small worlds.
+use Rattle.std.proofs.Common.{◌≡◌, ℕ, ◌+◌, ◌-◌, ◌^◌, ◌==◌, IsTrue, [], ◌∷◌, refl, Some, None}
+use Rattle.std.specs.Prelude.{true, false, pos, negsuc}
+use Rattle.std.proofs.lemmas.Bool.{and_parts, eqb-true}
+use Rattle.zl_rights.specs.declared.status.Status.TheVariants as status
+use Rattle.zl_rights.specs.declared.policy.Action.{Action}
+use Rattle.zl_rights.specs.declared.policy.Action.TheVariants as action
+use Rattle.zl_rights.specs.declared.policy.Condition.{Condition}
+use Rattle.zl_rights.specs.declared.policy.Condition.TheVariants as condition
+use Rattle.zl_rights.specs.Numbers.{DUPLICATE, SIGNAL, SAME_RIGHTS, READABLE, SIGNALED, TERMINATED, condition_number}
+use Rattle.zl_rights.specs.Map.{has_key}
+use Rattle.zl_rights.specs.World.{World, Ended}
+use Rattle.zl_rights.specs.Signals.{active}
+use Rattle.zl_code.specs.declared.instr.Instr.TheVariants as instr
+use Rattle.zl_code.specs.declared.instr.CallInstr.{CallInstr}
+use Rattle.zl_code.specs.declared.instr.CallInstr.TheVariants as call
+use Rattle.zl_code.specs.declared.history.CallName.TheVariants as name
+use Rattle.zl_code.specs.declared.history.Outcome.{Outcome}
+use Rattle.zl_code.specs.declared.history.Outcome.TheVariants as outcome
+use Rattle.zl_code.specs.declared.history.TraceItem.TheVariants as item
+use Rattle.zl_code.specs.Request.{Request, close, dup, event_create, signal, process_exit}
+use Rattle.zl_code.specs.Tests.{table_of}
+use Rattle.zl_code.specs.Refusals.{refusal}
+use Rattle.zl_code.specs.Effects.{may_choose, effect}
+use Rattle.zl_code.specs.Calls.{Choice, Refused, WantsMemory, Values, ok_outcome}
+use Rattle.zl_code.proofs.Running.{Acted, step_by, computing}
+use Rattle.zl_code.proofs.RowsWords.{world_of, process_of, event_with, job_with, FIRST_RIGHTS, times, program_of, told, after, state_of, last_of}
+
+-- ---- the words of the rows
+
+-- process 2 of the world is refused so
+abbrev Refuses : World → Request → Outcome → Type 0
+Refuses w request answer = refusal [] w 2 request ≡ Some answer
+
+-- process 2 of the world isn't refused
+abbrev Passes : World → Request → Type 0
+Passes w request = refusal [] w 2 request ≡ None
+
+-- process 2 does the call, with this choice
+abbrev turn : CallInstr → World → Choice → Acted
+turn i w choice = step_by (program_of (instr.Call i ∷ [])) w 2 choice
+
+-- process 2 has no handle; register 1 is 5, and 9 stands where answers go
+abbrev bare : World
+bare = world_of [] (process_of (9 ∷ 5 ∷ 9 ∷ []) [] None)
+
+-- the same under a policy
+abbrev bare_under : Condition → Action → World
+bare_under = λ c a. world_of ((condition_number c, a) ∷ []) (process_of (9 ∷ 5 ∷ 9 ∷ []) [] None)
+
+-- process 2 has a handle with these rights to event 3 at the value 7, which stands in register 1; 9 stands where answers go
+abbrev with_rights : ℕ → World
+with_rights = λ rights. world_of [] (process_of (9 ∷ 7 ∷ 9 ∷ []) ((7, event_with rights) ∷ []) None)
+
+-- process 2 has so many handles to event 3, with all rights of an event
+abbrev with_many : ℕ → World
+with_many = λ n. world_of [] (process_of (9 ∷ 7 ∷ 9 ∷ []) (times n (event_with FIRST_RIGHTS)) None)
+
+-- ---- close
+
+-- The value 5 isn't live.
+close_dead : Refuses bare (close 5) (outcome.Answered status.BadHandle)
+unfolding computing
+close_dead = refl
+
+-- The status goes to its register, and the closed register becomes 0 all the same.
+close_dead_told : told (turn (call.Close 0 1) bare Refused)
+    ≡ Some (item.Call 2 name.Close (outcome.Answered status.BadHandle), 11 ∷ 0 ∷ 9 ∷ 0 ∷ 0 ∷ 0 ∷ [])
+unfolding computing
+close_dead_told = refl
+
+-- A value that isn't live isn't the value removed last.
+close_dead_last : last_of (after bare (turn (call.Close 0 1) bare Refused)) 2 ≡ None
+unfolding computing
+close_dead_last = refl
+
+-- 0 is no handle, and closing it is no fault.
+close_zero : Passes bare (close 0)
+unfolding computing
+close_zero = refl
+
+-- Closing 0 is answered OK.
+close_zero_told : told (turn (call.Close 0 3) bare (Values []))
+    ≡ Some (item.Call 2 name.Close (outcome.Answered status.Ok), 0 ∷ 5 ∷ 9 ∷ 0 ∷ 0 ∷ 0 ∷ [])
+unfolding computing
+close_zero_told = refl
+
+-- Where the policy kills for a bad handle, the process ends with -1026.
+close_kill : Refuses (bare_under condition.BadHandle action.Kill) (close 5) (outcome.Ended (negsuc 1025))
+unfolding computing
+close_kill = refl
+
+-- It has ended then.
+close_kill_state : state_of (after bare (turn (call.Close 0 1) (bare_under condition.BadHandle action.Kill) Refused)) 2 ≡ Some (Ended (negsuc 1025))
+unfolding computing
+close_kill_state = refl
+
+-- A policy that denies changes nothing at a bad handle.
+close_deny : Refuses (bare_under condition.BadHandle action.Deny) (close 5) (outcome.Answered status.BadHandle)
+unfolding computing
+close_deny = refl
+
+-- Closing 0 is no bad handle under such a policy either.
+close_zero_kill : Passes (bare_under condition.BadHandle action.Kill) (close 0)
+unfolding computing
+close_zero_kill = refl
+
+-- A handle without any right may be closed.
+close_without_rights : Passes (with_rights 0) (close 7)
+unfolding computing
+close_without_rights = refl
+
+-- Closing a live handle is answered OK, and its register becomes 0.
+close_told : told (turn (call.Close 0 1) (with_rights 0) (Values []))
+    ≡ Some (item.Call 2 name.Close (outcome.Answered status.Ok), 0 ∷ 0 ∷ 9 ∷ 0 ∷ 0 ∷ 0 ∷ [])
+unfolding computing
+close_told = refl
+
+-- Where the status goes to the closed register, the status stands.
+close_same_register : told (turn (call.Close 1 1) bare Refused)
+    ≡ Some (item.Call 2 name.Close (outcome.Answered status.BadHandle), 9 ∷ 11 ∷ 9 ∷ 0 ∷ 0 ∷ 0 ∷ [])
+unfolding computing
+close_same_register = refl
+
+-- the world after the close of 7
+abbrev closed : World
+closed = after bare (turn (call.Close 0 1) (with_rights 0) (Values []))
+
+-- The closed value is the value removed last.
+closed_last : last_of closed 2 ≡ Some 7
+unfolding computing
+closed_last = refl
+
+-- No handle names event 3 any more, so it is gone.
+closed_event : has_key closed.objects 3 ≡ false
+unfolding computing
+closed_event = refl
+
+-- The next event may get the value 7.
+closed_again : may_choose closed closed 2 event_create (7 ∷ []) ≡ true
+unfolding computing
+closed_again = refl
+
+-- It may not get the value 8.
+closed_another : may_choose closed closed 2 event_create (8 ∷ []) ≡ false
+unfolding computing
+closed_another = refl
+
+-- It may get no value but 7.
+closed_only : (v : ℕ) → IsTrue (may_choose closed closed 2 event_create (v ∷ [])) → v ≡ 7
+unfolding computing
+closed_only v chosen = eqb-true v 7 (and_parts (v == 7) true chosen).0
+
+-- ---- dup
+
+-- The value 5 isn't live.
+dup_dead : Refuses bare (dup 5 SAME_RIGHTS) (outcome.Answered status.BadHandle)
+unfolding computing
+dup_dead = refl
+
+-- The status goes to its register, and the register of the copy becomes 0.
+dup_dead_told : told (turn (call.Dup 0 1 2 SAME_RIGHTS) bare Refused)
+    ≡ Some (item.Call 2 name.Dup (outcome.Answered status.BadHandle), 11 ∷ 5 ∷ 0 ∷ 0 ∷ 0 ∷ 0 ∷ [])
+unfolding computing
+dup_dead_told = refl
+
+-- 0 is no handle, and only close takes it.
+dup_zero : Refuses bare (dup 0 SAME_RIGHTS) (outcome.Answered status.BadHandle)
+unfolding computing
+dup_zero = refl
+
+-- Where the policy kills for a bad handle, the process ends with -1026.
+dup_kill : Refuses (bare_under condition.BadHandle action.Kill) (dup 5 SAME_RIGHTS) (outcome.Ended (negsuc 1025))
+unfolding computing
+dup_kill = refl
+
+-- The handle has no right to duplicate.
+dup_denied : Refuses (with_rights SIGNAL) (dup 7 SAME_RIGHTS) (outcome.Answered status.AccessDenied)
+unfolding computing
+dup_denied = refl
+
+-- The handle stays.
+dup_denied_told : told (turn (call.Dup 0 1 2 SAME_RIGHTS) (with_rights SIGNAL) Refused)
+    ≡ Some (item.Call 2 name.Dup (outcome.Answered status.AccessDenied), 30 ∷ 7 ∷ 0 ∷ 0 ∷ 0 ∷ 0 ∷ [])
+unfolding computing
+dup_denied_told = refl
+
+-- A copy can't have a right that the handle hasn't.
+dup_more : Refuses (with_rights DUPLICATE) (dup 7 SIGNAL) (outcome.Answered status.InvalidArgs)
+unfolding computing
+dup_more = refl
+
+-- The mark for the same rights stands alone.
+dup_same_and_more : Refuses (with_rights FIRST_RIGHTS) (dup 7 0x8000_0001) (outcome.Answered status.InvalidArgs)
+unfolding computing
+dup_same_and_more = refl
+
+-- A copy may have a part of the rights.
+dup_part : Passes (with_rights FIRST_RIGHTS) (dup 7 SIGNAL)
+unfolding computing
+dup_part = refl
+
+-- A copy may have no right.
+dup_none : Passes (with_rights FIRST_RIGHTS) (dup 7 0)
+unfolding computing
+dup_none = refl
+
+-- The table has 1,024 handles.
+dup_full : Refuses (with_many 1024) (dup 7 SAME_RIGHTS) (outcome.Answered status.NoResources)
+unfolding computing
+dup_full = refl
+
+-- There is room for one more beside 1,023 handles.
+dup_almost_full : Passes (with_many 1023) (dup 7 SAME_RIGHTS)
+unfolding computing
+dup_almost_full = refl
+
+-- The missing right comes before the wrong rights.
+dup_denied_first : Refuses (with_rights SIGNAL) (dup 7 DUPLICATE) (outcome.Answered status.AccessDenied)
+unfolding computing
+dup_denied_first = refl
+
+-- The wrong rights come before the full table.
+dup_rights_first : Refuses (with_many 1024) (dup 7 0x1_0000) (outcome.Answered status.InvalidArgs)
+unfolding computing
+dup_rights_first = refl
+
+-- The bad handle comes before the wrong rights and the full table.
+dup_bad_first : Refuses (with_many 1024) (dup 2000 0x1_0000) (outcome.Answered status.BadHandle)
+unfolding computing
+dup_bad_first = refl
+
+-- A copy gets a value that isn't used.
+dup_told : told (turn (call.Dup 0 1 2 SIGNAL) (with_rights FIRST_RIGHTS) (Values (65535 ∷ [])))
+    ≡ Some (item.Call 2 name.Dup (outcome.Answered status.Ok), 0 ∷ 7 ∷ 65535 ∷ 0 ∷ 0 ∷ 0 ∷ [])
+unfolding computing
+dup_told = refl
+
+-- The copy has the rights that were asked for, and the handle keeps its own.
+dup_table : table_of (after bare (turn (call.Dup 0 1 2 SIGNAL) (with_rights FIRST_RIGHTS) (Values (65535 ∷ [])))) 2
+    ≡ (7, event_with FIRST_RIGHTS) ∷ (65535, event_with SIGNAL) ∷ []
+unfolding computing
+dup_table = refl
+
+-- No copy gets a value that is used.
+dup_used : may_choose (with_rights FIRST_RIGHTS) (with_rights FIRST_RIGHTS) 2 (dup 7 SIGNAL) (7 ∷ []) ≡ false
+unfolding computing
+dup_used = refl
+
+-- No copy gets the value 0.
+dup_value_0 : may_choose (with_rights FIRST_RIGHTS) (with_rights FIRST_RIGHTS) 2 (dup 7 SIGNAL) (0 ∷ []) ≡ false
+unfolding computing
+dup_value_0 = refl
+
+-- No copy gets a value above 65,535.
+dup_value_above : may_choose (with_rights FIRST_RIGHTS) (with_rights FIRST_RIGHTS) 2 (dup 7 SIGNAL) (65536 ∷ []) ≡ false
+unfolding computing
+dup_value_above = refl
+
+-- Where memory is wanted, no handle is made.
+dup_memory : told (turn (call.Dup 0 1 2 SIGNAL) (with_rights FIRST_RIGHTS) WantsMemory)
+    ≡ Some (item.Call 2 name.Dup (outcome.Answered status.NoMemory), 4 ∷ 7 ∷ 0 ∷ 0 ∷ 0 ∷ 0 ∷ [])
+unfolding computing
+dup_memory = refl
+
+-- ---- event_create
+
+-- Nothing stands against it.
+create : Passes bare event_create
+unfolding computing
+create = refl
+
+-- The policy denies new events.
+create_deny : Refuses (bare_under condition.NewEvent action.Deny) event_create (outcome.Answered status.AccessDenied)
+unfolding computing
+create_deny = refl
+
+-- The register of the event becomes 0.
+create_deny_told : told (turn (call.EventCreate 0 1) (bare_under condition.NewEvent action.Deny) Refused)
+    ≡ Some (item.Call 2 name.EventCreate (outcome.Answered status.AccessDenied), 30 ∷ 0 ∷ 9 ∷ 0 ∷ 0 ∷ 0 ∷ [])
+unfolding computing
+create_deny_told = refl
+
+-- The policy kills for new events.
+create_kill : Refuses (bare_under condition.NewEvent action.Kill) event_create (outcome.Ended (negsuc 1025))
+unfolding computing
+create_kill = refl
+
+-- It has ended then.
+create_kill_state : state_of (after bare (turn (call.EventCreate 0 1) (bare_under condition.NewEvent action.Kill) Refused)) 2 ≡ Some (Ended (negsuc 1025))
+unfolding computing
+create_kill_state = refl
+
+-- A policy that allows new events.
+create_allow : Passes (bare_under condition.NewEvent action.Allow) event_create
+unfolding computing
+create_allow = refl
+
+-- A policy for new channels says nothing of events.
+create_channel : Passes (bare_under condition.NewChannel action.Kill) event_create
+unfolding computing
+create_channel = refl
+
+-- The table has 1,024 handles.
+create_full : Refuses (with_many 1024) event_create (outcome.Answered status.NoResources)
+unfolding computing
+create_full = refl
+
+-- There is room for one more beside 1,023 handles.
+create_almost_full : Passes (with_many 1023) event_create
+unfolding computing
+create_almost_full = refl
+
+-- All koids below 2^62 are given.
+create_no_koid : Refuses (record bare { next_koid = 2 ^ 62 }) event_create (outcome.Answered status.NoResources)
+unfolding computing
+create_no_koid = refl
+
+-- The last koid below 2^62 is left.
+create_last_koid : Passes (record bare { next_koid = 2 ^ 62 - 1 }) event_create
+unfolding computing
+create_last_koid = refl
+
+-- The policy comes before the koids.
+create_policy_first : Refuses (record (bare_under condition.NewEvent action.Deny) { next_koid = 2 ^ 62 }) event_create (outcome.Answered status.AccessDenied)
+unfolding computing
+create_policy_first = refl
+
+-- The policy that kills comes before the koids too.
+create_kill_first : Refuses (record (bare_under condition.NewEvent action.Kill) { next_koid = 2 ^ 62 }) event_create (outcome.Ended (negsuc 1025))
+unfolding computing
+create_kill_first = refl
+
+-- The event's handle gets a value that isn't used.
+create_told : told (turn (call.EventCreate 0 1) bare (Values (6 ∷ [])))
+    ≡ Some (item.Call 2 name.EventCreate (outcome.Answered status.Ok), 0 ∷ 6 ∷ 9 ∷ 0 ∷ 0 ∷ 0 ∷ [])
+unfolding computing
+create_told = refl
+
+-- It names object 4, the next koid, with the rights of a first handle.
+create_table : table_of (after bare (turn (call.EventCreate 0 1) bare (Values (6 ∷ [])))) 2
+    ≡ (6, record (event_with FIRST_RIGHTS) { koid = 4 }) ∷ []
+unfolding computing
+create_table = refl
+
+-- ---- signal
+
+-- The value 5 isn't live.
+signal_dead : Refuses bare (signal 5 0 SIGNALED) (outcome.Answered status.BadHandle)
+unfolding computing
+signal_dead = refl
+
+-- 0 is no handle.
+signal_zero : Refuses bare (signal 0 0 SIGNALED) (outcome.Answered status.BadHandle)
+unfolding computing
+signal_zero = refl
+
+-- Where the policy kills for a bad handle, the process ends with -1026.
+signal_kill : Refuses (bare_under condition.BadHandle action.Kill) (signal 5 0 SIGNALED) (outcome.Ended (negsuc 1025))
+unfolding computing
+signal_kill = refl
+
+-- The handle has no right to signal.
+signal_denied : Refuses (with_rights DUPLICATE) (signal 7 0 SIGNALED) (outcome.Answered status.AccessDenied)
+unfolding computing
+signal_denied = refl
+
+-- No call sets READABLE.
+signal_readable : Refuses (with_rights SIGNAL) (signal 7 0 READABLE) (outcome.Answered status.InvalidArgs)
+unfolding computing
+signal_readable = refl
+
+-- No call clears READABLE.
+signal_clear_readable : Refuses (with_rights SIGNAL) (signal 7 READABLE 0) (outcome.Answered status.InvalidArgs)
+unfolding computing
+signal_clear_readable = refl
+
+-- There is no signal above 32 bits.
+signal_above : Refuses (with_rights SIGNAL) (signal 7 0 0x1_0000_0000) (outcome.Answered status.InvalidArgs)
+unfolding computing
+signal_above = refl
+
+-- The missing right comes before the wrong signals.
+signal_denied_first : Refuses (with_rights DUPLICATE) (signal 7 0 READABLE) (outcome.Answered status.AccessDenied)
+unfolding computing
+signal_denied_first = refl
+
+-- SIGNALED and the eight user signals may be set and cleared at an event.
+signal_all : Passes (with_rights SIGNAL) (signal 7 0xff00_0008 0xff00_0008)
+unfolding computing
+signal_all = refl
+
+-- process 2 has a handle with all rights of a job to job 1 at the value 7
+abbrev with_job : World
+with_job = world_of [] (process_of [] ((7, job_with 0x3_d60f) ∷ []) None)
+
+-- A job ends by itself alone, so no call sets that signal.
+signal_job : Refuses with_job (signal 7 0 TERMINATED) (outcome.Answered status.InvalidArgs)
+unfolding computing
+signal_job = refl
+
+-- The user signals may be set at a job.
+signal_job_user : Passes with_job (signal 7 0 0x100_0000)
+unfolding computing
+signal_job_user = refl
+
+-- The answer is a status alone.
+signal_told : told (turn (call.Signal 0 1 3 4) (record bare { processes = (2, process_of (9 ∷ 7 ∷ 9 ∷ 0 ∷ SIGNALED ∷ []) ((7, event_with SIGNAL) ∷ []) None) ∷ [] }) (Values []))
+    ≡ Some (item.Call 2 name.Signal (outcome.Answered status.Ok), 0 ∷ 7 ∷ 9 ∷ 0 ∷ 8 ∷ 0 ∷ [])
+unfolding computing
+signal_told = refl
+
+-- What is cleared and set stays set, as set comes last.
+signal_set_last : active (effect [] (with_rights SIGNAL) (with_rights SIGNAL) 2 (signal 7 SIGNALED SIGNALED) []) 3 ≡ SIGNALED
+unfolding computing
+signal_set_last = refl
+
+-- ---- process_exit
+
+-- Nothing stands against it.
+exit : Passes bare (process_exit 5)
+unfolding computing
+exit = refl
+
+-- The code 0xffff_ffff is -1.
+exit_minus_1 : ok_outcome bare 2 (process_exit 0xffff_ffff) ≡ outcome.Ended (negsuc 0)
+unfolding computing
+exit_minus_1 = refl
+
+-- Of the code 2^32 + 5 the low 32 bits count.
+exit_low_bits : ok_outcome bare 2 (process_exit (2 ^ 32 + 5)) ≡ outcome.Ended (pos 5)
+unfolding computing
+exit_low_bits = refl
+
+-- The least code is -2^31.
+exit_least : ok_outcome bare 2 (process_exit 0x8000_0000) ≡ outcome.Ended (negsuc 2147483647)
+unfolding computing
+exit_least = refl
+
+-- The largest code is 2^31 - 1.
+exit_largest : ok_outcome bare 2 (process_exit 0x7fff_ffff) ≡ outcome.Ended (pos 2147483647)
+unfolding computing
+exit_largest = refl
+
+-- The process has ended with the code of its register.
+exit_state : state_of (after bare (turn (call.ProcessExit 1) bare (Values []))) 2 ≡ Some (Ended (pos 5))
+unfolding computing
+exit_state = refl
+
+-- Its handles are closed, so the event goes, and its job too, which nothing else keeps.
+exit_objects : (after bare (turn (call.ProcessExit 1) (with_rights FIRST_RIGHTS) (Values []))).objects ≡ []
+unfolding computing
+exit_objects = refl

@@ -4,3 +4,4 @@ pub mod Stored
 pub mod RowsFaults
 pub mod RowsCalls
 pub mod RowsRuns
+pub mod Stepping

@@ -9,6 +9,7 @@ mod boot;
 mod history;
 mod image;
 mod instr;
+pub mod laws;
 mod register;
 
 pub use boot::{Boot, BootCause, BootFault, Statement};

@@ -5,3 +5,4 @@ pub mod RowsFaults
 pub mod RowsCalls
 pub mod RowsRuns
 pub mod Stepping
+pub mod NotReused

@@ -8,3 +8,4 @@ pub mod Effects
 pub mod Calls
 pub mod Steps
 pub mod Boot
+pub mod Koids

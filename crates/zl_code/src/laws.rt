@@ -1,6 +1,6 @@
 //! Laws of the definitions: each function's contract is one law, and its body is empty.
 
-ghost use Rattle.std.specs.Prelude.{ℕ, ◌≡◌, ◌≢◌};
+ghost use Rattle.std.specs.Prelude.{ℕ, ◌≡◌, ◌≢◌, List};
 ghost use Rattle.zl_rights.specs.declared.status.Status.TheVariants as status;
 ghost use Rattle.zl_rights.specs.Map.{get};
 ghost use Rattle.zl_rights.specs.World.{World, Process, Ready};
@@ -9,7 +9,10 @@ ghost use Rattle.zl_code.specs.declared.history.Outcome.TheVariants as outcome;
 ghost use Rattle.zl_code.specs.declared.history.TraceItem.{TraceItem};
 ghost use Rattle.zl_code.specs.declared.history.TraceItem.TheVariants as item;
 ghost use Rattle.zl_code.specs.Image.{Library};
-ghost use Rattle.zl_code.specs.Steps.{Step};
+ghost use Rattle.zl_code.specs.declared.boot.Statement.{Statement};
+ghost use Rattle.zl_code.specs.Steps.{Step, Runs};
+ghost use Rattle.zl_code.specs.Boot.{IsBoot};
+ghost use Rattle.zl_code.specs.Koids.{HasGivenKoids, KeepsKoids};
 
 /// A ready process has a step.
 pub fn a_ready_process_has_a_step()
@@ -19,4 +22,24 @@ pub fn a_ready_process_has_a_step()
 /// A ready process has a step that isn't a call answered NO_MEMORY.
 pub fn a_ready_process_has_a_step_with_memory()
     ensures { (lib : Library) (w : World) (p : ℕ) (process : Process) → get w.processes p ≡ Some process → process.state ≡ Ready → (x : TraceItem) × (after : World) × ((pid : ℕ) (call : CallName) → x ≢ item.Call pid call (outcome.Answered status.NoMemory)) × Step lib w p x after }
+{}
+
+/// A step gives no koid again, and no object changes its kind.
+pub fn koids_are_not_reused()
+    ensures { (lib : Library) (w : World) (p : ℕ) (x : TraceItem) (after : World) → HasGivenKoids w → Step lib w p x after → KeepsKoids w after }
+{}
+
+/// A step leaves each object a koid that was given.
+pub fn steps_keep_given_koids()
+    ensures { (lib : Library) (w : World) (p : ℕ) (x : TraceItem) (after : World) → HasGivenKoids w → Step lib w p x after → HasGivenKoids after }
+{}
+
+/// In a boot world each object has a koid that was given.
+pub fn boot_worlds_have_given_koids()
+    ensures { (lib : Library) (statements : List Statement) (w : World) → IsBoot lib statements w → HasGivenKoids w }
+{}
+
+/// From any point of a run that begins at a boot world, the rest of the run gives no koid again.
+pub fn runs_reuse_no_koid()
+    ensures { (lib : Library) (statements : List Statement) (boot : World) (items : List TraceItem) (w : World) (more : List TraceItem) (after : World) → IsBoot lib statements boot → Runs lib boot items w → Runs lib w more after → KeepsKoids w after }
 {}

@@ -330,6 +330,6 @@ pub IsBoot-HasGivenKoids : (lib : Library) (statements : List Statement) (w : Wo
 IsBoot-HasGivenKoids lib statements w boot =
     given_still boot.made w (given_still origin boot.made origin_given (boots_keep lib origin statements boot.made boot.boots)) (settled_keeps boot.made w boot.settles)
 
-pub Runs-KeepsKoids : (lib : Library) (statements : List Statement) (boot : World) (items : List TraceItem) (mid : World) (more : List TraceItem) (w : World) → IsBoot lib statements boot → Runs lib boot items mid → Runs lib mid more w → KeepsKoids mid w
-Runs-KeepsKoids lib statements boot items mid more w is_boot first second =
+pub Runs-KeepsKoids : (lib : Library) (statements : List Statement) (boot mid w : World) (items more : List TraceItem) → IsBoot lib statements boot → Runs lib boot items mid → Runs lib mid more w → KeepsKoids mid w
+Runs-KeepsKoids lib statements boot mid w items more is_boot first second =
     Keeps-KeepsKoids mid w (given_still boot mid (IsBoot-HasGivenKoids lib statements boot is_boot) (run_keeps lib boot items mid first)) (run_keeps lib mid more w second)

@@ -331,6 +331,11 @@ create_kill_first : Refuses (record (bare_under condition.NewEvent action.Kill) 
 unfolding computing
 create_kill_first = refl
 
+-- The policy comes before the full table.
+create_policy_before_table : Refuses (world_of ((condition_number condition.NewEvent, action.Deny) ∷ []) (process_of [] (times 1024 (event_with FIRST_RIGHTS)) None)) event_create (outcome.Answered status.AccessDenied)
+unfolding computing
+create_policy_before_table = refl
+
 -- The event's handle gets a value that isn't used.
 create_told : told (turn (call.EventCreate 0 1) bare (Values (6 ∷ [])))
     ≡ Some (item.Call 2 name.EventCreate (outcome.Answered status.Ok), 0 ∷ 6 ∷ 9 ∷ 0 ∷ 0 ∷ 0 ∷ [])

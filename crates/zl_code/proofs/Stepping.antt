@@ -227,14 +227,18 @@ module _ (lib : Library) (w : World) (p : ℕ) (q : Process) (there : get w.proc
   pub step_with_memory : q.state ≡ Ready → (x : TraceItem) × (w2 : World) × IsNoWant x × Step lib w p x w2
   step_with_memory ready =
       let act = act_there (next_for lib q) in
-      let settled = settled_in act.1 (length (keys_of act.1.objects)) in
-      (act.0, wakes settled, act.2, record {
-        process = q;
-        is_there = there;
-        is_ready = ready;
-        acted = act.1;
-        acts = act.3;
-        settled = settled;
-        settles = Settles-exists act.1;
-        ends_awake = refl;
-      })
+      let settled = settled_in act.1 (length (keys_of act.1.objects)) in (
+        act.0,
+        wakes settled,
+        act.2,
+        record {
+          process = q;
+          is_there = there;
+          is_ready = ready;
+          acted = act.1;
+          acts = act.3;
+          settled = settled;
+          settles = Settles-exists act.1;
+          ends_awake = refl;
+        },
+      )

@@ -16,30 +16,40 @@ ghost use Rattle.zl_code.specs.Koids.{HasGivenKoids, KeepsKoids};
 
 /// A ready process has a step.
 pub fn a_ready_process_has_a_step()
-    ensures { (lib : Library) (w : World) (p : ℕ) (process : Process) → get w.processes p ≡ Some process → process.state ≡ Ready → (x : TraceItem) × (after : World) × Step lib w p x after }
+    ensures { (lib : Library) (w : World) (p : ℕ) (process : Process)
+        → get w.processes p ≡ Some process → process.state ≡ Ready
+        → (x : TraceItem) × (after : World) × Step lib w p x after }
 {}
 
 /// A ready process has a step that isn't a call answered NO_MEMORY.
 pub fn a_ready_process_has_a_step_with_memory()
-    ensures { (lib : Library) (w : World) (p : ℕ) (process : Process) → get w.processes p ≡ Some process → process.state ≡ Ready → (x : TraceItem) × (after : World) × ((pid : ℕ) (call : CallName) → x ≢ item.Call pid call (outcome.Answered status.NoMemory)) × Step lib w p x after }
+    ensures { (lib : Library) (w : World) (p : ℕ) (process : Process)
+        → get w.processes p ≡ Some process → process.state ≡ Ready
+        → (x : TraceItem) × (after : World)
+        × ((pid : ℕ) (call : CallName) → x ≢ item.Call pid call (outcome.Answered status.NoMemory))
+        × Step lib w p x after }
 {}
 
 /// A step gives no koid again, and no object changes its kind.
 pub fn koids_are_not_reused()
-    ensures { (lib : Library) (w : World) (p : ℕ) (x : TraceItem) (after : World) → HasGivenKoids w → Step lib w p x after → KeepsKoids w after }
+    ensures { (lib : Library) (w : World) (p : ℕ) (x : TraceItem) (after : World)
+        → HasGivenKoids w → Step lib w p x after → KeepsKoids w after }
 {}
 
 /// A step leaves each object a koid that was given.
 pub fn steps_keep_given_koids()
-    ensures { (lib : Library) (w : World) (p : ℕ) (x : TraceItem) (after : World) → HasGivenKoids w → Step lib w p x after → HasGivenKoids after }
+    ensures { (lib : Library) (w : World) (p : ℕ) (x : TraceItem) (after : World)
+        → HasGivenKoids w → Step lib w p x after → HasGivenKoids after }
 {}
 
 /// In a boot world each object has a koid that was given.
 pub fn boot_worlds_have_given_koids()
-    ensures { (lib : Library) (statements : List Statement) (w : World) → IsBoot lib statements w → HasGivenKoids w }
+    ensures { (lib : Library) (statements : List Statement) (w : World)
+        → IsBoot lib statements w → HasGivenKoids w }
 {}
 
 /// From any point of a run that begins at a boot world, the rest of the run gives no koid again.
 pub fn runs_reuse_no_koid()
-    ensures { (lib : Library) (statements : List Statement) (boot : World) (items : List TraceItem) (w : World) (more : List TraceItem) (after : World) → IsBoot lib statements boot → Runs lib boot items w → Runs lib w more after → KeepsKoids w after }
+    ensures { (lib : Library) (statements : List Statement) (boot w after : World) (items more : List TraceItem)
+        → IsBoot lib statements boot → Runs lib boot items w → Runs lib w more after → KeepsKoids w after }
 {}

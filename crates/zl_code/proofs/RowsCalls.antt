@@ -1,7 +1,10 @@
 -- Each cause of each call, by computation in small worlds.
-use Rattle.std.proofs.Common.{◌≡◌, ℕ, ◌+◌, ◌-◌, ◌^◌, ◌==◌, IsTrue, [], ◌∷◌, refl, Some, None}
+use Rattle.std.proofs.Common.{◌≡◌, ℕ, ◌+◌, ◌-◌, ◌^◌, ◌==◌, IsTrue, [], ◌∷◌, refl, Option, Some, None}
 use Rattle.std.specs.Prelude.{true, false, pos, negsuc}
 use Rattle.std.proofs.lemmas.Bool.{and_parts, eqb-true}
+use Rattle.std.specs.Option.{option_map}
+use Rattle.zl_rights.specs.declared.kind.Kind.{Kind}
+use Rattle.zl_rights.specs.declared.kind.Kind.TheVariants as kind
 use Rattle.zl_rights.specs.declared.status.Status.TheVariants as status
 use Rattle.zl_rights.specs.declared.policy.Action.{Action}
 use Rattle.zl_rights.specs.declared.policy.Action.TheVariants as action
@@ -9,7 +12,7 @@ use Rattle.zl_rights.specs.declared.policy.Condition.{Condition}
 use Rattle.zl_rights.specs.declared.policy.Condition.TheVariants as condition
 use Rattle.zl_rights.specs.Numbers.{DUPLICATE, SIGNAL, SAME_RIGHTS, READABLE, SIGNALED, TERMINATED, condition_number}
 use Rattle.zl_rights.specs.Map.{has_key}
-use Rattle.zl_rights.specs.World.{World, Ended}
+use Rattle.zl_rights.specs.World.{World, Ended, kind_of}
 use Rattle.zl_rights.specs.Signals.{active}
 use Rattle.zl_code.specs.declared.instr.Instr.TheVariants as instr
 use Rattle.zl_code.specs.declared.instr.CallInstr.{CallInstr}
@@ -19,7 +22,7 @@ use Rattle.zl_code.specs.declared.history.Outcome.{Outcome}
 use Rattle.zl_code.specs.declared.history.Outcome.TheVariants as outcome
 use Rattle.zl_code.specs.declared.history.TraceItem.TheVariants as item
 use Rattle.zl_code.specs.Request.{Request, close, dup, event_create, signal, process_exit}
-use Rattle.zl_code.specs.Tests.{table_of}
+use Rattle.zl_code.specs.Tests.{table_of, body_of}
 use Rattle.zl_code.specs.Refusals.{refusal}
 use Rattle.zl_code.specs.Effects.{may_choose, effect}
 use Rattle.zl_code.specs.Calls.{Choice, Refused, WantsMemory, Values, ok_outcome}
@@ -35,6 +38,10 @@ Refuses w request answer = refusal [] w 2 request ≡ Some answer
 -- process 2 of the world isn't refused
 abbrev Passes : World → Request → Type 0
 Passes w request = refusal [] w 2 request ≡ None
+
+-- the kind of object 1
+abbrev kind_at_1 : World → Option Kind
+kind_at_1 w = option_map kind_of (body_of w 1)
 
 -- process 2 does the call, with this choice
 abbrev turn : CallInstr → World → Choice → Acted
@@ -347,6 +354,12 @@ create_table : table_of (after bare (turn (call.EventCreate 0 1) bare (Values (6
     ≡ (6, record (event_with FIRST_RIGHTS) { koid = 4 }) ∷ []
 unfolding computing
 create_table = refl
+
+-- Where the next koid is that of an object, here of the job, the event would take its place:
+-- so the laws of koids ask that each object's koid was given.
+create_at_used_koid : kind_at_1 (after bare (turn (call.EventCreate 0 1) (record bare { next_koid = 1 }) (Values (6 ∷ [])))) ≡ Some kind.Event
+unfolding computing
+create_at_used_koid = refl
 
 -- ---- signal
 

@@ -1,2 +1,3 @@
+pub mod MapEdits
 pub mod Search
 pub mod Kept

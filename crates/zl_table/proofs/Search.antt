@@ -3,25 +3,16 @@ use Rattle.std.proofs.Common.{◌≡◌, ℕ, zero, suc, ◌-◌, ◌<◌, ◌�
 use Rattle.std.specs.Prelude.{IsTrue, slice_get}
 use Rattle.std.specs.List.{insert, remove}
 use Rattle.std.specs.List.Sorted.{IsSearchInRange, IsBinarySearchResult, IsNonDecreasingBy}
-use Rattle.std.specs.Ordering.{nat_cmp, ordering_index, is_lt}
+use Rattle.std.specs.Ordering.{nat_cmp, ordering_index}
 use Rattle.std.specs.FinMap.Entries.{is_sorted, below_all}
 use Rattle.std.proofs.lemmas.Cmp.{ranked}
-use Rattle.std.proofs.lemmas.Bool.{and_parts}
 use Rattle.std.proofs.lemmas.Option.{slice_get_within, get_or_from_slice_get}
 use Rattle.std.proofs.lemmas.Bool.Decides.{nat_tests}
 use Rattle.zl_rights.specs.Map.{Map, get, put, without, update}
+use Rattle.zl_table.proofs.MapEdits.{below_parts, sorted_parts, without_lower}
 use Rattle.zl_table.specs.Places.{IsAt, IsGapFor}
 
 module _ {X : Type 0} where
-  below_parts : (k : ℕ) (e : ℕ × X) (m : Map X) → IsTrue (below_all nat_cmp k (e ∷ m)) → (k < e.0) × IsTrue (below_all nat_cmp k m)
-  below_parts k e m below =
-      let both = and_parts (is_lt (nat_cmp k e.0)) (below_all nat_cmp k m) below in
-      let first : IsTrue (is_lt (nat_cmp k e.0)) = both.0 in
-      (grind (arith, nat_tests), both.1)
-
-  pub sorted_parts : (e : ℕ × X) (m : Map X) → IsTrue (is_sorted nat_cmp (e ∷ m)) → IsTrue (below_all nat_cmp e.0 m) × IsTrue (is_sorted nat_cmp m)
-  sorted_parts e m sorted = and_parts (below_all nat_cmp e.0 m) (is_sorted nat_cmp m) sorted
-
   -- a key below all is below the key at each place
   below_each : (k : ℕ) (m : Map X) → IsTrue (below_all nat_cmp k m) → (i : ℕ) (d : ℕ × X) → i < length m → k < (get_or m i d).0
   below_each k [] below i d lt = absurd (omega arith)
@@ -39,14 +30,6 @@ module _ {X : Type 0} where
   keys_rise (e ∷ m) sorted zero (suc j) d le lt = omega (arith, first_below e m sorted j d (omega arith))
   keys_rise (e ∷ m) sorted (suc i) zero d le lt = absurd (omega arith)
   keys_rise (e ∷ m) sorted (suc i) (suc j) d le lt = keys_rise m (sorted_parts e m sorted).1 i j d (omega arith) (omega arith)
-
-  -- a key below all is not there
-  without_lower : (k : ℕ) (m : Map X) → IsTrue (below_all nat_cmp k m) → without m k ≡ m
-  unfolding without
-  without_lower k [] below = refl
-  without_lower k (e ∷ m) below =
-      let lower : k < e.0 = (below_parts k e m below).0 in
-      grind (arith, nat_tests, without_lower k m (below_parts k e m below).1)
 
   -- the comparisons with k rise along the list, as a binary search asks
   comparisons_rise : (m : Map X) → IsTrue (is_sorted nat_cmp m) → (k : ℕ) → IsNonDecreasingBy (λ e. ordering_index (nat_cmp e.0 k)) m
@@ -72,6 +55,7 @@ module _ {X : Type 0} where
     };
   }
 
+  -- in the tail a place is one lower
   at_later : (e : ℕ × X) (m : Map X) (k i : ℕ) → IsAt (e ∷ m) k (suc i) → IsAt m k i
   at_later e m k i at = record { in_range = omega (arith, at.in_range); has_key = at.has_key }
 
@@ -79,6 +63,7 @@ module _ {X : Type 0} where
   at_above : (e : ℕ × X) (m : Map X) → IsTrue (is_sorted nat_cmp (e ∷ m)) → (k i : ℕ) → IsAt (e ∷ m) k (suc i) → e.0 < k
   at_above e m sorted k i at = omega (arith, first_below e m sorted i e (omega (arith, at.in_range)), at.has_key e)
 
+  -- the value's entry is at its place
   get_at : (m : Map X) → IsTrue (is_sorted nat_cmp m) → (k i : ℕ) → IsAt m k i → (d : ℕ × X) → get m k ≡ Some (get_or m i d).1
   unfolding get
   get_at [] sorted k i at d = absurd (omega (arith, at.in_range))
@@ -86,6 +71,7 @@ module _ {X : Type 0} where
   get_at (e ∷ m) sorted k (suc i) at d =
       grind (arith, nat_tests, at_above e m sorted k i at, get_at m (sorted_parts e m sorted).1 k i (at_later e m k i at) d)
 
+  -- edits at the value's place, and at its gap
   pub remove_at : (m : Map X) → IsTrue (is_sorted nat_cmp m) → (k i : ℕ) → IsAt m k i → remove m i ≡ without m k
   unfolding without
   remove_at [] sorted k i at = absurd (omega (arith, at.in_range))
@@ -116,11 +102,17 @@ module _ {X : Type 0} where
     between = (λ j d le lt. gap.between.0 (suc j) d (omega arith) (omega arith), λ j d le lt. gap.between.1 (suc j) d (omega arith) (omega arith));
   }
 
+  gap_first : (e : ℕ × X) (m : Map X) (k : ℕ) → IsGapFor (e ∷ m) k 0 → IsGapFor m k 0
+  gap_first e m k gap = record {
+    in_range = omega arith;
+    between = (λ j d le lt. absurd (omega arith), λ j d le lt. gap.between.1 (suc j) d (omega arith) (omega arith));
+  }
+
+  -- nothing is found where the value has a gap
   pub get_gap : (m : Map X) (k i : ℕ) → IsGapFor m k i → get m k ≡ None
   unfolding get
   get_gap [] k i gap = refl
-  get_gap (e ∷ m) k zero gap =
-      grind (arith, nat_tests, gap.between.1 0 e (omega arith) (omega arith), get_gap m k zero (record { in_range = omega arith; between = (λ j d le lt. absurd (omega arith), λ j d le lt. gap.between.1 (suc j) d (omega arith) (omega arith)) }))
+  get_gap (e ∷ m) k zero gap = grind (arith, nat_tests, gap.between.1 0 e (omega arith) (omega arith), get_gap m k zero (gap_first e m k gap))
   get_gap (e ∷ m) k (suc i) gap =
       grind (arith, nat_tests, gap.between.0 0 e (omega arith) (omega arith), get_gap m k i (gap_later e m k i gap))
 
@@ -130,11 +122,6 @@ module _ {X : Type 0} where
   insert_gap [] k (suc i) gap v = absurd (omega (arith, gap.in_range))
   insert_gap (e ∷ m) k zero gap v = grind (arith, nat_tests, gap.between.1 0 e (omega arith) (omega arith))
   insert_gap (e ∷ m) k (suc i) gap v = grind (arith, nat_tests, gap.between.0 0 e (omega arith) (omega arith), insert_gap m k i (gap_later e m k i gap) v)
-
-  pub update_missing : (m : Map X) (k : ℕ) (f : X → X) → get m k ≡ None → update m k f ≡ m
-  unfolding get update
-  update_missing [] k f none = refl
-  update_missing (e ∷ m) k f none = grind (arith, nat_tests, update_missing m k f)
 
   -- where nothing is found, the value is at no place
   pub at_none : (m : Map X) → IsTrue (is_sorted nat_cmp m) → (k i : ℕ) → IsAt m k i → get m k ≡ None → ⊥

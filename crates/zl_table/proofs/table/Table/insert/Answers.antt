@@ -6,6 +6,7 @@ use Rattle.zl_table.proofs.Search.{at_none, insert_gap}
 use Rattle.zl_table.proofs.Kept.{from_ok, next_unused, next_in_range, next_again, kept_inserted}
 use Rattle.zl_table.proofs.table.Table.insert.Goals as goal
 
+-- the value isn't live, so that it has no place
 pub unreachable-requires : goal.unreachable-requires
 unreachable-requires c =
     let places = c.self.inside.places in

@@ -1,4 +1,4 @@
-use Rattle.std.proofs.Common.{◌≡◌, ◌+◌, ◌++◌, ◌∷◌, [], IsTrue, is_some, length, ap, refl, ◌∙◌, arith}
+use Rattle.std.proofs.Common.{◌≡◌, ◌++◌, ◌∷◌, [], IsTrue, is_some, ap, refl, ◌∙◌}
 use Rattle.zl_rights.specs.Map.{without, has_key}
 use Rattle.zl_table.specs.Places.{IsAt}
 use Rattle.zl_table.proofs.Search.{get_read, get_gap, remove_at}
@@ -16,9 +16,7 @@ invariant_of-self c =
     let there : IsTrue (has_key places.items c.args.value) = ap is_some (get_read places.items sorted _ _ found _ c.remove.ensures.value) in
     let left : c.remove.new.self.items ≡ without places.items c.args.value = c.remove.ensures.items ∙ remove_at places.items sorted _ _ found in
     let pushed : c.push.new.self.items ≡ c.self.inside.freed.items ++ c.args.value ∷ [] = rw c.unwrap.ensures at c.push.ensures.items in
-    let counted : length c.remove.new.self.items + 1 ≡ length places.items = omega (arith, c.remove.ensures.len, c.remove.new.self.ok.0, places.ok.0) in
-    let shorter : length (without places.items c.args.value) + 1 ≡ length places.items = rw left at counted in
-    rw (left, pushed) (kept_removed _ _ _ _ _ _ c.self.invariant there shorter c.push.ensures.capacity)
+    rw (left, pushed) (kept_removed _ _ _ _ c.self.invariant _ there _ c.push.ensures.capacity)
 
 pub returns-clause-found : goal.returns-clause-found
 returns-clause-found c =

@@ -1,6 +1,7 @@
 use Rattle.std.proofs.Common.{is_some, sym, ap}
 use Rattle.zl_table.specs.Places.{IsAt}
-use Rattle.zl_table.proofs.Search.{get_read, get_gap, update_read, update_missing}
+use Rattle.zl_table.proofs.Search.{get_read, get_gap, update_read}
+use Rattle.zl_table.proofs.MapEdits.{update_missing}
 use Rattle.zl_table.proofs.Kept.{kept_updated}
 use Rattle.zl_table.proofs.table.Table.rewrite.Goals as goal
 

@@ -6,7 +6,8 @@
 
 mod table;
 
-pub use table::{HValue, InsertFault, Table};
+pub use table::{InsertFault, Table};
+pub use zl_rights::HValue;
 
 #[cfg(test)]
 mod tests;

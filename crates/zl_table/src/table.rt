@@ -9,10 +9,7 @@ ghost use Rattle.zl_table.specs.Places.{IsAt, IsGapFor, next_value};
 
 use std::alloc::Global;
 use std::marker::Model;
-use zl_rights::{Entry, Kind, Rights, Status};
-
-/// The value by which a process names a handle: a live one is 1 to 65,535 (own profile).
-pub type HValue = u32;
+use zl_rights::{Entry, HValue, Kind, Rights, Status};
 
 /// Why an insertion was refused. Each has the entry that was to go in.
 #[derive(Debug, Drop)]

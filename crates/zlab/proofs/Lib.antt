@@ -1,0 +1,2 @@
+pub mod KnownInput
+pub mod KnownOutput

@@ -1,0 +1,53 @@
+use thiserror::Error;
+
+/// Why an engine can't go on; nothing can be said of its input then.
+#[derive(Debug, Drop, Error)]
+pub enum EngineFault {
+    /// A fault of the reader, an interruption too.
+    #[error("can't read the input")]
+    Read,
+    /// A fault of the writer, or a write that takes no byte.
+    #[error("can't write the output")]
+    Write,
+    /// Memory was refused.
+    #[error("out of memory")]
+    NoMemory,
+}
+
+/// How an engine ends that has read its input and written its answer.
+#[derive(Clone, Copy, PartialEq, Eq, Debug)]
+pub enum Verdict {
+    /// The trace is written.
+    Done,
+    /// The input is refused; the line of its first fault is written.
+    Refused,
+}
+
+/// Why a line of the input is refused, in the order in which the faults of one line are examined.
+#[derive(Clone, Copy, PartialEq, Eq, Debug)]
+pub enum Cause {
+    /// No statement, or a byte outside ASCII.
+    Syntax,
+    /// The bytes of a program are no image.
+    Program,
+    /// No object of this koid and kind, or no program of this number.
+    Unknown,
+    /// More than 7 handles, or rights outside the default.
+    BadHandleList,
+    /// The job's policy doesn't allow what a program needs.
+    NeedDenied,
+    /// The policy of a job that has children.
+    BadState,
+    /// A condition that is set to another action already.
+    Conflict,
+    /// Too many of something, or too long an input.
+    Limit,
+}
+
+/// The first fault of an input.
+#[derive(Clone, Copy, PartialEq, Eq, Debug)]
+pub struct LineFault {
+    /// The number of the line, from 1; 0 for the input as a whole.
+    pub line: u64,
+    pub cause: Cause,
+}

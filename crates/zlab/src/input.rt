@@ -1,0 +1,46 @@
+//! Reading: the whole input, up to a limit.
+ghost use Rattle.std.specs.Prelude.{◌≢◌, ◌+◌, IfOk, IfErr};
+ghost use Rattle.zlab.specs.Input.{IsInputOf, TakesAtMost};
+
+use crate::fault::EngineFault;
+use std::alloc::Global;
+use std::io::Read;
+
+/// The most bytes that an input may have.
+pub const MOST_INPUT: usize = 4_194_304;
+
+const BLOCK: usize = 16_384;
+
+/// What an engine has read.
+#[derive(Drop)]
+pub enum Input {
+    /// All bytes, at most `MOST_INPUT`.
+    Text(Vec<u8>),
+    /// There are more than `MOST_INPUT` bytes.
+    TooLong,
+}
+
+/// Reads all bytes that the reader has, and no further than one byte past `MOST_INPUT`. Every fault
+/// of the reader ends it with `Read`, an interruption too; `NoMemory` comes where memory is refused.
+pub fn read_input<R: Read>(alloc: Global, reader: &mut R) -> Result<Input, EngineFault>
+    ensures ok { IfOk result (IsInputOf (R.remaining reader.old)) }
+    ensures err { IfErr result (λ fault. fault ≢ EngineFault.Write) }
+    ensures taken { TakesAtMost (R.remaining reader.old) (R.remaining reader.new) (MOST_INPUT + 1) }
+{
+    let mut text = Vec::new(alloc);
+    let mut block = [0u8; BLOCK];
+    while text.len() <= MOST_INPUT {
+        let room = BLOCK.min(MOST_INPUT + 1 - text.len());
+        let count = match reader.read(&mut block[..room]) {
+            Ok(count) => count,
+            Err(_) => return Err(EngineFault::Read),
+        };
+        if count == 0 {
+            return Ok(Input::Text(text));
+        }
+        if text.extend_from_slice(&block[..count]).is_err() {
+            return Err(EngineFault::NoMemory);
+        }
+    }
+    Ok(Input::TooLong)
+}

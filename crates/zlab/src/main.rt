@@ -1,0 +1,9 @@
+//! The program: a scenario and a schedule on standard input, the trace on standard output.
+#![tactic(auto)]
+
+mod fault;
+mod input;
+mod output;
+mod text;
+
+fn main() {}

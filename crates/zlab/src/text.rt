@@ -1,0 +1,113 @@
+//! The text of a trace: a line for each item, for the state of each process, and for the end.
+ghost use Rattle.std.specs.Prelude.{◌≡◌, ◌++◌, OnOk, string_bytes};
+ghost use Rattle.zlab.specs.Text.{call_name, call_line, item_line, state_line, end_line, cause_name, refused_line};
+
+use crate::fault::{Cause, LineFault};
+use std::alloc::AllocError;
+use zl_code::{CallName, Outcome, ProcState, TraceItem};
+use zl_rights::Pid;
+
+/// How a run along a schedule ends.
+#[derive(Clone, Copy, PartialEq, Eq, Debug)]
+pub enum End {
+    /// Every turn was taken.
+    Schedule,
+    /// The trace is at its limit before a turn of a ready process.
+    Limit,
+    /// Memory was refused.
+    Memory,
+}
+
+/// Adds the line of an item. Where memory is refused, a beginning of the line may stand there.
+pub fn push_item(text: &mut String, item: TraceItem) -> Result<(), AllocError>
+    ensures { OnOk result (string_bytes text.new ≡ string_bytes text.old ++ item_line item) }
+{
+    match item {
+        TraceItem::Run { pid, count } => write!(text, "{pid} run {count}\n"),
+        TraceItem::Call { pid, call, outcome } => push_call(text, pid, call, outcome),
+        TraceItem::Stuck { pid } => write!(text, "{pid} stuck\n"),
+    }
+}
+
+fn push_call(
+    text: &mut String,
+    pid: Pid,
+    call: CallName,
+    outcome: Outcome,
+) -> Result<(), AllocError>
+    ensures { OnOk result (string_bytes text.new ≡ string_bytes text.old ++ call_line pid call outcome) }
+{
+    let name = name_of_call(call);
+    match outcome {
+        Outcome::Answered(status) => {
+            let answer = status.name();
+            write!(text, "{pid} {name} {answer}\n")
+        }
+        Outcome::Blocked => write!(text, "{pid} {name} blocked\n"),
+        Outcome::Ended(code) => write!(text, "{pid} {name} ended {code}\n"),
+    }
+}
+
+/// The name of the call, as traces have it.
+fn name_of_call(call: CallName) -> &'static str
+    ensures { result.now ≡ call_name call }
+{
+    match call {
+        CallName::Close => "close",
+        CallName::Dup => "dup",
+        CallName::EventCreate => "event_create",
+        CallName::Signal => "signal",
+        CallName::ProcessExit => "process_exit",
+    }
+}
+
+/// Adds the line that says what a process is in. Where memory is refused, a beginning of the line may
+/// stand there.
+pub fn push_state(text: &mut String, pid: Pid, state: ProcState) -> Result<(), AllocError>
+    ensures { OnOk result (string_bytes text.new ≡ string_bytes text.old ++ state_line pid state) }
+{
+    match state {
+        ProcState::Created => write!(text, "process {pid} created\n"),
+        ProcState::Ready => write!(text, "process {pid} ready\n"),
+        ProcState::Blocked => write!(text, "process {pid} blocked\n"),
+        ProcState::Ended(code) => write!(text, "process {pid} ended {code}\n"),
+        ProcState::Gone => write!(text, "process {pid} gone\n"),
+    }
+}
+
+/// Adds the last line of a trace. Where memory is refused, nothing changes.
+pub fn push_end(text: &mut String, end: End) -> Result<(), AllocError>
+    ensures { OnOk result (string_bytes text.new ≡ string_bytes text.old ++ end_line end) }
+{
+    text.push_str(match end {
+        End::Schedule => "end schedule\n",
+        End::Limit => "end limit\n",
+        End::Memory => "end memory\n",
+    })
+}
+
+/// Adds the line that answers a refused input. Where memory is refused, a beginning of the line may
+/// stand there.
+pub fn push_refusal(text: &mut String, fault: LineFault) -> Result<(), AllocError>
+    ensures { OnOk result (string_bytes text.new ≡ string_bytes text.old ++ refused_line fault.line fault.cause) }
+{
+    let line = fault.line;
+    let name = name_of_cause(fault.cause);
+    write!(text, "refused {line} {name}\n")
+}
+
+/// The name of the fault, as answers have it.
+fn name_of_cause(cause: Cause) -> &'static str
+    ensures { result.now ≡ cause_name cause }
+{
+    match cause {
+        Cause::Syntax => "Syntax",
+        Cause::Program => "Program",
+        Cause::Unknown => "Unknown",
+        Cause::BadHandleList => "BadHandleList",
+        Cause::NeedDenied => "NeedDenied",
+        Cause::BadState => "BadState",
+        Cause::Conflict => "Conflict",
+        Cause::Limit => "Limit",
+    }
+}

@@ -1,2 +1,4 @@
 pub mod KnownInput
 pub mod KnownOutput
+pub mod HexDigits
+pub mod Decimals

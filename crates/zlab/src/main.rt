@@ -4,6 +4,7 @@
 mod fault;
 mod input;
 mod output;
+mod scenario;
 mod text;
 
 fn main() {}

@@ -1,3 +1,7 @@
+ghost use Rattle.std.specs.Prelude.{◌≡◌};
+ghost use Rattle.zlab.specs.declared.fault.EngineFault.TheVariants.{NoMemory};
+
+use std::alloc::AllocError;
 use thiserror::Error;
 
 /// Why an engine can't go on; nothing can be said of its input then.
@@ -12,6 +16,14 @@ pub enum EngineFault {
     /// Memory was refused.
     #[error("out of memory")]
     NoMemory,
+}
+
+impl From<AllocError> for EngineFault {
+    ghost from_gives = { λ _ fault. fault ≡ NoMemory };
+
+    fn from(_refused: AllocError) -> EngineFault {
+        EngineFault::NoMemory
+    }
 }
 
 /// How an engine ends that has read its input and written its answer.

@@ -1,0 +1,8 @@
+use Rattle.std.proofs.Common.{string_bytes, take}
+use Rattle.std.specs.List.{flat_map}
+use Rattle.zlab.specs.Text.{item_line}
+use Rattle.zlab.specs.Output.{Gathers}
+use Rattle.zlab.proofs.output.write_items.Given as goal
+
+abbrev pub invariant-loop-item : goal.invariant-loop-item
+invariant-loop-item g l = Gathers (g.W.Write.contents l.initial.writer) (string_bytes l.initial.block) (g.W.Write.contents l.writer) (string_bytes l.block) (flat_map item_line (take l.item-index l.items))

@@ -2,3 +2,4 @@ pub mod KnownInput
 pub mod KnownOutput
 pub mod HexDigits
 pub mod Decimals
+pub mod ReadyProcess

@@ -23,7 +23,7 @@ use Rattle.zl_code.proofs.RowsWords.{state_of}
 
 -- ---- the program
 
-abbrev bytes : List ℕ
+abbrev pub bytes : List ℕ
 bytes =
     0x5a ∷ 0x4c ∷ 0x41 ∷ 0x42 ∷ 1 ∷ 1 ∷ 8 ∷ 0 ∷ 0 ∷ 0 ∷ 0 ∷ 0 ∷ 100 ∷ 0 ∷ 0 ∷ 0 ∷ 0 ∷ 0 ∷ 0 ∷ 0
     ∷ 0x46 ∷ 2 ∷ 3 ∷ 0 ∷ 0 ∷ 0 ∷ 0 ∷ 0 ∷ 0 ∷ 0 ∷ 0 ∷ 0 ∷ 0 ∷ 0 ∷ 0 ∷ 0
@@ -35,7 +35,7 @@ bytes =
     ∷ 0x40 ∷ 2 ∷ 4 ∷ 0 ∷ 0 ∷ 0 ∷ 0 ∷ 0 ∷ 0 ∷ 0 ∷ 0 ∷ 0 ∷ 0 ∷ 0 ∷ 0 ∷ 0
     ∷ 0x53 ∷ 0 ∷ 0 ∷ 0 ∷ 0 ∷ 0 ∷ 0 ∷ 0 ∷ 0 ∷ 0 ∷ 0 ∷ 0 ∷ 0 ∷ 0 ∷ 0 ∷ 0 ∷ []
 
-abbrev image : Image
+abbrev pub image : Image
 image = record {
   raw = true;
   memory = 0;
@@ -61,16 +61,16 @@ bytes_spell_image = record { same = refl; in_range = refl }
 
 -- ---- its run
 
-abbrev library : Library
+abbrev pub library : Library
 library = record { checked = false; image = image } ∷ []
 
-abbrev statements : List Statement
+abbrev pub statements : List Statement
 statements = statement.Process 1 0 0 ∷ []
 
-abbrev made : World
+abbrev pub made : World
 made = boot_effect library origin (statement.Process 1 0 0)
 
-abbrev boot : World
+abbrev pub boot : World
 boot = settled_in made 1
 
 -- The world with one ready process, and the root job that it keeps, is a boot world of the one statement.
@@ -78,7 +78,7 @@ is_boot : IsBoot library statements boot
 unfolding computing boot_fault boot_effect
 is_boot = record { made = made; boots = (refl, refl); settles = Settles-by made 1 refl }
 
-abbrev history : List TraceItem
+abbrev pub history : List TraceItem
 history =
     item.Call 2 name.EventCreate (outcome.Answered status.Ok)
     ∷ item.Run 2 1
@@ -91,11 +91,11 @@ history =
     ∷ []
 
 -- the event's handle gets the value 7, and its copy 9
-abbrev turns : List (ℕ × Choice)
+abbrev pub turns : List (ℕ × Choice)
 turns =
     (2, Values (7 ∷ [])) ∷ (2, Refused) ∷ (2, Values []) ∷ (2, Values (9 ∷ [])) ∷ (2, Values []) ∷ (2, Values []) ∷ (2, Values []) ∷ (2, Values []) ∷ []
 
-abbrev end : World
+abbrev pub end : World
 end = world_after boot (run_by library boot turns)
 
 -- Seven calls are answered OK around one local instruction, and the process exits: a legal history.

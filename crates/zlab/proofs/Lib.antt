@@ -3,3 +3,5 @@ pub mod KnownOutput
 pub mod HexDigits
 pub mod Decimals
 pub mod ReadyProcess
+pub mod Following
+pub mod StoredRun

@@ -1,4 +1,5 @@
 pub mod Text
+pub mod Follows
 pub mod Input
 pub mod Output
 pub mod Lines

@@ -6,3 +6,9 @@ pub mod RowsCalls
 pub mod RowsRuns
 pub mod Stepping
 pub mod NotReused
+pub mod ImageBytes
+pub mod ImageInstr
+pub mod ImageWhole
+pub mod ImageCode
+pub mod ImageTable
+pub mod ImageHeader

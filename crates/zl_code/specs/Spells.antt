@@ -1,6 +1,6 @@
 -- The image grammar: the bytes of an image, field by field, and the first fault of bytes that are no image's.
 use Rattle.std.specs.Prelude.{ℕ, zero, suc, ◌≡◌, ◌+◌, ◌*◌, ◌/◌, ◌%◌, Bool, true, false, ◌&&◌, ◌||◌, not, ◌==◌, nat_lt, nat_le, List, [], ◌∷◌, ◌++◌, map, take, drop, replicate, length, slice_index, Option, Some, None, is_some, if◌then◌else◌, IsTrue}
-use Rattle.std.specs.List.{flat_map, list_all, list_any}
+use Rattle.std.specs.List.{flat_map, list_all, list_any, starts_with}
 use Rattle.zl_rights.specs.declared.kind.Kind.{Kind}
 use Rattle.zl_rights.specs.declared.policy.Condition.{Condition}
 use Rattle.zl_rights.specs.declared.policy.Condition.TheVariants as condition
@@ -54,7 +54,7 @@ row_among [] opcode = None
 row_among (r ∷ rs) opcode = if r.opcode == opcode then Some r else row_among rs opcode
 
 -- the row of the opcode, if it is known
-abbrev pub row_of : ℕ → Option Row
+unfoldable pub row_of : ℕ → Option Row
 row_of opcode = row_among rows opcode
 
 -- ---- one instruction
@@ -62,6 +62,10 @@ row_of opcode = row_among rows opcode
 -- opcode, seven registers, imm, target
 abbrev pub fields : ℕ → List ℕ → ℕ → ℕ → List ℕ
 fields opcode registers imm target = opcode ∷ (take 7 (registers ++ replicate 7 0) ++ (bytes_of 4 imm ++ bytes_of 4 target))
+
+-- the bytes of an instruction of the row, with 0 for the fields that it doesn't use
+abbrev pub row_bytes : Row → List ℕ → ℕ → ℕ → List ℕ
+row_bytes r registers imm target = fields r.opcode (take r.registers registers) (if r.imm then imm else 0) (if r.target then target else 0)
 
 abbrev pub local_bytes : LocalInstr → List ℕ
 local_bytes (local.Const a imm) = fields 1 (a ∷ []) imm 0
@@ -181,6 +185,10 @@ number_at bytes offset n = number_of (take n (drop offset bytes))
 abbrev pub count_at : List ℕ → ℕ
 count_at bytes = number_at bytes 6 2
 
+-- whether the bytes have the raw mark
+abbrev pub is_raw_at : List ℕ → Bool
+is_raw_at bytes = slice_index bytes 5 == 1
+
 -- the fields of the header from offset 5 on are in their ranges
 abbrev pub is_header_in_range : List ℕ → Bool
 is_header_in_range bytes =
@@ -196,33 +204,36 @@ unfoldable pub pieces : ℕ → List ℕ → List (List ℕ)
 pieces zero bytes = []
 pieces (suc n) bytes = take 16 bytes ∷ pieces n (drop 16 bytes)
 
--- the fields that the row doesn't use are 0
-abbrev pub is_unused_zero : Row → List ℕ → Bool
-is_unused_zero r bytes =
-    list_all (λ b. b == 0) (drop r.registers (take 7 (drop 1 bytes)))
-    && ((r.imm || (number_at bytes 8 4 == 0)) && (r.target || (number_at bytes 12 4 == 0)))
+-- the seven registers in the 16 bytes of an instruction
+abbrev pub registers_at : List ℕ → List ℕ
+registers_at bytes = take 7 (drop 1 bytes)
+
+-- of seven registers, imm and target, those that the row doesn't use are 0
+abbrev pub is_unused_zero : Row → List ℕ → ℕ → ℕ → Bool
+is_unused_zero r registers imm target =
+    list_all (λ b. b == 0) (drop r.registers registers) && ((r.imm || (imm == 0)) && (r.target || (target == 0)))
 
 abbrev pub fault_by : Bool → List ℕ → Option Row → Option DecodeFault
 fault_by raw bytes None = fault_if (not raw) fault.UnknownOp
 fault_by raw bytes (Some r) = first_of (
-    fault_if (not (are_registers (take 7 (drop 1 bytes)))) fault.BadRegister
-    ∷ fault_if (not (is_unused_zero r bytes)) fault.UnusedField
+    fault_if (not (are_registers (registers_at bytes))) fault.BadRegister
+    ∷ fault_if (not (is_unused_zero r (registers_at bytes) (number_at bytes 8 4) (number_at bytes 12 4))) fault.UnusedField
     ∷ [])
 
 -- the fault of the 16 bytes of an instruction
 unfoldable pub instr_fault : Bool → List ℕ → Option DecodeFault
 instr_fault raw bytes = fault_by raw bytes (row_of (slice_index bytes 0))
 
--- the fault that is met first, where bytes spell no image
-unfoldable pub first_fault : List ℕ → Option DecodeFault
-first_fault bytes = first_of (
+-- the first fault of the header, or a length that isn't what the header says
+unfoldable pub header_fault : List ℕ → Option DecodeFault
+header_fault bytes = first_of (
     fault_if (nat_lt (length bytes) 20) fault.Short
-    ∷ fault_if (not (is_magic (take 4 bytes))) fault.Magic
+    ∷ fault_if (not (starts_with ◌==◌ bytes magic)) fault.Magic
     ∷ fault_if (not (slice_index bytes 4 == 1)) fault.Version
     ∷ fault_if (not (is_header_in_range bytes)) fault.BadHeader
     ∷ fault_if (not (length bytes == 20 + 16 * count_at bytes)) fault.Length
-    ∷ map (instr_fault (slice_index bytes 5 == 1)) (pieces (count_at bytes) (drop 20 bytes)))
-  where
-    is_magic : List ℕ → Bool
-    is_magic (a ∷ b ∷ c ∷ d ∷ []) = (a == 0x5a) && ((b == 0x4c) && ((c == 0x41) && (d == 0x42)))
-    is_magic _ = false
+    ∷ [])
+
+-- the fault that is met first, where bytes spell no image
+unfoldable pub first_fault : List ℕ → Option DecodeFault
+first_fault bytes = first_of (header_fault bytes ∷ map (instr_fault (is_raw_at bytes)) (pieces (count_at bytes) (drop 20 bytes)))

@@ -1,16 +1,18 @@
-ghost use Rattle.std.specs.Prelude.{◌≡◌, ◌<◌, OnSome};
-ghost use Rattle.zl_code.specs.Image.{instr_at, local_at, call_at};
+ghost use Rattle.std.specs.Prelude.{◌≡◌, ◌≤◌, ◌<◌, ◌==◌, length, OnSome};
+ghost use Rattle.zl_code.specs.Image.{Image as ImageValue, instr_at, local_at, call_at};
+ghost use Rattle.zl_code.specs.declared.image.DecodeFault.TheVariants.{NoMemory};
 
 use crate::instr::{CallInstr, Instr, LocalInstr};
+use std::alloc::{AllocError, AllocFailed};
 use std::marker::Model;
 
 /// A program as it is loaded: instructions, the size of its data memory, and its budget.
 #[derive(Drop)]
 pub struct Image {
-    raw: bool,
-    memory: u32,
-    budget: u32,
-    code: Vec<Instr>,
+    pub(crate) raw: bool,
+    pub(crate) memory: u32,
+    pub(crate) budget: u32,
+    pub(crate) code: Vec<Instr>,
 }
 
 impl Model for Image {
@@ -27,23 +29,62 @@ impl Model for Image {
 }
 
 impl Image {
-    /// How many bytes of data memory a process of the program has.
+    /// The most instructions that an image has.
+    pub const MOST_INSTRUCTIONS: usize = 4096;
+
+    /// The largest data memory, in bytes.
+    pub const MOST_MEMORY: u32 = 65_536;
+
+    /// The largest budget.
+    pub const MOST_BUDGET: u32 = 1_000_000;
+
+    /// Whether the image has the raw mark, under which unknown opcodes may stand.
+    pub fn is_raw(&self) -> bool
+        ensures { result ≡ self.now.raw }
+    {
+        self.raw
+    }
+
+    /// How many bytes of data memory the program has, at most 65,536.
     pub fn memory(&self) -> u32
-        ensures { result ≡ self.now.memory }
+        ensures value { result ≡ self.now.memory }
+        ensures most { result ≤ 65536 }
     {
         self.memory
     }
 
-    /// The n-th instruction, from 0.
+    /// How many instructions a checked program does at most between its waits and its exit, 1 to
+    /// 1,000,000.
+    pub fn budget(&self) -> u32
+        ensures value { result ≡ self.now.budget }
+        ensures least { 1 ≤ result }
+        ensures most { result ≤ 1000000 }
+    {
+        self.budget
+    }
+
+    /// How many instructions there are, at most 4,096.
+    pub fn len(&self) -> usize
+        ensures value { result ≡ length self.now.code }
+        ensures most { result ≤ 4096 }
+    {
+        self.code.len()
+    }
+
+    /// Whether there is no instruction.
+    pub fn is_empty(&self) -> bool
+        ensures { result ≡ (length self.now.code == 0) }
+    {
+        self.code.is_empty()
+    }
+
+    /// The instruction of this number, counted from 0; nothing past the last.
     pub fn instr_at(&self, n: usize) -> Option<Instr>
-        ensures value { result ≡ instr_at self.now n }
-        ensures within { OnSome result (n < 4096) }
+        ensures { result ≡ instr_at self.now n }
     {
         self.code.get(n).copied()
     }
-}
 
-impl Image {
     /// The n-th instruction, if it is a local one.
     pub fn local_at(&self, n: usize) -> Option<LocalInstr>
         ensures value { result ≡ local_at self.now n }
@@ -67,7 +108,23 @@ impl Image {
     }
 }
 
-/// Why bytes are no image, in the order in which the faults are examined, and want of memory.
+impl From<AllocError> for DecodeFault {
+    ghost from_gives = { λ _ fault. fault ≡ NoMemory };
+
+    fn from(_error: AllocError) -> DecodeFault {
+        DecodeFault::NoMemory
+    }
+}
+
+impl<T: Drop> From<AllocFailed<T>> for DecodeFault {
+    ghost from_gives = { λ _ fault. fault ≡ NoMemory };
+
+    fn from(_error: AllocFailed<T>) -> DecodeFault {
+        DecodeFault::NoMemory
+    }
+}
+
+/// Why bytes are no image, or want of memory; `decode` says in which order they are examined.
 #[derive(Clone, Copy, PartialEq, Eq, Debug)]
 pub enum DecodeFault {
     /// Fewer bytes than a header has.

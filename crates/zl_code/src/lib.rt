@@ -6,6 +6,8 @@
 #![tactic(auto)]
 
 mod boot;
+mod decoding;
+mod encoding;
 mod history;
 mod image;
 mod instr;
@@ -13,7 +15,12 @@ pub mod laws;
 mod register;
 
 pub use boot::{Boot, BootCause, BootFault, Statement};
+pub use decoding::decode;
+pub use encoding::encode;
 pub use history::{CallName, Outcome, ProcState, TraceItem};
 pub use image::{DecodeFault, Image};
 pub use instr::{CallInstr, Instr, LocalInstr};
 pub use register::Register;
+
+#[cfg(test)]
+mod tests;

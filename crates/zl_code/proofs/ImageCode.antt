@@ -1,0 +1,37 @@
+-- The instructions of an image, one after the other.
+use Rattle.std.proofs.Common.{◌≡◌, ℕ, zero, suc, ◌+◌, ◌<◌, Bool, true, List, [], ◌∷◌, ◌++◌, length, get_or, take, map, Option, Some, None, refl, sym, ap, ◌∙◌, arith}
+use Rattle.std.specs.List.{list_all}
+use Rattle.std.proofs.lemmas.Bool.{and_from}
+use Rattle.std.proofs.lemmas.List.{map_more, map-append, take_more}
+use Rattle.std.proofs.lemmas.List.Folds.{list_all-append}
+use Rattle.zl_code.specs.declared.image.DecodeFault.{DecodeFault}
+use Rattle.zl_code.specs.declared.instr.Instr.{Instr}
+use Rattle.zl_code.specs.Spells.{first_of, instr_bytes}
+
+first_of-none : (fault : Option DecodeFault) (rest : List (Option DecodeFault)) → first_of (fault ∷ rest) ≡ None → (fault ≡ None) × (first_of rest ≡ None)
+first_of-none None rest h = (refl, h)
+first_of-none (Some f) rest h = absurd cc
+
+first_of-append : (xs ys : List (Option DecodeFault)) → first_of xs ≡ None → first_of (xs ++ ys) ≡ first_of ys
+first_of-append [] ys h = refl
+first_of-append (None ∷ xs) ys h = first_of-append xs ys h
+first_of-append (Some f ∷ xs) ys h = absurd cc
+
+-- the first fault is that of the first piece with one
+pub first_fault_at : (f : List ℕ → Option DecodeFault) (pieces : List (List ℕ)) (i : ℕ) (d : List ℕ) (fault : DecodeFault) → i < length pieces → first_of (map f (take i pieces)) ≡ None → f (get_or pieces i d) ≡ Some fault → first_of (map f pieces) ≡ Some fault
+first_fault_at f [] i d fault lt h here = absurd (omega arith)
+first_fault_at f (x ∷ xs) zero d fault lt h here = rw here refl
+first_fault_at f (x ∷ xs) (suc i) d fault lt h here =
+    let parts = first_of-none (f x) (map f (take i xs)) h in
+    rw parts.0 (first_fault_at f xs i d fault (omega arith) parts.1 here)
+
+-- one more piece without a fault
+pub no_fault_more : (f : List ℕ → Option DecodeFault) (pieces : List (List ℕ)) (i : ℕ) (d : List ℕ) → i < length pieces → first_of (map f (take i pieces)) ≡ None → f (get_or pieces i d) ≡ None → first_of (map f (take (i + 1) pieces)) ≡ None
+no_fault_more f pieces i d lt h here = ap first_of (map_more f pieces i d lt) ∙ first_of-append (map f (take i pieces)) (f (get_or pieces i d) ∷ []) h ∙ rw here refl
+
+-- one more instruction
+pub bytes_more : (code : List Instr) (instr : Instr) (pieces : List (List ℕ)) (i : ℕ) (d : List ℕ) → i < length pieces → map instr_bytes code ≡ take i pieces → instr_bytes instr ≡ get_or pieces i d → map instr_bytes (code ++ instr ∷ []) ≡ take (i + 1) pieces
+bytes_more code instr pieces i d lt h here = map-append instr_bytes code (instr ∷ []) ∙ (λ k. h k ++ here k ∷ []) ∙ sym (take_more pieces i d lt)
+
+pub list_all_push : (p : Instr → Bool) (code : List Instr) (instr : Instr) → list_all p code ≡ true → p instr ≡ true → list_all p (code ++ instr ∷ []) ≡ true
+list_all_push p code instr h here = list_all-append p code (instr ∷ []) ∙ and_from (list_all p code) (list_all p (instr ∷ [])) h (and_from (p instr) true here refl)

@@ -1,0 +1,12 @@
+use Rattle.std.proofs.Common.{◌≡◌, true, None, map, take}
+use Rattle.std.specs.List.{list_all}
+use Rattle.zl_code.specs.Spells.{instr_bytes, is_instr_in_range, instr_fault, first_of}
+use Rattle.zl_code.proofs.decoding.code_of.Given as goal
+
+abbrev pub invariant-loop-piece : goal.invariant-loop-piece
+invariant-loop-piece l =
+    record {
+      bytes : map instr_bytes l.code.items ≡ take l.piece-index l.pieces;
+      in_range : list_all (is_instr_in_range l.raw) l.code.items ≡ true;
+      none : first_of (map (instr_fault l.raw) (take l.piece-index l.pieces)) ≡ None;
+    }

@@ -7,6 +7,8 @@ mod input;
 mod output;
 mod scenario;
 mod system;
+#[cfg(test)]
+mod tests;
 mod text;
 
 use engine::step_engine;

@@ -1,0 +1,186 @@
+//! The engine on texts, and on readers and writers that fail.
+
+use crate::engine::step_engine;
+use crate::fault::{EngineFault, Verdict};
+use crate::input::MOST_INPUT;
+use std::alloc::Global;
+use std::io;
+use std::io::{Read, Write};
+use std::process::Abort;
+use std::test::Fail;
+
+const DONE: &str = "end schedule\n";
+
+/// What the engine writes, and how it ends.
+fn answer(alloc: Global, mut input: &[u8]) -> Result<(Verdict, Vec<u8>), EngineFault> {
+    let mut output = Vec::new(alloc);
+    let verdict = step_engine(alloc, &mut input, &mut output)?;
+    Ok((verdict, output))
+}
+
+fn is_answered(rt: &impl Abort, alloc: Global, input: &[u8], verdict: Verdict, text: &str) {
+    let (ended, output) = answer(alloc, input).expect(rt, "an answer");
+    assert!(rt;
+        ended == verdict && output.as_slice() == text.as_bytes(),
+        "at {input:?}: {output:?}"
+    );
+}
+
+#[test]
+fn answers_texts_without_programs(rt: HostRuntime) {
+    let done = [
+        "",
+        "\n",
+        "  \n# a comment\n   ",
+        "limit 1000000",
+        "limit 0\nlimit 7\n",
+        "  limit   0010  \n",
+        "--\n",
+        "--\n9 0\n\n# no turn\n2 1000000",
+    ];
+    for input in done {
+        is_answered(&rt, rt.alloc(), input.as_bytes(), Verdict::Done, DONE);
+    }
+    let refused = [
+        ("process 1 0 0", "refused 1 Unknown\n"),
+        ("\n\nprocess 1 0\n", "refused 3 Syntax\n"),
+        ("process 1 0 0 1:2", "refused 1 Syntax\n"),
+        ("process 1 0 x", "refused 1 Syntax\n"),
+        ("process 1 0 18446744073709551615", "refused 1 Unknown\n"),
+        ("process 1 0 18446744073709551616", "refused 1 Syntax\n"),
+        ("limit -1", "refused 1 Syntax\n"),
+        ("limit 1000001\nlimit 1", "refused 1 Limit\n"),
+        ("# \u{e9}", "refused 1 Syntax\n"),
+        (" # no comment", "refused 1 Syntax\n"),
+        ("limit 1\r\n", "refused 1 Syntax\n"),
+        ("limit\t1\n", "refused 1 Syntax\n"),
+        ("--\n--", "refused 2 Syntax\n"),
+        ("--\nlimit 1", "refused 2 Syntax\n"),
+        ("--\n2 1000001", "refused 2 Syntax\n"),
+        ("--\n2 1 1", "refused 2 Syntax\n"),
+        ("program checked hex\nend\n", "refused 1 Syntax\n"),
+        ("program raw\n", "refused 1 Syntax\n"),
+        ("program raw hex\n", "refused 1 Syntax\n"),
+        ("\nprogram raw hex\n5\nend\n", "refused 2 Syntax\n"),
+        ("program raw hex\n5A\nend\n", "refused 1 Syntax\n"),
+        ("program raw hex\n--\nend\n", "refused 1 Syntax\n"),
+        ("program raw hex\n# \u{e9}\nend\n", "refused 1 Syntax\n"),
+        (
+            "program raw hex\n5a 4\nc\n\n# odd\n end \n",
+            "refused 1 Program\n",
+        ),
+    ];
+    for (input, line) in refused {
+        is_answered(&rt, rt.alloc(), input.as_bytes(), Verdict::Refused, line);
+    }
+}
+
+#[test]
+fn reads_as_far_as_the_limit(rt: HostRuntime) -> Result<(), Fail> {
+    let mut text = vec![in rt.alloc(); b'#'; MOST_INPUT]?;
+    is_answered(&rt, rt.alloc(), text.as_slice(), Verdict::Done, DONE);
+    text.push(b'#')?;
+    is_answered(
+        &rt,
+        rt.alloc(),
+        text.as_slice(),
+        Verdict::Refused,
+        "refused 0 Limit\n",
+    );
+    Ok(())
+}
+
+/// A reader that gives few bytes a call, and is interrupted after so many calls.
+#[derive(Drop)]
+struct Slow<'a> {
+    rest: &'a [u8],
+    most: usize,
+    calls: usize,
+}
+
+impl Read for Slow<'_> {
+    fn read(&mut self, buf: &mut [u8]) -> io::Result<usize> {
+        if self.calls == 0 {
+            return Err(io::Error::from(io::ErrorKind::Interrupted));
+        }
+        self.calls -= 1;
+        let count = self.most.min(buf.len()).min(self.rest.len());
+        buf[..count].copy_from_slice(&self.rest[..count]);
+        self.rest = &self.rest[count..];
+        Ok(count)
+    }
+}
+
+/// A writer that takes few bytes a call, and is interrupted after so many calls.
+#[derive(Drop)]
+struct Narrow {
+    taken: Vec<u8>,
+    most: usize,
+    calls: usize,
+}
+
+impl Write for Narrow {
+    fn write(&mut self, buf: &[u8]) -> io::Result<usize> {
+        if self.calls == 0 {
+            return Err(io::Error::from(io::ErrorKind::Interrupted));
+        }
+        self.calls -= 1;
+        let count = self.most.min(buf.len());
+        self.taken.extend_from_slice(&buf[..count])?;
+        Ok(count)
+    }
+
+    fn flush(&mut self) -> io::Result<()> {
+        Ok(())
+    }
+}
+
+#[test]
+fn reports_a_fault_of_the_reader(rt: HostRuntime) {
+    // Seven calls give the bytes, and the eighth the end.
+    for calls in 0..9 {
+        let mut reader = Slow {
+            rest: b"limit 1",
+            most: 1,
+            calls,
+        };
+        let mut output = Vec::new(rt.alloc());
+        match step_engine(rt.alloc(), &mut reader, &mut output) {
+            Ok(Verdict::Done) => assert!(rt; calls == 8 && output.as_slice() == DONE.as_bytes()),
+            Err(EngineFault::Read) => assert!(rt; calls < 8 && output.is_empty()),
+            _ => panic!(rt; "after {calls} calls"),
+        }
+    }
+}
+
+#[test]
+fn reports_a_fault_of_the_writer(rt: HostRuntime) {
+    // Thirteen calls take a byte each.
+    for calls in 0..14 {
+        let mut input: &[u8] = b"";
+        let mut writer = Narrow {
+            taken: Vec::new(rt.alloc()),
+            most: 1,
+            calls,
+        };
+        match step_engine(rt.alloc(), &mut input, &mut writer) {
+            Ok(Verdict::Done) => assert!(rt;
+                calls == 13 && writer.taken.as_slice() == DONE.as_bytes()
+            ),
+            Err(EngineFault::Write) => assert!(rt; calls < 13 && writer.taken.len() == calls),
+            _ => panic!(rt; "after {calls} calls"),
+        }
+    }
+}
+
+#[test]
+fn reports_a_writer_that_takes_no_byte(rt: HostRuntime) {
+    let mut input: &[u8] = b"limit";
+    let mut writer = Narrow {
+        taken: Vec::new(rt.alloc()),
+        most: 0,
+        calls: 2,
+    };
+    let ended = step_engine(rt.alloc(), &mut input, &mut writer);
+    assert!(rt; matches!(ended, Err(EngineFault::Write)) && writer.calls == 1);
+}

@@ -9,7 +9,7 @@ use crate::scenario::numbers::{hex_digit, number};
 use crate::scenario::words::{is_ascii, is_comment, split_words};
 use std::alloc::{AllocError, AllocFailed, Global};
 use zl_calls::{Library, Program};
-use zl_code::{Boot, Image, Statement};
+use zl_code::{Boot, DecodeFault, Image, Statement, decode};
 use zl_rights::Pid;
 
 /// The most programs of a scenario.
@@ -222,6 +222,10 @@ impl Reader {
 }
 
 /// The image that the bytes spell; `Program` where they spell none.
-fn decode_program(_alloc: Global, _bytes: &[u8]) -> Result<Image, Fault> {
-    Err(Fault::Refused(Cause::Program))
+fn decode_program(alloc: Global, bytes: &[u8]) -> Result<Image, Fault> {
+    match decode(alloc, bytes) {
+        Ok(image) => Ok(image),
+        Err(DecodeFault::NoMemory) => Err(Fault::NoMemory),
+        Err(_) => Err(Fault::Refused(Cause::Program)),
+    }
 }

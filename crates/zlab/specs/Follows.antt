@@ -19,10 +19,10 @@ pub data Follows (lib : Library) : World → List ℕ → List TraceItem → Wor
   ends : (w : World) → Follows lib w [] [] w
   -- a turn of a process that isn't ready gives nothing
   skips : (w w2 : World) (p : ℕ) (turns : List ℕ) (items : List TraceItem)
-    → is_process w is_ready p ≡ false → Follows lib w turns items w2 → Follows lib w (p ∷ turns) items w2
+      → is_process w is_ready p ≡ false → Follows lib w turns items w2 → Follows lib w (p ∷ turns) items w2
   -- a turn of a ready process is its one step
   goes : (w mid w2 : World) (p : ℕ) (x : TraceItem) (turns : List ℕ) (items : List TraceItem)
-    → is_process w is_ready p ≡ true → Step lib w p x mid → Follows lib mid turns items w2 → Follows lib w (p ∷ turns) (x ∷ items) w2
+      → is_process w is_ready p ≡ true → Step lib w p x mid → Follows lib mid turns items w2 → Follows lib w (p ∷ turns) (x ∷ items) w2
 
 -- the items follow the turns up to a turn of a process that is ready in the last world
 pub record StopsBefore (lib : Library) (w : World) (turns : List ℕ) (items : List TraceItem) (w2 : World) : Type 0 where

@@ -1,5 +1,5 @@
 -- A run that is computed along a schedule follows it.
-use Rattle.std.proofs.Common.{◌≡◌, ℕ, Bool, true, false, List, [], ◌∷◌, map, refl, ap, Option, Some, None}
+use Rattle.std.proofs.Common.{◌≡◌, ℕ, Bool, true, false, List, [], ◌∷◌, map, refl, ap, Some, None}
 use Rattle.std.specs.Prelude.{is_some}
 use Rattle.zl_rights.specs.World.{World}
 use Rattle.zl_rights.specs.Signals.{is_process, is_ready}

@@ -1,5 +1,5 @@
 -- A history that follows a schedule, turn by turn, and how it ends.
-use Rattle.std.specs.Prelude.{ℕ, ◌≡◌, ◌≤◌, Bool, true, false, List, [], ◌∷◌, ◌++◌, length, replicate, IsTrue}
+use Rattle.std.specs.Prelude.{ℕ, ◌≡◌, ◌≤◌, true, false, List, [], ◌∷◌, ◌++◌, length, replicate, IsTrue}
 use Rattle.std.specs.List.{flat_map}
 use Rattle.zl_rights.specs.World.{World}
 use Rattle.zl_rights.specs.Signals.{is_process, is_ready}

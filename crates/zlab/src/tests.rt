@@ -11,6 +11,38 @@ use std::test::Fail;
 
 const DONE: &str = "end schedule\n";
 
+/// A program that makes an event, signals, duplicates and closes it, and exits.
+const PROGRAM: &str = "program raw hex
+5a4c41420101080000000000640000000000 0000
+46020300000000000000000000000000
+01050000000000000800000000000000
+47020300050000000000000000000000
+41020304000000000000008000000000
+40020300000000000000000000000000
+40020400000000000000000000000000
+40020400000000000000000000000000
+53000000000000000000000000000000
+end
+";
+
+const TRACE: &str = "2 event_create OK
+2 run 1
+2 signal OK
+2 dup OK
+2 close OK
+2 close OK
+2 close OK
+2 process_exit ended 0
+process 2 ended 0
+end schedule
+";
+
+/// The shortest program, of no instruction.
+const EMPTY_PROGRAM: &str = "program raw hex
+5a4c4142 0101 0000 00000000 01000000 00000000
+end
+";
+
 /// What the engine writes, and how it ends.
 fn answer(alloc: Global, mut input: &[u8]) -> Result<(Verdict, Vec<u8>), EngineFault> {
     let mut output = Vec::new(alloc);
@@ -73,6 +105,84 @@ fn answers_texts_without_programs(rt: HostRuntime) {
     for (input, line) in refused {
         is_answered(&rt, rt.alloc(), input.as_bytes(), Verdict::Refused, line);
     }
+}
+
+#[test]
+fn runs_a_program(rt: HostRuntime) -> Result<(), Fail> {
+    let cases = [
+        ("process 1 0 0\n--\n2 20\n", Verdict::Done, TRACE),
+        // A process that isn't ready is skipped, and so is a number that is none.
+        (
+            "process 1 0 0\n--\n7 9\n2 3\n2 1000000\n2 1",
+            Verdict::Done,
+            TRACE,
+        ),
+        ("process 1 0 0\nlimit 8\n--\n2 9", Verdict::Done, TRACE),
+        (
+            "process 1 0 0\nlimit 0\n--\n2 20\n",
+            Verdict::Done,
+            "process 2 ready\nend limit\n",
+        ),
+        (
+            "limit 1\nprocess 1 0 0\nprocess 1 0 0\n--\n3 1\n2 0\n2 1\n",
+            Verdict::Done,
+            "3 event_create OK\nprocess 2 ready\nprocess 3 ready\nend limit\n",
+        ),
+        ("process 1 1 0", Verdict::Refused, "refused 12 Unknown\n"),
+        ("process 1 1 x", Verdict::Refused, "refused 12 Syntax\n"),
+        // A fault of booting comes first where its line does.
+        (
+            "process 2 0 0\nnonsense",
+            Verdict::Refused,
+            "refused 12 Unknown\n",
+        ),
+        (
+            "process 1 0 0\nnonsense",
+            Verdict::Refused,
+            "refused 13 Syntax\n",
+        ),
+    ];
+    for (rest, verdict, text) in cases {
+        let input = format!(in rt.alloc(); "{PROGRAM}{rest}")?;
+        is_answered(&rt, rt.alloc(), input.as_bytes(), verdict, text);
+    }
+    Ok(())
+}
+
+#[test]
+fn counts_programs_and_processes(rt: HostRuntime) -> Result<(), Fail> {
+    let mut input = String::new(rt.alloc());
+    for _ in 0..256 {
+        input.push_str(EMPTY_PROGRAM)?;
+    }
+    is_answered(&rt, rt.alloc(), input.as_bytes(), Verdict::Done, DONE);
+    let wrong = format!(in rt.alloc(); "{input}program raw hex\n00\nend")?;
+    is_answered(
+        &rt,
+        rt.alloc(),
+        wrong.as_bytes(),
+        Verdict::Refused,
+        "refused 769 Program\n",
+    );
+    let too_many = format!(in rt.alloc(); "{input}{EMPTY_PROGRAM}")?;
+    is_answered(
+        &rt,
+        rt.alloc(),
+        too_many.as_bytes(),
+        Verdict::Refused,
+        "refused 769 Limit\n",
+    );
+    for _ in 0..65 {
+        input.push_str("process 1 255 9\n")?;
+    }
+    is_answered(
+        &rt,
+        rt.alloc(),
+        input.as_bytes(),
+        Verdict::Refused,
+        "refused 833 Limit\n",
+    );
+    Ok(())
 }
 
 #[test]

@@ -1,2 +1,4 @@
 pub mod Tables
 pub mod Places
+pub mod Quiet
+pub mod Refused

@@ -2,3 +2,4 @@ pub mod Tables
 pub mod Places
 pub mod Quiet
 pub mod Refused
+pub mod Positions

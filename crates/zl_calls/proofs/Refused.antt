@@ -9,18 +9,23 @@ use Rattle.zl_rights.specs.declared.entry.Entry.{Entry}
 use Rattle.zl_rights.specs.declared.policy.Action.{Action}
 use Rattle.zl_rights.specs.declared.policy.Condition.{Condition}
 use Rattle.zl_rights.specs.declared.policy.Condition.TheVariants as condition
-use Rattle.zl_rights.specs.Numbers.{bits, within, condition_number, DUPLICATE}
+use Rattle.zl_rights.specs.Numbers.{bits, within, condition_number, narrowed, DUPLICATE}
+use Rattle.zl_rights.specs.Signals.{is_empty}
 use Rattle.zl_rights.specs.Map.{Map, get}
 use Rattle.zl_rights.specs.World.{World, Process as ProcessValue, Object as ObjectValue}
 use Rattle.zl_code.specs.declared.history.Outcome.{Outcome}
 use Rattle.zl_code.specs.declared.history.Outcome.TheVariants as outcome
 use Rattle.zl_code.specs.Image.{Library}
-use Rattle.zl_code.specs.Request.{close, dup, event_create, signal, process_exit}
-use Rattle.zl_code.specs.Tests.{policy_in, body_in, body_of, action_of, faults, creates, parent_of, examined, operand, operand_of, by_policy, has_room, has_koids, handles_to, entry_at, object_at, table_of, copy_of, answer_if}
+use Rattle.zl_code.specs.Request.{Site, Request, dup, event_create}
+use Rattle.zl_code.specs.Tests.{policy_in, body_in, body_of, action_of, faults, creates, parent_of, examined, operand, operand_of, by_policy, has_room, has_koids, handles_to, entry_at, object_at, table_of, copy_of, with_rights, answer_if, first, any, koid_in}
 use Rattle.zl_code.specs.Refusals.{refusal, handle_operands, listed}
+use Rattle.zl_code.specs.Effects.{gives}
+use Rattle.zl_code.specs.Calls.{Calls, CallBy, WantsMemory, Refused, grows, replied, taken}
 use Rattle.zl_calls.specs.declared.objects.Body.{Body}
 use Rattle.zl_calls.specs.declared.objects.Body.TheVariants as body
 use Rattle.zl_calls.specs.declared.objects.Object.{Object}
+use Rattle.zl_calls.specs.Registry.{has_place}
+use Rattle.zl_calls.specs.Parts.{IsRefusedBy, dup_refusal, dup_refusal_of, event_refusal, has_room_in, status_if, first_status}
 use Rattle.zl_calls.specs.World.{object_entry, body_value}
 
 -- ---- policy
@@ -34,11 +39,11 @@ empty_body body.RootJob = refl
 empty_body (body.Process job lives) = refl
 empty_body body.Event = refl
 
-pub empty_policies : (os : List Object) (k : ℕ) → policy_in (body_in (get (map object_entry os) k)) ≡ []
+pub empty_policies : (os : Map Object) (k : ℕ) → policy_in (body_in (get (map object_entry os) k)) ≡ []
 unfolding get
 empty_policies [] k = refl
-empty_policies (o ∷ os) k = elim (cases_Bool (o.koid == k)) as (λ _. policy_in (body_in (get (map object_entry (o ∷ os)) k)) ≡ []) [
-  | inl here ↦ rw here (empty_body o.body)
+empty_policies (o ∷ os) k = elim (cases_Bool (o.0 == k)) as (λ _. policy_in (body_in (get (map object_entry (o ∷ os)) k)) ≡ []) [
+  | inl here ↦ rw here (empty_body o.1.body)
   | inr apart ↦ rw apart (empty_policies os k)
 ]
 
@@ -51,23 +56,57 @@ module _ (w : World) (free : NoPolicy w) (p : ℕ) where
   unfolding creates get
   may_create c = rw (free.empty (parent_of w p)) refl
 
--- ---- what each call may be refused for, in parts
 
--- this status, where the test passes
-abbrev pub status_if : Bool → Status → Option Status
-status_if true s = Some s
-status_if false s = None
-
--- the first that is there
-abbrev pub first_status : Option Status → Option Status → Option Status
-first_status None later = later
-first_status (Some s) later = Some s
-
--- the refusal of a handle of any kind with the needed rights
-abbrev pub handle_refusal : Option Entry → ℕ → Option Status
-handle_refusal None needed = Some status.BadHandle
-handle_refusal (Some e) needed = status_if (not (within needed (bits e.rights))) status.AccessDenied
+-- ---- the refusals of each call, in parts
 
 abbrev pub answers : Option Status → Option Outcome
 answers None = None
 answers (Some s) = Some (outcome.Answered s)
+
+-- an answer that refuses the call, or wants memory
+module _ (lib : Library) (w : World) (p : ℕ) (s : Site) where
+  no_values : (request : Request) (answer : Status) → gives w p request answer [] ≡ []
+  unfolding gives
+  no_values request status.Ok = refl
+  no_values request _ = refl
+
+  pub refused_calls : (o : Option Status) (answer : Status) (w2 : World) → refusal lib w p s.request ≡ answers o → IsRefusedBy o answer → IsTrue (grows s.request)
+      → w2 ≡ replied (taken w p s) p s answer [] → Calls lib w p s (outcome.Answered answer) w2
+  refused_calls None answer w2 refused by may_grow is =
+      (WantsMemory, rw refused (may_grow, ap (λ (x : Status). outcome.Answered x) by, is ∙ rw (by, no_values s.request status.NoMemory) refl))
+  refused_calls (Some r) answer w2 refused by may_grow is =
+      (Refused, rw refused (ap (λ (x : Status). outcome.Answered x) by, is ∙ rw (by, no_values s.request r) refl))
+
+module _ (lib : Library) (w : World) (free : NoPolicy w) (p : ℕ) (objects : Map Object) where
+  abbrev dup_with : ℕ → Option Entry → Option Outcome
+  dup_with asked o =
+      first (first (operand_of w p any DUPLICATE o ∷ None ∷ [])
+      ∷ None
+      ∷ answer_if (is_empty (copy_of o asked)) status.InvalidArgs
+      ∷ answer_if (not (has_room w p 1) || nat_le (2 ^ 62) (handles_to w (koid_in o))) status.NoResources
+      ∷ [])
+
+  by_tests : (a b c d : Bool) → first (first (answer_if (not a) status.AccessDenied ∷ None ∷ []) ∷ None ∷ answer_if b status.InvalidArgs ∷ answer_if (not c || d) status.NoResources ∷ [])
+      ≡ answers (first_status (status_if (not a) status.AccessDenied) (first_status (status_if b status.InvalidArgs) (status_if (not c || not (not d)) status.NoResources)))
+  by_tests false b c d = refl
+  by_tests true true c d = refl
+  by_tests true false false d = refl
+  by_tests true false true false = refl
+  by_tests true false true true = refl
+
+  pub dup_refused : ((k : ℕ) → has_place (get objects k) ≡ not (nat_le (2 ^ 62) (handles_to w k)))
+      → (h asked : ℕ) → refusal lib w p (dup h asked) ≡ answers (dup_refusal (table_of w p) objects h asked)
+  unfolding refusal handle_operands examined operand listed has_room
+  dup_refused counts h asked = by_entry (get (table_of w p) h)
+    where
+      by_entry : (o : Option Entry) → dup_with asked o ≡ answers (dup_refusal_of (table_of w p) objects asked o)
+      by_entry None = ap (λ (x : Option Outcome). first (first (x ∷ None ∷ []) ∷ None ∷ answer_if true status.InvalidArgs ∷ answer_if (not (has_room w p 1) || nat_le (2 ^ 62) (handles_to w 0)) status.NoResources ∷ [])) (fault_answers w free p condition.BadHandle status.BadHandle)
+      by_entry (Some e) = rw (counts e.koid) (by_tests (within DUPLICATE (bits e.rights)) (is_empty (with_rights e (narrowed e.rights asked))) (has_room_in (table_of w p)) (nat_le (2 ^ 62) (handles_to w e.koid)))
+
+  pub event_refused : refusal lib w p event_create ≡ answers (event_refusal (table_of w p) w.next_koid)
+  unfolding refusal handle_operands examined listed has_room has_koids
+  event_refused = rw (may_create w free p condition.NewEvent) (by_test (has_room_in (table_of w p) && nat_le (w.next_koid + 1) (2 ^ 62)))
+    where
+      by_test : (b : Bool) → first (None ∷ None ∷ answer_if (not b) status.NoResources ∷ []) ≡ answers (status_if (not b) status.NoResources)
+      by_test true = refl
+      by_test false = refl

@@ -1,3 +1,5 @@
 pub mod Program
 pub mod Cpu
 pub mod World
+pub mod Registry
+pub mod Parts

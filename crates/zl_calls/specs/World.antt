@@ -15,6 +15,7 @@ use Rattle.zl_calls.specs.declared.objects.Object.{Object}
 use Rattle.zl_calls.specs.declared.process.State.{State}
 use Rattle.zl_calls.specs.declared.process.State.TheVariants as state
 use Rattle.zl_calls.specs.declared.process.Process.{Process}
+use Rattle.zl_calls.specs.Registry.{Registry}
 
 -- the programs of a lab, and its world
 pub record Lab : Type 0 where
@@ -47,17 +48,17 @@ object_value o = record { body = body_value o.body; raised = o.raised.0 }
 abbrev pub process_entry : Process → ℕ × ProcessValue
 process_entry p = (p.pid, process_value p)
 
-abbrev pub object_entry : Object → ℕ × ObjectValue
-object_entry o = (o.koid, object_value o)
+abbrev pub object_entry : ℕ × Object → ℕ × ObjectValue
+object_entry e = (e.0, object_value e.1)
 
 -- the world of these processes and objects; nothing blocks or waits yet
-abbrev pub world_value : List Process → List Object → ℕ → World
-world_value processes objects next_koid = record {
+abbrev pub world_value : List Process → Registry → World
+world_value processes registry = record {
   processes = map process_entry processes;
-  objects = map object_entry objects;
+  objects = map object_entry registry.objects;
   waits = [];
   blocked = [];
-  next_koid = next_koid;
+  next_koid = registry.next_koid;
   waits_made = 0;
 }
 

@@ -1,7 +1,12 @@
 //! The system calls, each over its process and the objects, with the answer as the result.
 
-ghost use Rattle.std.specs.Prelude.{◌≡◌, ◌<◌, ◌^◌};
+ghost use Rattle.std.specs.Prelude.{◌≡◌, ◌<◌, ◌^◌, [], ◌∷◌, length, IfOk, IfErr, OnErr};
+ghost use Rattle.zl_rights.specs.Numbers.{bits};
 ghost use Rattle.zl_code.specs.Effects.{signed_word};
+ghost use Rattle.zl_code.specs.Local.{reg};
+ghost use Rattle.zl_code.specs.Request.{site, dup, event_create};
+ghost use Rattle.zl_table.specs.Table.{Inserts, looked_up};
+ghost use Rattle.zl_calls.specs.Parts.{IsRefusedBy, Replies, Dups, dup_refusal, CreatesEvent, event_refusal};
 
 use crate::objects::{Body, Objects};
 use crate::process::Process;
@@ -9,7 +14,7 @@ use bitflags::Flags;
 use std::alloc::Global;
 use zl_code::Register;
 use zl_rights::{Entry, HValue, Kind, Rights, Signals, Status, narrow};
-use zl_table::{InsertFault, Table};
+use zl_table::Table;
 
 /// Closes the handle; 0 is answered OK. The handle's register becomes 0 on every answer.
 ///
@@ -58,15 +63,18 @@ pub fn dup(
     handle: Register,
     copy: Register,
     asked: u32,
-) -> Status
+) -> Result<HValue, Status>
     requires { process.old.cpu.counter < 2 ^ 32 }
-    ensures { process.new.state ≡ process.old.state }
+    ensures ok { IfOk result (λ made. Dups process.old.table objects.old (reg process.old.cpu handle) asked made process.new.table objects.new) }
+    ensures err { IfErr result (IsRefusedBy (dup_refusal process.old.table.entries objects.old.objects (reg process.old.cpu handle) asked)) }
+    ensures replied { Replies (site (dup (reg process.old.cpu handle) asked) [] (status ∷ copy ∷ [])) result process.old process.new }
+    ensures same_table { OnErr result (process.new.table ≡ process.old.table) }
+    ensures same_objects { OnErr result (objects.new ≡ objects.old) }
 {
     let value = process.cpu.register(handle);
-    match dup_value(&mut process.table, objects, value, asked) {
-        Ok(made) => process.give(status, copy, made),
-        Err(refused) => process.refuse(status, copy, refused),
-    }
+    let answer = dup_value(&mut process.table, objects, value, asked);
+    process.answer_made(status, copy, answer);
+    answer
 }
 
 fn dup_value(
@@ -74,7 +82,12 @@ fn dup_value(
     objects: &mut Objects,
     value: u64,
     asked: u32,
-) -> Result<HValue, Status> {
+) -> Result<HValue, Status>
+    ensures ok { IfOk result (λ made. Dups table.old objects.old value asked made table.new objects.new) }
+    ensures err { IfErr result (IsRefusedBy (dup_refusal table.old.entries objects.old.objects value asked)) }
+    ensures same_table { OnErr result (table.new ≡ table.old) }
+    ensures same_objects { OnErr result (objects.new ≡ objects.old) }
+{
     let entry = look_up(table, value, Rights::DUPLICATE)?;
     let rights = narrow(entry.rights, asked)?;
     if table.len() >= Table::CAPACITY || !objects.may_hold(entry.koid) {
@@ -94,21 +107,29 @@ pub fn event_create(
     objects: &mut Objects,
     status: Register,
     event: Register,
-) -> Status
+) -> Result<HValue, Status>
     requires { process.old.cpu.counter < 2 ^ 32 }
-    ensures { process.new.state ≡ process.old.state }
+    ensures ok { IfOk result (λ made. CreatesEvent process.old.table objects.old made process.new.table objects.new) }
+    ensures err { IfErr result (IsRefusedBy (event_refusal process.old.table.entries objects.old.next_koid)) }
+    ensures replied { Replies (site event_create [] (status ∷ event ∷ [])) result process.old process.new }
+    ensures same_table { OnErr result (process.new.table ≡ process.old.table) }
+    ensures same_objects { OnErr result (objects.new ≡ objects.old) }
 {
-    match create_event(&mut process.table, objects) {
-        Ok(made) => process.give(status, event, made),
-        Err(refused) => process.refuse(status, event, refused),
-    }
+    let answer = create_event(&mut process.table, objects);
+    process.answer_made(status, event, answer);
+    answer
 }
 
-fn create_event(table: &mut Table, objects: &mut Objects) -> Result<HValue, Status> {
+fn create_event(table: &mut Table, objects: &mut Objects) -> Result<HValue, Status>
+    ensures ok { IfOk result (λ made. CreatesEvent table.old objects.old made table.new objects.new) }
+    ensures err { IfErr result (IsRefusedBy (event_refusal table.old.entries objects.old.next_koid)) }
+    ensures same_table { OnErr result (table.new ≡ table.old) }
+    ensures same_objects { OnErr result (objects.new ≡ objects.old) }
+{
     if table.len() >= Table::CAPACITY || !objects.has_koid() {
         return Err(Status::NoResources);
     }
-    let Ok(koid) = objects.create(Body::Event) else {
+    let Ok(koid) = objects.create(Body::Event, 1) else {
         return Err(Status::NoMemory);
     };
     let entry = Entry {
@@ -117,10 +138,7 @@ fn create_event(table: &mut Table, objects: &mut Objects) -> Result<HValue, Stat
         rights: Kind::Event.default_rights(),
     };
     match insert(table, entry) {
-        Ok(made) => {
-            objects.hold(koid);
-            Ok(made)
-        }
+        Ok(made) => Ok(made),
         Err(refused) => {
             objects.take_back(koid);
             Err(refused)
@@ -223,17 +241,27 @@ fn signed_word(value: u64) -> i32
 }
 
 // The handle of any kind at the value, if it has the rights.
-fn look_up(table: &Table, value: u64, rights: Rights) -> Result<Entry, Status> {
+fn look_up(table: &Table, value: u64, rights: Rights) -> Result<Entry, Status>
+    ensures { result ≡ looked_up table.now.entries value [] (bits rights) }
+{
+    if table.len() == 0 {
+        return Err(Status::BadHandle);
+    }
     match HValue::try_from(value) {
         Ok(value) => table.lookup(value, &[], rights),
         Err(_) => Err(Status::BadHandle),
     }
 }
 
-fn insert(table: &mut Table, entry: Entry) -> Result<HValue, Status> {
+// The entry goes into the table, which has to have place for it. Only memory can be refused.
+fn insert(table: &mut Table, entry: Entry) -> Result<HValue, Status>
+    requires { length table.old.entries < 1024 }
+    ensures ok { IfOk result (λ value. Inserts table.old entry value table.new) }
+    ensures err { IfErr result (λ refused. refused ≡ Status.NoMemory) }
+    ensures unchanged { OnErr result (table.new ≡ table.old) }
+{
     match table.insert(entry) {
         Ok(value) => Ok(value),
-        Err(InsertFault::Full(_)) => Err(Status::NoResources),
-        Err(InsertFault::NoMemory(_)) => Err(Status::NoMemory),
+        Err(_) => Err(Status::NoMemory),
     }
 }

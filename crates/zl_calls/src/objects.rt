@@ -1,7 +1,11 @@
-ghost use Rattle.std.specs.Prelude.{◌<◌, ◌≤◌, ◌^◌, ◌↔◌, IsTrue, length, IfSome, OnSome};
+ghost use Rattle.std.specs.Prelude.{◌≡◌, ◌-◌, ◌==◌, ◌<◌, ◌≤◌, ◌^◌, length, nat_lt, take, IfSome, IfOk, OnErr, OnSome};
+ghost use Rattle.std.specs.List.{position};
+ghost use Rattle.zl_rights.specs.Map.{get};
+ghost use Rattle.zl_calls.specs.Registry.{has_place, held_once_more, with_new, holding};
 
 use bitflags::Flags;
 use std::alloc::{AllocError, Global};
+use std::marker::Model;
 use zl_rights::{Koid, Signals};
 
 /// What an object is.
@@ -21,11 +25,36 @@ pub struct Object {
     pub handles: u64,
 }
 
+impl Object {
+    // The object with one handle more, if one may name it.
+    fn held_once_more(self) -> Object
+        ensures { result ≡ held_once_more self }
+    {
+        if self.handles < Objects::MOST {
+            Object {
+                handles: self.handles + 1,
+                ..self
+            }
+        } else {
+            self
+        }
+    }
+}
+
 /// The objects in rising order of their koids, and the least koid that was not given yet.
 #[derive(Drop)]
 pub struct Objects {
-    pub list: Vec<Object>,
-    pub next_koid: Koid,
+    list: Vec<Object>,
+    next_koid: Koid,
+}
+
+impl Model for Objects {
+    ghost use Rattle.std.specs.Prelude.{map};
+    ghost use Rattle.zl_calls.specs.Registry.{Registry, keyed};
+
+    ghost Value = { Registry };
+
+    ghost view = { λ o. record { objects = map keyed o.list.items; next_koid = o.next_koid } };
 }
 
 impl Objects {
@@ -41,74 +70,80 @@ impl Objects {
             list: Vec::new(alloc),
             next_koid: Objects::ROOT_JOB,
         };
-        objects.create(Body::RootJob)?;
+        objects.create(Body::RootJob, 0)?;
         Ok(objects)
     }
 
     /// Whether a koid is left.
     pub fn has_koid(&self) -> bool
-        ensures { IsTrue result ↔ (self.now.next_koid < 2 ^ 62) }
+        ensures { result ≡ nat_lt self.now.next_koid (2 ^ 62) }
     {
         self.next_koid < Objects::MOST
     }
 
-    /// Makes an object with no handles, and gives its koid. A koid has to be left.
-    pub fn create(&mut self, body: Body) -> Result<Koid, AllocError>
+    /// The least koid that was not given yet.
+    pub fn next_koid(&self) -> Koid
+        ensures { result ≡ self.now.next_koid }
+    {
+        self.next_koid
+    }
+
+    /// Makes an object that so many handles name, and gives its koid. A koid has to be left.
+    pub fn create(&mut self, body: Body, handles: u64) -> Result<Koid, AllocError>
         requires { self.old.next_koid < 2 ^ 62 }
+        ensures koid { IfOk result (λ koid. koid ≡ self.old.next_koid) }
+        ensures created { IfOk result (λ koid. self.new ≡ with_new self.old body handles) }
+        ensures unchanged { OnErr result (self.new ≡ self.old) }
     {
         let koid = self.next_koid;
         self.list.push(Object {
             koid,
             body,
             raised: Signals::empty(),
-            handles: 0,
+            handles,
         })?;
         self.next_koid = koid + 1;
         Ok(koid)
     }
 
     /// Takes the newest object back, with its koid, as if it had not been made.
-    pub fn take_back(&mut self, koid: Koid) {
+    pub fn take_back(&mut self, koid: Koid)
+        ensures { self.new ≡ record { objects = take (length self.old.objects - 1) self.old.objects; next_koid = koid } }
+    {
         self.list.pop();
         self.next_koid = koid;
     }
 
-    /// Where the object stands in the list.
-    pub fn place_of(&self, koid: Koid) -> Option<usize>
-        ensures within { IfSome result (λ place. place < length self.now.list.items) }
-    {
-        self.list.iter().position(|object| object.koid == koid)
-    }
-
     /// Whether the koid is that of a job.
     pub fn is_job(&self, koid: Koid) -> bool {
-        match self.place_of(koid) {
+        match place_of(&self.list, koid) {
             Some(place) => matches!(self.list[place].body, Body::RootJob),
             None => false,
         }
     }
 
     /// Whether one handle more may name the object.
-    pub fn may_hold(&self, koid: Koid) -> bool {
-        match self.place_of(koid) {
+    pub fn may_hold(&self, koid: Koid) -> bool
+        ensures { result ≡ has_place (get self.now.objects koid) }
+    {
+        match place_of(&self.list, koid) {
             Some(place) => self.list[place].handles < Objects::MOST,
             None => false,
         }
     }
 
     /// One handle more names the object, if one may.
-    pub fn hold(&mut self, koid: Koid) {
-        if let Some(place) = self.place_of(koid) {
-            let object = &mut self.list[place];
-            if object.handles < Objects::MOST {
-                object.handles += 1;
-            }
+    pub fn hold(&mut self, koid: Koid)
+        ensures { self.new ≡ holding self.old koid }
+    {
+        if let Some(place) = place_of(&self.list, koid) {
+            self.list[place] = self.list[place].held_once_more();
         }
     }
 
     /// The signals that calls set and clear at the object change.
     pub fn change(&mut self, koid: Koid, clear: Signals, set: Signals) {
-        if let Some(place) = self.place_of(koid) {
+        if let Some(place) = place_of(&self.list, koid) {
             let object = &mut self.list[place];
             object.raised = object.raised.changed(clear, set);
         }
@@ -116,7 +151,7 @@ impl Objects {
 
     /// One handle less names the object; what isn't held any more is gone. It takes no memory.
     pub fn release(&mut self, koid: Koid) {
-        if let Some(place) = self.place_of(koid) {
+        if let Some(place) = place_of(&self.list, koid) {
             let object = &mut self.list[place];
             object.handles = object.handles.saturating_sub(1);
             self.remove_unheld(koid);
@@ -125,7 +160,7 @@ impl Objects {
 
     /// The process has ended; what isn't held any more is gone. It takes no memory.
     pub fn end(&mut self, pid: Koid) {
-        if let Some(place) = self.place_of(pid) {
+        if let Some(place) = place_of(&self.list, pid) {
             let object = &mut self.list[place];
             if let Body::Process { job, .. } = object.body {
                 object.body = Body::Process { job, lives: false };
@@ -144,10 +179,10 @@ impl Objects {
 
     // The object goes unless it is held; the job that may now be without a living child is the result.
     fn remove_one(&mut self, koid: Koid) -> Option<Koid>
-        ensures fewer { OnSome result (length self.new.list.items < length self.old.list.items) }
-        ensures no_more { length self.new.list.items ≤ length self.old.list.items }
+        ensures fewer { OnSome result (length self.new.objects < length self.old.objects) }
+        ensures no_more { length self.new.objects ≤ length self.old.objects }
     {
-        let place = self.place_of(koid)?;
+        let place = place_of(&self.list, koid)?;
         if self.is_held(self.list[place]) {
             return None;
         }
@@ -176,4 +211,11 @@ impl Objects {
             _ => false,
         })
     }
+}
+
+// Where the object stands in the list.
+fn place_of(list: &[Object], koid: Koid) -> Option<usize>
+    ensures { result ≡ position (λ o. o.koid == koid) list.now }
+{
+    list.iter().position(|object| object.koid == koid)
 }

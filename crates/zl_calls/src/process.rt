@@ -1,6 +1,9 @@
-ghost use Rattle.std.specs.Prelude.{◌≡◌, ◌<◌, ◌^◌};
+ghost use Rattle.std.specs.Prelude.{◌≡◌, ◌<◌, ◌^◌, [], ◌∷◌};
+ghost use Rattle.zl_rights.specs.Numbers.{status_magnitude};
+ghost use Rattle.zl_rights.specs.World.{answered};
 ghost use Rattle.zl_rights.specs.Signals.{is_ready};
 ghost use Rattle.zl_calls.specs.World.{state_value, seen_in};
+ghost use Rattle.zl_calls.specs.Parts.{values_of};
 
 use crate::cpu::Cpu;
 use std::alloc::Global;
@@ -44,34 +47,29 @@ impl Process {
     }
 
     /// The call is answered: its status register holds the answer, and the next instruction stands next.
+    #[tactic(auto, unfolding(zl_rights::specs::World::answered))]
     pub fn answer(&mut self, status: Register, answer: Status)
         requires { self.old.cpu.counter < 2 ^ 32 }
-        ensures { self.new.state ≡ self.old.state }
+        ensures { self.new ≡ record self.old { cpu = answered self.old.cpu (status ∷ []) (status_magnitude answer ∷ []) } }
     {
         self.cpu.set(status, u64::from(answer.magnitude()));
         self.cpu.advance();
     }
 
-    /// The call is answered OK and gives the new handle, which is written after the status.
-    pub fn give(&mut self, status: Register, destination: Register, made: HValue) -> Status
+    /// The call that makes a handle is answered: after the status its register gets the handle's
+    /// value, or 0 where there is none.
+    #[tactic(auto, unfolding(zl_rights::specs::World::answered))]
+    pub fn answer_made(&mut self, status: Register, destination: Register, answer: Result<HValue, Status>)
         requires { self.old.cpu.counter < 2 ^ 32 }
-        ensures { self.new.state ≡ self.old.state }
+        ensures { self.new ≡ record self.old { cpu = answered self.old.cpu (status ∷ destination ∷ []) (values_of answer) } }
     {
-        self.cpu.set(status, u64::from(Status::Ok.magnitude()));
-        self.cpu.set(destination, u64::from(made));
+        let (number, made) = match answer {
+            Ok(made) => (Status::Ok.magnitude(), u64::from(made)),
+            Err(refused) => (refused.magnitude(), 0),
+        };
+        self.cpu.set(status, u64::from(number));
+        self.cpu.set(destination, made);
         self.cpu.advance();
-        Status::Ok
-    }
-
-    /// The call is refused; the register of its new handle becomes 0, after the status.
-    pub fn refuse(&mut self, status: Register, destination: Register, answer: Status) -> Status
-        requires { self.old.cpu.counter < 2 ^ 32 }
-        ensures { self.new.state ≡ self.old.state }
-    {
-        self.cpu.set(status, u64::from(answer.magnitude()));
-        self.cpu.set(destination, 0);
-        self.cpu.advance();
-        answer
     }
 
     /// The process ends with the code, with an empty table; the old one is the result.

@@ -5,6 +5,7 @@ ghost use Rattle.std.specs.Option.{option_map};
 ghost use Rattle.zl_rights.specs.Map.{get};
 ghost use Rattle.zl_code.specs.Request.{name_of};
 ghost use Rattle.zl_code.specs.Steps.{next_for};
+ghost use Rattle.zl_calls.specs.Parts.{status_of};
 ghost use Rattle.zl_calls.specs.World.{process_entry, process_value, call_in, IsPlaceOf};
 
 use crate::calls;
@@ -14,7 +15,7 @@ use crate::process::Process;
 use crate::program::Library;
 use std::alloc::Global;
 use zl_code::{CallInstr, CallName, LocalInstr, Outcome};
-use zl_rights::Pid;
+use zl_rights::{HValue, Pid, Status};
 
 /// Where the process stands in the list.
 pub fn place_of(processes: &[Process], pid: Pid) -> Option<usize>
@@ -71,9 +72,9 @@ pub fn act(alloc: Global, process: &mut Process, objects: &mut Objects, call: Ca
             handle,
             copy,
             rights,
-        } => Outcome::Answered(calls::dup(process, objects, status, handle, copy, rights)),
+        } => answered_by(calls::dup(process, objects, status, handle, copy, rights)),
         CallInstr::EventCreate { status, event } => {
-            Outcome::Answered(calls::event_create(process, objects, status, event))
+            answered_by(calls::event_create(process, objects, status, event))
         }
         CallInstr::Signal {
             status,
@@ -84,6 +85,16 @@ pub fn act(alloc: Global, process: &mut Process, objects: &mut Objects, call: Ca
         CallInstr::ProcessExit { code } => Outcome::Ended(calls::process_exit(
             alloc, process, objects, code,
         )),
+    }
+}
+
+// The answer of a call that makes a handle.
+fn answered_by(answer: Result<HValue, Status>) -> Outcome
+    ensures { result ≡ Outcome.Answered (status_of answer) }
+{
+    match answer {
+        Ok(_) => Outcome::Answered(Status::Ok),
+        Err(refused) => Outcome::Answered(refused),
     }
 }
 

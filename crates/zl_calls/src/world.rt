@@ -37,7 +37,7 @@ impl Model for World {
 
     ghost use Rattle.zl_calls.specs.World.{world_value};
 
-    ghost view = { λ w. record { programs = w.library; world = world_value w.processes.items w.objects.list.items w.objects.next_koid } };
+    ghost view = { λ w. record { programs = w.library; world = world_value w.processes.items w.objects } };
 }
 
 /// What a process did that wasn't at a call.
@@ -96,14 +96,14 @@ impl World {
         if !self.objects.is_job(job) {
             return Err(BootCause::Unknown);
         }
-        if self.processes.len() >= MOST_PROCESSES || self.objects.next_koid > MOST_KOIDS {
+        if self.processes.len() >= MOST_PROCESSES || self.objects.next_koid() > MOST_KOIDS {
             return Err(BootCause::Limit);
         }
         let memory = listed.image().memory();
         let Ok(cpu) = Cpu::new(self.alloc, memory, word) else {
             return Err(BootCause::NoMemory);
         };
-        let Ok(pid) = self.objects.create(Body::Process { job, lives: true }) else {
+        let Ok(pid) = self.objects.create(Body::Process { job, lives: true }, 0) else {
             return Err(BootCause::NoMemory);
         };
         let process = Process {

@@ -1,0 +1,90 @@
+-- What calls do to the table of their caller and to the objects.
+use Rattle.std.specs.Prelude.{ℕ, ◌≡◌, ◌+◌, ◌^◌, Bool, true, false, ◌&&◌, ◌||◌, not, nat_le, List, [], ◌∷◌, length, Option, Some, None, Result, Ok, Err}
+use Rattle.zl_rights.specs.declared.kind.Kind.TheVariants as kind
+use Rattle.zl_rights.specs.declared.status.Status.{Status}
+use Rattle.zl_rights.specs.declared.status.Status.TheVariants as status
+use Rattle.zl_rights.specs.declared.entry.Entry.{Entry}
+use Rattle.zl_rights.specs.Numbers.{bits, within, narrowed, DUPLICATE, status_magnitude}
+use Rattle.zl_rights.specs.Map.{Map, get}
+use Rattle.zl_rights.specs.Signals.{is_empty}
+use Rattle.zl_rights.specs.World.{answered}
+use Rattle.zl_code.specs.Request.{Site}
+use Rattle.zl_code.specs.Tests.{with_rights, copy_of}
+use Rattle.zl_code.specs.Effects.{new_entry}
+use Rattle.zl_table.specs.Table.{Handles, Inserts}
+use Rattle.zl_calls.specs.declared.objects.Body.TheVariants as body
+use Rattle.zl_calls.specs.declared.objects.Object.{Object}
+use Rattle.zl_calls.specs.declared.process.Process.{Process}
+use Rattle.zl_calls.specs.Registry.{Registry, has_place, with_new, holding}
+
+-- ---- refusals
+
+-- this status, where the test passes
+abbrev pub status_if : Bool → Status → Option Status
+status_if true s = Some s
+status_if false s = None
+
+-- the first that is there
+abbrev pub first_status : Option Status → Option Status → Option Status
+first_status None later = later
+first_status (Some s) later = Some s
+
+-- the status is the refusal; where nothing refuses the call it is the want of memory
+abbrev pub IsRefusedBy : Option Status → Status → Type 0
+IsRefusedBy None s = s ≡ status.NoMemory
+IsRefusedBy (Some r) s = s ≡ r
+
+-- the table has place for one handle more
+abbrev pub has_room_in : Map Entry → Bool
+has_room_in entries = nat_le (length entries + 1) 1024
+
+-- ---- the answer of a call that makes a handle
+
+abbrev pub status_of : Result ℕ Status → Status
+status_of (Ok made) = status.Ok
+status_of (Err s) = s
+
+-- the values of its destinations, the status first
+abbrev pub values_of : Result ℕ Status → List ℕ
+values_of (Ok made) = 0 ∷ made ∷ []
+values_of (Err s) = status_magnitude s ∷ []
+
+-- the process has its answer in its registers; its table is that of new
+abbrev pub Replies : Site → Result ℕ Status → Process → Process → Type 0
+Replies s answer old new = new ≡ record old {
+  cpu = answered old.cpu s.destinations (values_of answer);
+  table = new.table;
+}
+
+-- ---- dup
+
+abbrev pub dup_refusal_of : Map Entry → Map Object → ℕ → Option Entry → Option Status
+dup_refusal_of entries objects asked None = Some status.BadHandle
+dup_refusal_of entries objects asked (Some e) =
+    first_status (status_if (not (within DUPLICATE (bits e.rights))) status.AccessDenied)
+    (first_status (status_if (is_empty (with_rights e (narrowed e.rights asked))) status.InvalidArgs)
+    (status_if (not (has_room_in entries) || not (has_place (get objects e.koid))) status.NoResources))
+
+-- the answer of dup other than OK
+abbrev pub dup_refusal : Map Entry → Map Object → ℕ → ℕ → Option Status
+dup_refusal entries objects value asked = dup_refusal_of entries objects asked (get entries value)
+
+-- a copy of the handle, with such rights, gets the value made
+pub record Dups (t : Handles) (r : Registry) (value asked made : ℕ) (t2 : Handles) (r2 : Registry) : Type 0 where
+  pub unrefused : dup_refusal t.entries r.objects value asked ≡ None
+  pub copy : Entry
+  pub copied : copy_of (get t.entries value) asked ≡ copy ∷ []
+  pub inserts : Inserts t copy made t2
+  pub objects : r2 ≡ holding r copy.koid
+
+-- ---- event_create
+
+-- the answer of event_create other than OK
+abbrev pub event_refusal : Map Entry → ℕ → Option Status
+event_refusal entries next_koid = status_if (not (has_room_in entries && nat_le (next_koid + 1) (2 ^ 62))) status.NoResources
+
+-- a handle to a new event gets the value made
+pub record CreatesEvent (t : Handles) (r : Registry) (made : ℕ) (t2 : Handles) (r2 : Registry) : Type 0 where
+  pub unrefused : event_refusal t.entries r.next_koid ≡ None
+  pub inserts : Inserts t (new_entry r.next_koid kind.Event) made t2
+  pub objects : r2 ≡ with_new r body.Event 1

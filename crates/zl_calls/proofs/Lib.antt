@@ -3,3 +3,4 @@ pub mod Places
 pub mod Quiet
 pub mod Refused
 pub mod Positions
+pub mod Answered

@@ -4,6 +4,7 @@ use Rattle.std.specs.Prelude.{if◌then◌else◌, nat_le, nat_lt, IfSome, is_so
 use Rattle.std.specs.Option.{option_map}
 use Rattle.std.proofs.lemmas.Bool.{cases_Bool, eqb-true}
 use Rattle.std.proofs.lemmas.Bool.Decides.{nat_tests}
+use Rattle.std.proofs.lemmas.List.{map-append}
 use Rattle.zl_rights.specs.declared.kind.Kind.TheVariants as kind
 use Rattle.zl_rights.specs.declared.status.Status.{Status}
 use Rattle.zl_rights.specs.declared.status.Status.TheVariants as status
@@ -152,3 +153,42 @@ module _ (lib : Library) (before after : List Process) (p p2 : Process) (write :
       refused_calls lib w p.pid (site (dup h asked) [] (a ∷ d ∷ [])) (dup_refusal p.table.entries r.objects h asked) answer (world_value after r2)
       (dup_refused lib w free p.pid r.objects counted h asked ∙ rw table_is refl)
       by refl (same_world table objects (site (dup h asked) [] (a ∷ d ∷ [])) refl answer replies)
+
+  -- ---- event_create
+
+  -- each object has a koid that was given
+  abbrev pub Given : Type 0
+  Given = (k : ℕ) → IsTrue (has_key w.objects k) → k < r.next_koid
+
+  pub event_create_calls : Given → (a d made : ℕ) → CreatesEvent p.table r made p2.table r2
+      → Replies (site event_create [] (a ∷ d ∷ [])) (Ok made) p p2
+      → Calls lib w p.pid (site event_create [] (a ∷ d ∷ [])) (outcome.Answered status.Ok) (world_value after r2)
+  unfolding taken_handles handle_operands remove_all may_choose new_handles effect gives insert_all on_process with_object
+  event_create_calls given a d made creates replies =
+      (Values (made ∷ []), rw unrefused (chosen, refl, ends))
+    where
+      entry : Entry
+      entry = new_entry r.next_koid kind.Event
+      middle : World
+      middle = with_object (on_process w p.pid (process_with made entry)) EventBody
+      unrefused : refusal lib w p.pid event_create ≡ None
+      unrefused = event_refused lib w free p.pid r.objects ∙ rw (table_is, creates.unrefused) refl
+      chosen : IsTrue (may_choose w (taken w p.pid (site event_create [] (a ∷ d ∷ []))) p.pid event_create (made ∷ []))
+      chosen = rw (write.there, may_get_inserted p entry made p2.table creates.inserts) refl
+      is : process_value p2 ≡ record (process_with made entry (process_value p)) { cpu = cpu_answered (site event_create [] (a ∷ d ∷ [])) status.Ok (made ∷ []) p.cpu }
+      is = ap process_value replies ∙ (λ i. record (process_value p) { cpu = answered p.cpu (a ∷ d ∷ []) (0 ∷ made ∷ []); handles = creates.inserts.entries i; last = creates.inserts.last i })
+      objects_are : put w.objects r.next_koid (record { body = EventBody; raised = 0 }) ≡ map object_entry (with_new r body.Event 1).objects
+      objects_are = put_last w.objects r.next_koid (record { body = EventBody; raised = 0 }) given ∙ sym (map-append object_entry r.objects ((r.next_koid, new_object r.next_koid body.Event 1) ∷ []))
+      rest : (record middle { processes = map process_entry after }) ≡ world_value after r2
+      rest = rw creates.objects (ap (λ (os : Map ObjectValue). record w { processes = map process_entry after; objects = os; next_koid = r.next_koid + 1 }) objects_are)
+      ends : world_value after r2 ≡ replied (effect lib w (taken w p.pid (site event_create [] (a ∷ d ∷ []))) p.pid event_create (made ∷ [])) p.pid (site event_create [] (a ∷ d ∷ [])) status.Ok (made ∷ [])
+      ends = replied_with before after p p2 write r r2 (site event_create [] (a ∷ d ∷ [])) status.Ok (made ∷ []) (process_with made entry) middle refl rest is
+
+  pub event_create_refused_calls : (a d : ℕ) (answer : Status) → IsRefusedBy (event_refusal p.table.entries r.next_koid) answer → p2.table ≡ p.table → r2 ≡ r
+      → Replies (site event_create [] (a ∷ d ∷ [])) (Err answer) p p2
+      → Calls lib w p.pid (site event_create [] (a ∷ d ∷ [])) (outcome.Answered answer) (world_value after r2)
+  unfolding taken_handles handle_operands remove_all
+  event_create_refused_calls a d answer by table objects replies =
+      refused_calls lib w p.pid (site event_create [] (a ∷ d ∷ [])) (event_refusal p.table.entries r.next_koid) answer (world_value after r2)
+      (event_refused lib w free p.pid r.objects ∙ rw table_is refl)
+      by refl (same_world table objects (site event_create [] (a ∷ d ∷ [])) refl answer replies)

@@ -1,7 +1,6 @@
 -- From what a call does to its parts to the relation of calls.
-use Rattle.std.proofs.Common.{◌≡◌, ◌+◌, ◌<◌, ◌≤◌, ◌^◌, ℕ, Bool, true, false, not, ◌&&◌, ◌||◌, ◌==◌, List, [], ◌∷◌, ◌++◌, refl, sym, ap, ◌∙◌, cond, Option, Some, None, Result, Ok, Err, inl, inr, IsTrue, length, map, eq-eqb, arith}
-use Rattle.std.specs.Prelude.{if◌then◌else◌, nat_le, nat_lt, IfSome, is_some}
-use Rattle.std.specs.Option.{option_map}
+use Rattle.std.proofs.Common.{◌≡◌, ◌+◌, ◌<◌, ◌^◌, ℕ, true, false, not, ◌==◌, List, [], ◌∷◌, ◌++◌, refl, sym, ap, ◌∙◌, cond, Option, Some, None, Ok, Err, inl, inr, IsTrue, map, eq-eqb, arith}
+use Rattle.std.specs.Prelude.{nat_le, nat_lt, IfSome, is_some}
 use Rattle.std.proofs.lemmas.Bool.{cases_Bool, eqb-true}
 use Rattle.std.proofs.lemmas.Bool.Decides.{nat_tests}
 use Rattle.std.proofs.lemmas.List.{map-append}
@@ -9,27 +8,23 @@ use Rattle.zl_rights.specs.declared.kind.Kind.TheVariants as kind
 use Rattle.zl_rights.specs.declared.status.Status.{Status}
 use Rattle.zl_rights.specs.declared.status.Status.TheVariants as status
 use Rattle.zl_rights.specs.declared.entry.Entry.{Entry}
-use Rattle.zl_rights.specs.Numbers.{status_magnitude}
 use Rattle.zl_rights.specs.Map.{Map, get, put, update, has_key}
-use Rattle.zl_rights.specs.World.{World, Cpu, answered, Process as ProcessValue, Object as ObjectValue, EventBody}
-use Rattle.zl_rights.proofs.MapLaws.{get-update}
-use Rattle.zl_code.specs.declared.history.Outcome.{Outcome}
+use Rattle.zl_rights.specs.World.{World, answered, Process as ProcessValue, Object as ObjectValue, EventBody}
 use Rattle.zl_code.specs.declared.history.Outcome.TheVariants as outcome
 use Rattle.zl_code.specs.Image.{Library}
-use Rattle.zl_code.specs.Local.{reg}
-use Rattle.zl_code.specs.Request.{Site, Request, site, dup, event_create}
+use Rattle.zl_code.specs.Request.{Site, site, dup, event_create}
 use Rattle.zl_code.specs.Tests.{table_of, copy_of, entry_at, handles_to}
 use Rattle.zl_code.specs.Refusals.{refusal, handle_operands}
 use Rattle.zl_code.specs.Effects.{on_process, process_with, may_get, may_choose, new_handles, new_entry, insert_all, remove_all, taken_handles, effect, with_object, gives}
-use Rattle.zl_code.specs.Calls.{Calls, CallBy, Values, grows, replied, taken, cpu_answered}
+use Rattle.zl_code.specs.Calls.{Calls, Values, replied, taken, cpu_answered}
 use Rattle.zl_table.specs.Table.{Handles, Inserts}
 use Rattle.zl_calls.specs.declared.objects.Body.TheVariants as body
 use Rattle.zl_calls.specs.declared.objects.Object.{Object}
 use Rattle.zl_calls.specs.declared.process.Process.{Process}
-use Rattle.zl_calls.specs.Registry.{Registry, has_place, held_once_more, new_object, with_new, holding}
+use Rattle.zl_calls.specs.Registry.{Registry, has_place, held_once_more, new_object, with_new}
 use Rattle.zl_calls.specs.Parts.{IsRefusedBy, Replies, Dups, dup_refusal, CreatesEvent, event_refusal}
 use Rattle.zl_calls.specs.World.{process_entry, process_value, object_entry, object_value, world_value}
-use Rattle.zl_calls.proofs.Refused.{NoPolicy, answers, refused_calls, dup_refused, event_refused}
+use Rattle.zl_calls.proofs.Refused.{NoPolicy, refused_calls, dup_refused, event_refused}
 
 -- ---- maps
 
@@ -65,6 +60,7 @@ put_last {X} (e ∷ m) k v below =
   where
     same : (j : ℕ) → (j == j) ≡ true
     same j = eq-eqb j j refl
+
     later : (j : ℕ) → IsTrue (has_key m j) → IsTrue (has_key (e ∷ m) j)
     later j there = elim (e.0 == j) as (λ b. IsTrue (is_some (cond b (Some e.1) (get m j)))) [ true ↦ refl | false ↦ there ]
 
@@ -111,9 +107,12 @@ module _ (lib : Library) (before after : List Process) (p p2 : Process) (write :
   object_held : (o : Object) → object_value (held_once_more o) ≡ object_value o
   object_held o = elim (nat_lt o.handles (2 ^ 62)) as (λ b. object_value (cond b (record o { handles = o.handles + 1 }) o) ≡ object_value o) [ true ↦ refl | false ↦ refl ]
 
-  -- the counts of the registry are those of the world
+  -- the counts of the objects that handles of p name are those of the world
   abbrev pub Counted : Type 0
-  Counted = (k : ℕ) → has_place (get r.objects k) ≡ not (nat_le (2 ^ 62) (handles_to w k))
+  Counted = (h : ℕ) (e : Entry) → get p.table.entries h ≡ Some e → has_place (get r.objects e.koid) ≡ not (nat_le (2 ^ 62) (handles_to w e.koid))
+
+  in_world : Counted → (h : ℕ) (e : Entry) → get (table_of w p.pid) h ≡ Some e → has_place (get r.objects e.koid) ≡ not (nat_le (2 ^ 62) (handles_to w e.koid))
+  in_world counted h e there = counted h e (rw table_is at there)
 
   pub dup_calls : Counted → (a d h asked made : ℕ) → Dups p.table r h asked made p2.table r2
       → Replies (site (dup h asked) [] (a ∷ d ∷ [])) (Ok made) p p2
@@ -123,15 +122,20 @@ module _ (lib : Library) (before after : List Process) (p p2 : Process) (write :
       (Values (made ∷ []), rw unrefused (chosen, refl, ends))
     where
       unrefused : refusal lib w p.pid (dup h asked) ≡ None
-      unrefused = dup_refused lib w free p.pid r.objects counted h asked ∙ rw (table_is, dups.unrefused) refl
+      unrefused = dup_refused lib w free p.pid r.objects (in_world counted) h asked ∙ rw (table_is, dups.unrefused) refl
+
       copied : copy_of (entry_at w p.pid h) asked ≡ dups.copy ∷ []
       copied = rw table_is dups.copied
+
       chosen : IsTrue (may_choose w (taken w p.pid (site (dup h asked) [] (a ∷ d ∷ []))) p.pid (dup h asked) (made ∷ []))
       chosen = rw (copied, write.there, may_get_inserted p dups.copy made p2.table dups.inserts) refl
+
       is : process_value p2 ≡ record (process_with made dups.copy (process_value p)) { cpu = cpu_answered (site (dup h asked) [] (a ∷ d ∷ [])) status.Ok (made ∷ []) p.cpu }
       is = ap process_value replies ∙ (λ i. record (process_value p) { cpu = answered p.cpu (a ∷ d ∷ []) (0 ∷ made ∷ []); handles = dups.inserts.entries i; last = dups.inserts.last i })
+
       rest : (record (on_process w p.pid (process_with made dups.copy)) { processes = map process_entry after }) ≡ world_value after r2
       rest = rw dups.objects (ap (λ (os : Map ObjectValue). record w { processes = map process_entry after; objects = os }) (sym (update_unseen object_value r.objects dups.copy.koid held_once_more object_held)))
+
       ends : world_value after r2 ≡ replied (effect lib w (taken w p.pid (site (dup h asked) [] (a ∷ d ∷ []))) p.pid (dup h asked) (made ∷ [])) p.pid (site (dup h asked) [] (a ∷ d ∷ [])) status.Ok (made ∷ [])
       ends = rw copied (replied_with before after p p2 write r r2 (site (dup h asked) [] (a ∷ d ∷ [])) status.Ok (made ∷ []) (process_with made dups.copy) (on_process w p.pid (process_with made dups.copy)) refl rest is)
 
@@ -151,7 +155,7 @@ module _ (lib : Library) (before after : List Process) (p p2 : Process) (write :
   unfolding taken_handles handle_operands remove_all
   dup_refused_calls counted a d h asked answer by table objects replies =
       refused_calls lib w p.pid (site (dup h asked) [] (a ∷ d ∷ [])) (dup_refusal p.table.entries r.objects h asked) answer (world_value after r2)
-      (dup_refused lib w free p.pid r.objects counted h asked ∙ rw table_is refl)
+      (dup_refused lib w free p.pid r.objects (in_world counted) h asked ∙ rw table_is refl)
       by refl (same_world table objects (site (dup h asked) [] (a ∷ d ∷ [])) refl answer replies)
 
   -- ---- event_create
@@ -169,18 +173,25 @@ module _ (lib : Library) (before after : List Process) (p p2 : Process) (write :
     where
       entry : Entry
       entry = new_entry r.next_koid kind.Event
+
       middle : World
       middle = with_object (on_process w p.pid (process_with made entry)) EventBody
+
       unrefused : refusal lib w p.pid event_create ≡ None
       unrefused = event_refused lib w free p.pid r.objects ∙ rw (table_is, creates.unrefused) refl
+
       chosen : IsTrue (may_choose w (taken w p.pid (site event_create [] (a ∷ d ∷ []))) p.pid event_create (made ∷ []))
       chosen = rw (write.there, may_get_inserted p entry made p2.table creates.inserts) refl
+
       is : process_value p2 ≡ record (process_with made entry (process_value p)) { cpu = cpu_answered (site event_create [] (a ∷ d ∷ [])) status.Ok (made ∷ []) p.cpu }
       is = ap process_value replies ∙ (λ i. record (process_value p) { cpu = answered p.cpu (a ∷ d ∷ []) (0 ∷ made ∷ []); handles = creates.inserts.entries i; last = creates.inserts.last i })
+
       objects_are : put w.objects r.next_koid (record { body = EventBody; raised = 0 }) ≡ map object_entry (with_new r body.Event 1).objects
       objects_are = put_last w.objects r.next_koid (record { body = EventBody; raised = 0 }) given ∙ sym (map-append object_entry r.objects ((r.next_koid, new_object r.next_koid body.Event 1) ∷ []))
+
       rest : (record middle { processes = map process_entry after }) ≡ world_value after r2
       rest = rw creates.objects (ap (λ (os : Map ObjectValue). record w { processes = map process_entry after; objects = os; next_koid = r.next_koid + 1 }) objects_are)
+
       ends : world_value after r2 ≡ replied (effect lib w (taken w p.pid (site event_create [] (a ∷ d ∷ []))) p.pid event_create (made ∷ [])) p.pid (site event_create [] (a ∷ d ∷ [])) status.Ok (made ∷ [])
       ends = replied_with before after p p2 write r r2 (site event_create [] (a ∷ d ∷ [])) status.Ok (made ∷ []) (process_with made entry) middle refl rest is
 

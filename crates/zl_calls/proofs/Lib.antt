@@ -4,3 +4,5 @@ pub mod Quiet
 pub mod Refused
 pub mod Positions
 pub mod Answered
+pub mod Counting
+pub mod Labs

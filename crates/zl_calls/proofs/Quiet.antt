@@ -1,14 +1,14 @@
 -- Worlds in which nothing waits: waking changes nothing, and settling takes away what isn't held.
-use Rattle.std.proofs.Common.{◌≡◌, ◌+◌, ℕ, Bool, true, false, not, ◌&&◌, ◌||◌, ◌==◌, List, [], ◌∷◌, ◌++◌, map, refl, sym, ap, ◌∙◌, subst, cond, Option, Some, None, inl, inr, IsTrue, eq-eqb}
-use Rattle.std.specs.Prelude.{if◌then◌else◌, is_some}
-use Rattle.std.specs.List.{list_any, filter}
+use Rattle.std.proofs.Common.{◌≡◌, ℕ, Bool, true, false, ◌&&◌, ◌||◌, ◌==◌, [], ◌∷◌, refl, sym, ap, ◌∙◌, cond, Some, inl, inr, IsTrue, eq-eqb}
+use Rattle.std.specs.Prelude.{is_some}
+use Rattle.std.specs.List.{list_any}
 use Rattle.std.proofs.lemmas.Bool.{cases_Bool, and_parts, eqb-true, false≢true}
 use Rattle.std.proofs.lemmas.List.{append-nil}
 use Rattle.zl_rights.specs.Map.{Map, get, has_key, without, where_key, each}
-use Rattle.zl_rights.specs.World.{World, Process, Object, Body, PortBody, State as StateValue, Created}
-use Rattle.zl_rights.specs.Signals.{is_process, lives, runs, is_job_below, is_process_of}
-use Rattle.zl_rights.specs.Settle.{Koids, Settles, IsHeld, IsLargestHeld, is_held, in_table, in_queue, has_living_child, names, queue_of, without_others, process_without, state_without}
-use Rattle.zl_rights.specs.Wakes.{wakes, fired, woken, body_with_packets}
+use Rattle.zl_rights.specs.World.{World, Process, Object, Body, PortBody}
+use Rattle.zl_rights.specs.Signals.{is_process, lives, is_job_below, is_process_of}
+use Rattle.zl_rights.specs.Settle.{Koids, Settles, IsHeld, is_held, in_table, in_queue, has_living_child, names, queue_of, without_others, process_without}
+use Rattle.zl_rights.specs.Wakes.{wakes, fired, body_with_packets}
 use Rattle.zl_rights.proofs.MapTests.{each_same}
 use Rattle.zl_rights.proofs.Settling.{is_held-larger}
 use Rattle.zl_table.proofs.MapEdits.{get-without}
@@ -49,6 +49,7 @@ module _ {X : Type 0} where
     where
       same : (k : ℕ) → (k == k) ≡ true
       same k = eq-eqb k k refl
+
       later : (k : ℕ) → IsTrue (has_key m k) → IsTrue (has_key (e ∷ m) k)
       later k there = elim (e.0 == k) as (λ b. IsTrue (is_some (cond b (Some e.1) (get m k)))) [ true ↦ refl | false ↦ there ]
 
@@ -82,7 +83,7 @@ unfolding without_others
 settles_itself ps os n started settled = (
   has_key os,
   record { held = settled.held; largest = λ L held k h. is_held-there (quiet ps os n) L k (held k h) },
-  sym (rw (started.stays (has_key os), where_passing (has_key os) os (λ k there. there)) refl)
+  sym (rw (started.stays (has_key os), where_passing (has_key os) os (λ k there. there)) refl),
 )
 
 -- ---- settling, one object after another
@@ -107,9 +108,11 @@ module _ (ps : Map Process) (os : Map Object) (n j : ℕ) where
   same_held : (K : Koids) → K j ≡ false → (k : ℕ) → (j == k) ≡ false → is_held rest K k ≡ is_held all K k
   unfolding is_held in_table in_queue has_living_child is_process get
   same_held K out k apart =
-      rw (there_apart k apart,
+      rw (
+        there_apart k apart,
         any_without (λ o. K o.0 && names k (queue_of o.1.body)) os j (λ i o here. rw (here, out) refl),
-        any_without (λ o. K o.0 && (is_job_below k o.1.body || (is_process_of k o.1.body && is_process all lives o.0))) os j (λ i o here. rw (here, out) refl))
+        any_without (λ o. K o.0 && (is_job_below k o.1.body || (is_process_of k o.1.body && is_process all lives o.0))) os j (λ i o here. rw (here, out) refl),
+      )
       refl
 
   pub settles_without : is_held all (has_key os) j ≡ false → (v : World) → Settles rest v → Settles all v
@@ -121,11 +124,13 @@ module _ (ps : Map Process) (os : Map Object) (n j : ℕ) where
         | inl inside ↦ absurd (false≢true (sym not_there ∙ is_held-there rest K j (largest.held j inside)))
         | inr out ↦ out
       ]
+
       held : IsHeld all K
       held k kept = elim (cases_Bool (j == k)) as (λ _. IsTrue (is_held all K k)) [
         | inl here ↦ absurd (false≢true (sym outside ∙ (ap K (eqb-true j k here) ∙ kept)))
         | inr apart ↦ sym (same_held K outside k apart) ∙ largest.held k kept
       ]
+
       above : (L : Koids) → IsHeld all L → (k : ℕ) → IsTrue (L k) → IsTrue (K k)
       above L lheld k kept = largest.largest L lrest k kept
         where
@@ -134,6 +139,7 @@ module _ (ps : Map Process) (os : Map Object) (n j : ℕ) where
             | inl at ↦ absurd (false≢true (sym unheld ∙ is_held-larger all L (has_key os) (λ i h. is_held-there all L i (lheld i h)) j (lheld j at)))
             | inr out ↦ out
           ]
+
           lrest : IsHeld rest L
           lrest i at = elim (cases_Bool (j == i)) as (λ _. IsTrue (is_held rest L i)) [
             | inl here ↦ absurd (false≢true (sym lout ∙ (ap L (eqb-true j i here) ∙ at)))

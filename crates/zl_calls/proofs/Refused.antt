@@ -1,26 +1,24 @@
 -- The answers other than OK, where no job has a policy: they follow from the caller's table and from counts.
-use Rattle.std.proofs.Common.{◌≡◌, ◌+◌, ◌^◌, ℕ, Bool, true, false, not, ◌&&◌, ◌||◌, ◌==◌, List, [], ◌∷◌, refl, sym, ap, ◌∙◌, cond, Option, Some, None, inl, inr, IsTrue, length, map}
-use Rattle.std.specs.Prelude.{if◌then◌else◌, nat_le, nat_lt}
+use Rattle.std.proofs.Common.{◌≡◌, ◌+◌, ◌^◌, ℕ, Bool, true, false, not, ◌&&◌, ◌||◌, ◌==◌, [], ◌∷◌, refl, ap, ◌∙◌, Option, Some, None, inl, inr, IsTrue, map}
+use Rattle.std.specs.Prelude.{nat_le}
 use Rattle.std.proofs.lemmas.Bool.{cases_Bool}
-use Rattle.zl_rights.specs.declared.kind.Kind.{Kind}
 use Rattle.zl_rights.specs.declared.status.Status.{Status}
 use Rattle.zl_rights.specs.declared.status.Status.TheVariants as status
 use Rattle.zl_rights.specs.declared.entry.Entry.{Entry}
-use Rattle.zl_rights.specs.declared.policy.Action.{Action}
 use Rattle.zl_rights.specs.declared.policy.Condition.{Condition}
 use Rattle.zl_rights.specs.declared.policy.Condition.TheVariants as condition
-use Rattle.zl_rights.specs.Numbers.{bits, within, condition_number, narrowed, DUPLICATE}
+use Rattle.zl_rights.specs.Numbers.{bits, within, narrowed, DUPLICATE}
 use Rattle.zl_rights.specs.Signals.{is_empty}
 use Rattle.zl_rights.specs.Map.{Map, get}
-use Rattle.zl_rights.specs.World.{World, Process as ProcessValue, Object as ObjectValue}
+use Rattle.zl_rights.specs.World.{World}
 use Rattle.zl_code.specs.declared.history.Outcome.{Outcome}
 use Rattle.zl_code.specs.declared.history.Outcome.TheVariants as outcome
 use Rattle.zl_code.specs.Image.{Library}
 use Rattle.zl_code.specs.Request.{Site, Request, dup, event_create}
-use Rattle.zl_code.specs.Tests.{policy_in, body_in, body_of, action_of, faults, creates, parent_of, examined, operand, operand_of, by_policy, has_room, has_koids, handles_to, entry_at, object_at, table_of, copy_of, with_rights, answer_if, first, any, koid_in}
+use Rattle.zl_code.specs.Tests.{policy_in, body_in, body_of, faults, creates, parent_of, examined, operand, operand_of, has_room, has_koids, handles_to, table_of, copy_of, with_rights, answer_if, first, any, koid_in}
 use Rattle.zl_code.specs.Refusals.{refusal, handle_operands, listed}
 use Rattle.zl_code.specs.Effects.{gives}
-use Rattle.zl_code.specs.Calls.{Calls, CallBy, WantsMemory, Refused, grows, replied, taken}
+use Rattle.zl_code.specs.Calls.{Calls, WantsMemory, Refused, grows, replied, taken}
 use Rattle.zl_calls.specs.declared.objects.Body.{Body}
 use Rattle.zl_calls.specs.declared.objects.Body.TheVariants as body
 use Rattle.zl_calls.specs.declared.objects.Object.{Object}
@@ -55,7 +53,6 @@ module _ (w : World) (free : NoPolicy w) (p : ℕ) where
   pub may_create : (c : Condition) → creates w p c ≡ None
   unfolding creates get
   may_create c = rw (free.empty (parent_of w p)) refl
-
 
 -- ---- the refusals of each call, in parts
 
@@ -94,14 +91,15 @@ module _ (lib : Library) (w : World) (free : NoPolicy w) (p : ℕ) (objects : Ma
   by_tests true false true false = refl
   by_tests true false true true = refl
 
-  pub dup_refused : ((k : ℕ) → has_place (get objects k) ≡ not (nat_le (2 ^ 62) (handles_to w k)))
+  -- where the counts of objects that handles of p name are those of the world
+  pub dup_refused : ((h : ℕ) (e : Entry) → get (table_of w p) h ≡ Some e → has_place (get objects e.koid) ≡ not (nat_le (2 ^ 62) (handles_to w e.koid)))
       → (h asked : ℕ) → refusal lib w p (dup h asked) ≡ answers (dup_refusal (table_of w p) objects h asked)
   unfolding refusal handle_operands examined operand listed has_room
-  dup_refused counts h asked = by_entry (get (table_of w p) h)
+  dup_refused counts h asked = by_entry (get (table_of w p) h) refl
     where
-      by_entry : (o : Option Entry) → dup_with asked o ≡ answers (dup_refusal_of (table_of w p) objects asked o)
-      by_entry None = ap (λ (x : Option Outcome). first (first (x ∷ None ∷ []) ∷ None ∷ answer_if true status.InvalidArgs ∷ answer_if (not (has_room w p 1) || nat_le (2 ^ 62) (handles_to w 0)) status.NoResources ∷ [])) (fault_answers w free p condition.BadHandle status.BadHandle)
-      by_entry (Some e) = rw (counts e.koid) (by_tests (within DUPLICATE (bits e.rights)) (is_empty (with_rights e (narrowed e.rights asked))) (has_room_in (table_of w p)) (nat_le (2 ^ 62) (handles_to w e.koid)))
+      by_entry : (o : Option Entry) → get (table_of w p) h ≡ o → dup_with asked o ≡ answers (dup_refusal_of (table_of w p) objects asked o)
+      by_entry None is = ap (λ (x : Option Outcome). first (first (x ∷ None ∷ []) ∷ None ∷ answer_if true status.InvalidArgs ∷ answer_if (not (has_room w p 1) || nat_le (2 ^ 62) (handles_to w 0)) status.NoResources ∷ [])) (fault_answers w free p condition.BadHandle status.BadHandle)
+      by_entry (Some e) is = rw (counts h e is) (by_tests (within DUPLICATE (bits e.rights)) (is_empty (with_rights e (narrowed e.rights asked))) (has_room_in (table_of w p)) (nat_le (2 ^ 62) (handles_to w e.koid)))
 
   pub event_refused : refusal lib w p event_create ≡ answers (event_refusal (table_of w p) w.next_koid)
   unfolding refusal handle_operands examined listed has_room has_koids

@@ -3,3 +3,4 @@ pub mod Cpu
 pub mod World
 pub mod Registry
 pub mod Parts
+pub mod Lab

@@ -1,8 +1,6 @@
 -- What the definitions of calls see of the objects: each with its count of handles, by koid.
-use Rattle.std.specs.Prelude.{ℕ, ◌+◌, ◌^◌, Bool, false, nat_lt, List, [], ◌∷◌, ◌++◌, Option, Some, None, if◌then◌else◌}
-use Rattle.zl_rights.specs.declared.signals.Signals.{Signals}
-use Rattle.zl_rights.specs.Map.{Map, get, update}
-use Rattle.zl_rights.specs.Numbers.{changed}
+use Rattle.std.specs.Prelude.{ℕ, ◌+◌, ◌^◌, Bool, false, nat_lt, [], ◌∷◌, ◌++◌, Option, Some, None, if◌then◌else◌}
+use Rattle.zl_rights.specs.Map.{Map, update}
 use Rattle.zl_calls.specs.declared.objects.Body.{Body}
 use Rattle.zl_calls.specs.declared.objects.Object.{Object}
 

@@ -59,7 +59,12 @@ impl Process {
     /// The call that makes a handle is answered: after the status its register gets the handle's
     /// value, or 0 where there is none.
     #[tactic(auto, unfolding(zl_rights::specs::World::answered))]
-    pub fn answer_made(&mut self, status: Register, destination: Register, answer: Result<HValue, Status>)
+    pub fn answer_made(
+        &mut self,
+        status: Register,
+        destination: Register,
+        answer: Result<HValue, Status>,
+    )
         requires { self.old.cpu.counter < 2 ^ 32 }
         ensures { self.new ≡ record self.old { cpu = answered self.old.cpu (status ∷ destination ∷ []) (values_of answer) } }
     {

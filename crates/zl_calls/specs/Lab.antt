@@ -1,0 +1,65 @@
+-- What is true of every world that this crate makes.
+use Rattle.std.specs.Prelude.{ℕ, ◌≡◌, ◌<◌, ◌≤◌, ◌^◌, ⊤, Bool, false, ◌&&◌, ◌||◌, ◌==◌, nat_lt, List, map, Some, IsTrue}
+use Rattle.std.specs.List.{list_any}
+use Rattle.std.specs.Ordering.{nat_cmp}
+use Rattle.std.specs.FinMap.Entries.{is_sorted}
+use Rattle.zl_rights.specs.declared.entry.Entry.{Entry}
+use Rattle.zl_rights.specs.Numbers.{bits, within, default_rights_of}
+use Rattle.zl_rights.specs.Map.{Map, get, has_key}
+use Rattle.zl_rights.specs.World.{Process as ProcessValue, kind_of}
+use Rattle.zl_rights.specs.Signals.{is_process, runs}
+use Rattle.zl_code.specs.Tests.{handles_to}
+use Rattle.zl_table.specs.Table.{IsTable}
+use Rattle.zl_calls.specs.declared.objects.Body.{Body}
+use Rattle.zl_calls.specs.declared.objects.Body.TheVariants as body
+use Rattle.zl_calls.specs.declared.objects.Object.{Object}
+use Rattle.zl_calls.specs.declared.process.Process.{Process}
+use Rattle.zl_calls.specs.Registry.{Registry}
+use Rattle.zl_calls.specs.World.{process_entry, body_value, world_value}
+
+-- ---- what keeps an object
+
+-- a living process of the job k
+abbrev pub lives_below : ℕ → Body → Bool
+lives_below k (body.Process job lives) = (job == k) && lives
+lives_below k _ = false
+
+unfoldable pub has_living_child : Map Object → ℕ → Bool
+has_living_child objects k = list_any (λ e. lives_below k e.1.body) objects
+
+-- an object that stays without a handle
+abbrev pub stays_alone : Map Object → ℕ → Body → Bool
+stays_alone objects k body.RootJob = has_living_child objects k
+stays_alone objects k (body.Process job lives) = lives
+stays_alone objects k body.Event = false
+
+abbrev pub is_kept : Map Object → ℕ → Object → Bool
+is_kept objects k o = nat_lt 0 o.handles || stays_alone objects k o.body
+
+-- ---- handles and processes
+
+-- the entry names an object that is there, of the entry's kind, with rights that such a handle may have
+pub record IsNamed (objects : Map Object) (e : Entry) : Type 0 where
+  pub object : Object
+  pub there : get objects e.koid ≡ Some object
+  pub kind : e.kind ≡ kind_of (body_value object.body)
+  pub rights : IsTrue (within (bits e.rights) (default_rights_of e.kind))
+
+-- the object of a process says whether the process runs
+abbrev pub AgreesOn : Body → Bool → Type 0
+AgreesOn (body.Process job lives) running = lives ≡ running
+AgreesOn _ running = ⊤
+
+-- ---- all of it
+
+pub record IsLab (processes : List Process) (r : Registry) : Type 0 where
+  pub processes_in_order : IsTrue (is_sorted nat_cmp (map process_entry processes))
+  pub objects_in_order : IsTrue (is_sorted nat_cmp r.objects)
+  pub given_processes : (k : ℕ) → IsTrue (has_key (map process_entry processes) k) → k < r.next_koid
+  pub given_objects : (k : ℕ) → IsTrue (has_key r.objects k) → k < r.next_koid
+  pub koids : r.next_koid ≤ 2 ^ 62
+  pub tables : (k : ℕ) (p : ProcessValue) → get (map process_entry processes) k ≡ Some p → IsTable (record { entries = p.handles; last = p.last })
+  pub named : (k : ℕ) (p : ProcessValue) (v : ℕ) (e : Entry) → get (map process_entry processes) k ≡ Some p → get p.handles v ≡ Some e → IsNamed r.objects e
+  pub counted : (k : ℕ) (o : Object) → get r.objects k ≡ Some o → o.handles ≡ handles_to (world_value processes r) k
+  pub agrees : (k : ℕ) (o : Object) → get r.objects k ≡ Some o → AgreesOn o.body (is_process (world_value processes r) runs k)
+  pub kept : (k : ℕ) (o : Object) → get r.objects k ≡ Some o → IsTrue (is_kept r.objects k o)

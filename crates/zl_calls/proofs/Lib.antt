@@ -6,3 +6,4 @@ pub mod Positions
 pub mod Answered
 pub mod Counting
 pub mod Labs
+pub mod Written

@@ -1,4 +1,4 @@
--- The first object with a koid: what it reads and writes, in the map by koids.
+-- The first element with a key: what it reads and writes, in the map by keys.
 use Rattle.std.proofs.Common.{◌≡◌, ◌<◌, ℕ, zero, suc, Bool, true, false, ◌==◌, List, [], ◌∷◌, length, map, get_or, set, refl, sym, ap, ◌∙◌, cond, Some, None, inl, inr, arith, ◌≤◌, ◌+◌, ◌^◌}
 use Rattle.std.specs.Prelude.{nat_lt}
 use Rattle.std.specs.List.{position, position_or_len}
@@ -11,72 +11,83 @@ use Rattle.zl_table.proofs.MapEdits.{update_missing}
 use Rattle.zl_calls.specs.declared.objects.Object.{Object}
 use Rattle.zl_calls.specs.Registry.{Registry, keyed, has_place, held_once_more, holding}
 
--- the object at place i is the first with the koid k
-pub record IsFirst (os : List Object) (k i : ℕ) (d : Object) : Type 0 where
-  pub within : i < length os
-  pub here : ((get_or os i d).koid == k) ≡ true
-  pub before : (j : ℕ) → j < i → ((get_or os j d).koid == k) ≡ false
+-- the element at place i is the first with the key k
+pub record IsFirst {X : Type 0} (key : X → ℕ) (xs : List X) (k i : ℕ) (d : X) : Type 0 where
+  pub within : i < length xs
+  pub here : (key (get_or xs i d) == k) ≡ true
+  pub before : (j : ℕ) → j < i → (key (get_or xs j d) == k) ≡ false
 
-pub first_at : (os : List Object) (k i : ℕ) (d : Object) → position (λ o. o.koid == k) os ≡ Some i → IsFirst os k i d
-first_at os k i d found =
-    let parts = position-Some (λ o. o.koid == k) os i d found in
-    record { within = parts.0; here = parts.1; before = parts.2 }
+-- no element has the key k
+record IsMissing {X : Type 0} (key : X → ℕ) (xs : List X) (k : ℕ) : Type 0 where
+  past : length xs ≤ position_or_len (λ x. key x == k) xs
 
-first_behind : (o : Object) (os : List Object) (k i : ℕ) (d : Object) → IsFirst (o ∷ os) k (suc i) d → IsFirst os k i d
-first_behind o os k i d first = record {
-  within = omega (arith, first.within);
-  here = first.here;
-  before = λ j lt. first.before (suc j) (omega (arith, lt));
-}
+module _ {X Y : Type 0} (key : X → ℕ) (value : X → Y) where
+  abbrev pub entry : X → ℕ × Y
+  entry x = (key x, value x)
 
-pub get_first : (os : List Object) (k i : ℕ) (d : Object) → IsFirst os k i d → get (map keyed os) k ≡ Some (get_or os i d)
-unfolding get
-get_first [] k i d first = absurd (omega (arith, first.within))
-get_first (o ∷ os) k zero d first = rw (first.here) refl
-get_first (o ∷ os) k (suc i) d first = rw (first.before 0 (omega arith)) (get_first os k i d (first_behind o os k i d first))
+  pub first_at : (xs : List X) (k i : ℕ) (d : X) → position (λ x. key x == k) xs ≡ Some i → IsFirst key xs k i d
+  first_at xs k i d found =
+      let parts = position-Some (λ x. key x == k) xs i d found in
+      record { within = parts.0; here = parts.1; before = parts.2 }
 
-pub update_first : (os : List Object) (k i : ℕ) (d : Object) (f : Object → Object) (new : Object) → IsFirst os k i d → new ≡ f (get_or os i d) → new.koid ≡ (get_or os i d).koid
-    → map keyed (set os i new) ≡ update (map keyed os) k f
-unfolding update
-update_first [] k i d f new first is same = absurd (omega (arith, first.within))
-update_first (o ∷ os) k zero d f new first is same =
-    let key : new.koid ≡ k = same ∙ eqb-true o.koid k first.here in
-    rw (first.here) (λ i. (key i, is i) ∷ map keyed os)
-update_first (o ∷ os) k (suc i) d f new first is same =
-    rw (first.before 0 (omega arith)) (ap (λ (rest : Map Object). keyed o ∷ rest) (update_first os k i d f new (first_behind o os k i d first) is same))
+  first_behind : (x : X) (xs : List X) (k i : ℕ) (d : X) → IsFirst key (x ∷ xs) k (suc i) d → IsFirst key xs k i d
+  first_behind x xs k i d first = record {
+    within = omega (arith, first.within);
+    here = first.here;
+    before = λ j lt. first.before (suc j) (omega (arith, lt));
+  }
 
--- ---- a koid that isn't there
+  pub get_first : (xs : List X) (k i : ℕ) (d : X) → IsFirst key xs k i d → get (map entry xs) k ≡ Some (value (get_or xs i d))
+  unfolding get
+  get_first [] k i d first = absurd (omega (arith, first.within))
+  get_first (x ∷ xs) k zero d first = rw (first.here) refl
+  get_first (x ∷ xs) k (suc i) d first = rw (first.before 0 (omega arith)) (get_first xs k i d (first_behind x xs k i d first))
 
-record IsMissing (os : List Object) (k : ℕ) : Type 0 where
-  past : length os ≤ position_or_len (λ o. o.koid == k) os
+  pub update_first : (xs : List X) (k i : ℕ) (d : X) (f : Y → Y) (new : X) → IsFirst key xs k i d → value new ≡ f (value (get_or xs i d)) → key new ≡ key (get_or xs i d)
+      → map entry (set xs i new) ≡ update (map entry xs) k f
+  unfolding update
+  update_first [] k i d f new first is same = absurd (omega (arith, first.within))
+  update_first (x ∷ xs) k zero d f new first is same =
+      let at : key new ≡ k = same ∙ eqb-true (key x) k first.here in
+      rw (first.here) (λ i. (at i, is i) ∷ map entry xs)
+  update_first (x ∷ xs) k (suc i) d f new first is same =
+      rw (first.before 0 (omega arith)) (ap (λ (rest : Map Y). entry x ∷ rest) (update_first xs k i d f new (first_behind x xs k i d first) is same))
 
-missing_from : (os : List Object) (k : ℕ) → position (λ o. o.koid == k) os ≡ None → IsMissing os k
-missing_from os k none = record { past = by_test (nat_lt (position_or_len (λ o. o.koid == k) os) (length os)) refl }
-  where
-    by_test : (b : Bool) → nat_lt (position_or_len (λ o. o.koid == k) os) (length os) ≡ b → length os ≤ position_or_len (λ o. o.koid == k) os
-    by_test true inside =
-        let found : position (λ o. o.koid == k) os ≡ Some (position_or_len (λ o. o.koid == k) os) = rw inside refl in
-        absurd (none-some (position_or_len (λ o. o.koid == k) os) (sym none ∙ found))
-    by_test false outside = grind (arith, nat_tests, outside)
+  -- ---- a key that isn't there
 
-missing_behind : (o : Object) (os : List Object) (k : ℕ) → IsMissing (o ∷ os) k → ((o.koid == k) ≡ false) × IsMissing os k
-missing_behind o os k missing = elim (cases_Bool (o.koid == k)) as (λ _. ((o.koid == k) ≡ false) × IsMissing os k) [
-  | inl here ↦ absurd (omega (arith, rw here at missing.past))
-  | inr apart ↦ (apart, record { past = omega (arith, rw apart at missing.past) })
-]
+  missing_from : (xs : List X) (k : ℕ) → position (λ x. key x == k) xs ≡ None → IsMissing key xs k
+  missing_from xs k none = record { past = by_test (nat_lt (position_or_len (λ x. key x == k) xs) (length xs)) refl }
+    where
+      by_test : (b : Bool) → nat_lt (position_or_len (λ x. key x == k) xs) (length xs) ≡ b → length xs ≤ position_or_len (λ x. key x == k) xs
+      by_test true inside =
+          let found : position (λ x. key x == k) xs ≡ Some (position_or_len (λ x. key x == k) xs) = rw inside refl in
+          absurd (none-some (position_or_len (λ x. key x == k) xs) (sym none ∙ found))
+      by_test false outside = grind (arith, nat_tests, outside)
 
-get_behind : (os : List Object) (k : ℕ) → IsMissing os k → get (map keyed os) k ≡ None
-unfolding get
-get_behind [] k missing = refl
-get_behind (o ∷ os) k missing = let parts = missing_behind o os k missing in rw parts.0 (get_behind os k parts.1)
+  missing_behind : (x : X) (xs : List X) (k : ℕ) → IsMissing key (x ∷ xs) k → ((key x == k) ≡ false) × IsMissing key xs k
+  missing_behind x xs k missing = elim (cases_Bool (key x == k)) as (λ _. ((key x == k) ≡ false) × IsMissing key xs k) [
+    | inl here ↦ absurd (omega (arith, rw here at missing.past))
+    | inr apart ↦ (apart, record { past = omega (arith, rw apart at missing.past) })
+  ]
 
-pub get_missing : (os : List Object) (k : ℕ) → position (λ o. o.koid == k) os ≡ None → get (map keyed os) k ≡ None
-get_missing os k none = get_behind os k (missing_from os k none)
+  get_behind : (xs : List X) (k : ℕ) → IsMissing key xs k → get (map entry xs) k ≡ None
+  unfolding get
+  get_behind [] k missing = refl
+  get_behind (x ∷ xs) k missing = let parts = missing_behind x xs k missing in rw parts.0 (get_behind xs k parts.1)
 
-pub same_missing : (os : List Object) (k : ℕ) (f : Object → Object) → position (λ o. o.koid == k) os ≡ None → update (map keyed os) k f ≡ map keyed os
-same_missing os k f none = update_missing (map keyed os) k f (get_missing os k none)
+  pub get_missing : (xs : List X) (k : ℕ) → position (λ x. key x == k) xs ≡ None → get (map entry xs) k ≡ None
+  get_missing xs k none = get_behind xs k (missing_from xs k none)
+
+  pub same_missing : (xs : List X) (k : ℕ) (f : Y → Y) → position (λ x. key x == k) xs ≡ None → update (map entry xs) k f ≡ map entry xs
+  same_missing xs k f none = update_missing (map entry xs) k f (get_missing xs k none)
 
 -- ---- one handle more
+
+abbrev koid_of : Object → ℕ
+koid_of o = o.koid
+
+abbrev itself : Object → Object
+itself o = o
 
 koid_held : (o : Object) → (held_once_more o).koid ≡ o.koid
 koid_held o = elim (nat_lt o.handles (2 ^ 62)) as (λ b. (cond b (record o { handles = o.handles + 1 }) o).koid ≡ o.koid) [ true ↦ refl | false ↦ refl ]
@@ -88,13 +99,13 @@ pub held_at : (os : List Object) (k i n : ℕ) (o new : Object) → Some i ≡ p
     → registry (set os i new) n ≡ holding (registry os n) k
 held_at os k i n o new found read is =
     ap (λ (m : Map Object). record { objects = m; next_koid = n })
-    (update_first os k i o held_once_more new (first_at os k i o (sym found)) (is ∙ ap held_once_more read) (ap (λ (x : Object). x.koid) is ∙ (koid_held o ∙ ap (λ (x : Object). x.koid) read)))
+    (update_first koid_of itself os k i o held_once_more new (first_at koid_of itself os k i o (sym found)) (is ∙ ap held_once_more read) (ap (λ (x : Object). x.koid) is ∙ (koid_held o ∙ ap (λ (x : Object). x.koid) read)))
 
 pub held_nowhere : (os : List Object) (k n : ℕ) → None ≡ position (λ o. o.koid == k) os → registry os n ≡ holding (registry os n) k
-held_nowhere os k n missing = ap (λ (m : Map Object). record { objects = m; next_koid = n }) (sym (same_missing os k held_once_more (sym missing)))
+held_nowhere os k n missing = ap (λ (m : Map Object). record { objects = m; next_koid = n }) (sym (same_missing koid_of itself os k held_once_more (sym missing)))
 
 pub place_at : (os : List Object) (k i : ℕ) (o : Object) → Some i ≡ position (λ o. o.koid == k) os → o ≡ get_or os i o → nat_lt o.handles (2 ^ 62) ≡ has_place (get (map keyed os) k)
-place_at os k i o found read = rw (get_first os k i o (first_at os k i o (sym found)), ← read) refl
+place_at os k i o found read = rw (get_first koid_of itself os k i o (first_at koid_of itself os k i o (sym found)), ← read) refl
 
 pub place_nowhere : (os : List Object) (k : ℕ) → None ≡ position (λ o. o.koid == k) os → false ≡ has_place (get (map keyed os) k)
-place_nowhere os k missing = rw (get_missing os k (sym missing)) refl
+place_nowhere os k missing = rw (get_missing koid_of itself os k (sym missing)) refl

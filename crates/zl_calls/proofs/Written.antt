@@ -1,0 +1,112 @@
+-- A process of the list is written: the map by pids, and what the invariant says of processes.
+use Rattle.std.proofs.Common.{◌≡◌, ◌<◌, ◌≤◌, ◌+◌, ℕ, Bool, true, false, ◌==◌, List, map, get_or, set, refl, sym, ap, ◌∙◌, cond, Option, Some, None, inl, inr, ◌⊎◌, ◌^◌, subst, IsTrue, arith}
+use Rattle.std.specs.List.{position, count_by}
+use Rattle.std.specs.Option.{option_map}
+use Rattle.std.specs.Ordering.{nat_cmp}
+use Rattle.std.specs.FinMap.Entries.{is_sorted}
+use Rattle.std.proofs.lemmas.Bool.{cases_Bool, eqb-true}
+use Rattle.std.proofs.lemmas.Option.{same_Some}
+use Rattle.zl_rights.specs.declared.entry.Entry.{Entry}
+use Rattle.zl_rights.specs.Map.{Map, get, update, has_key}
+use Rattle.zl_rights.specs.World.{Process as ProcessValue}
+use Rattle.zl_rights.specs.Signals.{is_process, runs, state_passes}
+use Rattle.zl_rights.proofs.MapLaws.{get-update}
+use Rattle.zl_code.specs.Tests.{handles_to}
+use Rattle.zl_table.specs.Table.{IsTable}
+use Rattle.zl_table.proofs.MapEdits.{is_sorted-update, has_key-update}
+use Rattle.zl_calls.specs.declared.objects.Object.{Object}
+use Rattle.zl_calls.specs.declared.process.Process.{Process}
+use Rattle.zl_calls.specs.Registry.{Registry}
+use Rattle.zl_calls.specs.World.{process_entry, process_value, world_value}
+use Rattle.zl_calls.specs.Lab.{IsLab, IsNamed, AgreesOn, is_kept}
+use Rattle.zl_calls.proofs.Answered.{IsWrite}
+use Rattle.zl_calls.proofs.Counting.{counts_written}
+use Rattle.zl_calls.proofs.Positions.{IsFirst, first_at, get_first, update_first}
+
+pub write_at : (ps : List Process) (pid place : ℕ) (p p2 : Process) → Some place ≡ position (λ q. q.pid == pid) ps → p ≡ get_or ps place p → p2.pid ≡ p.pid → IsWrite ps (set ps place p2) p p2
+write_at ps pid place p p2 found read same =
+    let first : IsFirst (λ (q : Process). q.pid) ps pid place p = first_at (λ (q : Process). q.pid) process_value ps pid place p (sym found) in
+    let key : p.pid ≡ pid = ap (λ (q : Process). q.pid) read ∙ eqb-true (get_or ps place p).pid pid first.here in
+    record {
+      there = rw key (get_first (λ (q : Process). q.pid) process_value ps pid place p first ∙ ap (λ (q : Process). Some (process_value q)) (sym read));
+      writes = λ f is. rw key (update_first (λ (q : Process). q.pid) process_value ps pid place p f p2 first (is ∙ ap (λ (q : Process). f (process_value q)) read) (same ∙ ap (λ (q : Process). q.pid) read));
+    }
+
+-- ---- what is new in the objects
+
+pub record IsNext (before after : List Process) (r r2 : Registry) : Type 0 where
+  pub objects_in_order : IsTrue (is_sorted nat_cmp r2.objects)
+  pub next_koid : r.next_koid ≤ r2.next_koid
+  pub given_objects : (k : ℕ) → IsTrue (has_key r2.objects k) → k < r2.next_koid
+  pub koids : r2.next_koid ≤ 2 ^ 62
+  pub named : (e : Entry) → IsNamed r.objects e → IsNamed r2.objects e
+  pub counted : (k : ℕ) (o : Object) → get r2.objects k ≡ Some o → o.handles ≡ handles_to (world_value after r2) k
+  pub agrees : (k : ℕ) (o : Object) → get r2.objects k ≡ Some o → AgreesOn o.body (is_process (world_value before r) runs k)
+  pub kept : (k : ℕ) (o : Object) → get r2.objects k ≡ Some o → IsTrue (is_kept r2.objects k o)
+
+-- ---- what is found afterwards
+
+module _ (before after : List Process) (p p2 : Process) (write : IsWrite before after p p2) where
+  after_is : map process_entry after ≡ update (map process_entry before) p.pid (λ _. process_value p2)
+  after_is = write.writes (λ _. process_value p2) refl
+
+  get_after : (k : ℕ) → get (map process_entry after) k ≡ cond (p.pid == k) (Some (process_value p2)) (get (map process_entry before) k)
+  get_after k = ap (λ (m : Map ProcessValue). get m k) after_is ∙ (get-update (map process_entry before) p.pid (λ _. process_value p2) k ∙ by_key (cases_Bool (p.pid == k)))
+    where
+      by_key : (IsTrue (p.pid == k)) ⊎ ((p.pid == k) ≡ false) → cond (p.pid == k) (option_map (λ _. process_value p2) (get (map process_entry before) k)) (get (map process_entry before) k) ≡ cond (p.pid == k) (Some (process_value p2)) (get (map process_entry before) k)
+      by_key (inl here) = rw (here, ← eqb-true p.pid k here, write.there) refl
+      by_key (inr apart) = rw apart refl
+
+  -- what is there afterwards is the new process, or was there before
+  found_after : (A : Type 0) (k : ℕ) (q : ProcessValue) → get (map process_entry after) k ≡ Some q → (process_value p2 ≡ q → A) → (get (map process_entry before) k ≡ Some q → A) → A
+  found_after A k q at new old = elim (cases_Bool (p.pid == k)) as (λ _. A) [
+    | inl here ↦ new (same_Some (process_value p2) q (rw (get_after k, here) at at))
+    | inr apart ↦ old (rw (get_after k, apart) at at)
+  ]
+
+  same_runs : p2.state ≡ p.state → (r r2 : Registry) (k : ℕ) → is_process (world_value after r2) runs k ≡ is_process (world_value before r) runs k
+  unfolding is_process
+  same_runs same r r2 k = elim (cases_Bool (p.pid == k)) as (λ _. state_passes runs (get (map process_entry after) k) ≡ state_passes runs (get (map process_entry before) k)) [
+    | inl here ↦ rw (get_after k, here, ← eqb-true p.pid k here, write.there, same) refl
+    | inr apart ↦ rw (get_after k, apart) refl
+  ]
+
+  -- the invariant, from what is new in the table and in the objects
+  pub keeps : (r r2 : Registry) → IsLab before r → p2.state ≡ p.state → IsTable p2.table
+      → ((v : ℕ) (e : Entry) → get p2.table.entries v ≡ Some e → IsNamed r2.objects e)
+      → IsNext before after r r2
+      → IsLab after r2
+  keeps r r2 lab state table named next = record {
+    processes_in_order = rw (after_is, is_sorted-update (map process_entry before) p.pid (λ _. process_value p2)) lab.processes_in_order;
+    objects_in_order = next.objects_in_order;
+    given_processes = λ k there. omega (arith, next.next_koid, lab.given_processes k (sym (has_key-update (map process_entry before) p.pid (λ _. process_value p2) k) ∙ (rw after_is at there)));
+    given_objects = next.given_objects;
+    koids = next.koids;
+    tables = λ k q at. found_after (IsTable (record { entries = q.handles; last = q.last })) k q at (λ is. subst (λ (x : ProcessValue). IsTable (record { entries = x.handles; last = x.last })) is table) (lab.tables k q);
+    named = λ k q v e at there. found_after (IsNamed r2.objects e) k q at (λ is. named v e (ap (λ (x : ProcessValue). get x.handles v) is ∙ there)) (λ old. next.named e (lab.named k q v e old there));
+    counted = next.counted;
+    agrees = λ k o at. rw (same_runs state r r2 k) (next.agrees k o at);
+    kept = next.kept;
+  }
+
+-- ---- a refusal keeps the invariant
+
+same_counts : (before after : List Process) (p p2 : Process) (r : Registry) (k : ℕ) → IsWrite before after p p2 → p2.table ≡ p.table → handles_to (world_value after r) k ≡ handles_to (world_value before r) k
+same_counts before after p p2 r k write table =
+    let none : count_by (λ h. h.1.koid == k) p2.table.entries ≡ count_by (λ h. h.1.koid == k) p.table.entries + 0 = rw table (omega arith) in
+    counts_written before after p p2 r r k 0 write none ∙ omega arith
+
+pub refusal_keeps : (before after : List Process) (p p2 : Process) (r : Registry) → IsWrite before after p p2 → IsLab before r → p2.table ≡ p.table → p2.state ≡ p.state → IsLab after r
+refusal_keeps before after p p2 r write lab table state = keeps before after p p2 write r r lab state
+    (rw table (lab.tables p.pid (process_value p) write.there))
+    (λ v e at. lab.named p.pid (process_value p) v e write.there (rw table at at))
+    (record {
+      objects_in_order = lab.objects_in_order;
+      next_koid = omega arith;
+      given_objects = lab.given_objects;
+      koids = lab.koids;
+      named = λ e named. named;
+      counted = λ k o at. lab.counted k o at ∙ sym (same_counts before after p p2 r k write table);
+      agrees = lab.agrees;
+      kept = lab.kept;
+    })

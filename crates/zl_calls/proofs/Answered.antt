@@ -121,23 +121,25 @@ module _ (lib : Library) (before after : List Process) (p p2 : Process) (write :
   dup_calls counted a d h asked made dups replies =
       (Values (made ∷ []), rw unrefused (chosen, refl, ends))
     where
+      copy : Entry
+      copy = record dups.original { rights = dups.granted }
       unrefused : refusal lib w p.pid (dup h asked) ≡ None
       unrefused = dup_refused lib w free p.pid r.objects (in_world counted) h asked ∙ rw (table_is, dups.unrefused) refl
 
-      copied : copy_of (entry_at w p.pid h) asked ≡ dups.copy ∷ []
-      copied = rw table_is dups.copied
+      copied : copy_of (entry_at w p.pid h) asked ≡ copy ∷ []
+      copied = rw (table_is, dups.was, dups.allowed) refl
 
       chosen : IsTrue (may_choose w (taken w p.pid (site (dup h asked) [] (a ∷ d ∷ []))) p.pid (dup h asked) (made ∷ []))
-      chosen = rw (copied, write.there, may_get_inserted p dups.copy made p2.table dups.inserts) refl
+      chosen = rw (copied, write.there, may_get_inserted p copy made p2.table dups.inserts) refl
 
-      is : process_value p2 ≡ record (process_with made dups.copy (process_value p)) { cpu = cpu_answered (site (dup h asked) [] (a ∷ d ∷ [])) status.Ok (made ∷ []) p.cpu }
+      is : process_value p2 ≡ record (process_with made copy (process_value p)) { cpu = cpu_answered (site (dup h asked) [] (a ∷ d ∷ [])) status.Ok (made ∷ []) p.cpu }
       is = ap process_value replies ∙ (λ i. record (process_value p) { cpu = answered p.cpu (a ∷ d ∷ []) (0 ∷ made ∷ []); handles = dups.inserts.entries i; last = dups.inserts.last i })
 
-      rest : (record (on_process w p.pid (process_with made dups.copy)) { processes = map process_entry after }) ≡ world_value after r2
-      rest = rw dups.objects (ap (λ (os : Map ObjectValue). record w { processes = map process_entry after; objects = os }) (sym (update_unseen object_value r.objects dups.copy.koid held_once_more object_held)))
+      rest : (record (on_process w p.pid (process_with made copy)) { processes = map process_entry after }) ≡ world_value after r2
+      rest = rw dups.objects (ap (λ (os : Map ObjectValue). record w { processes = map process_entry after; objects = os }) (sym (update_unseen object_value r.objects dups.original.koid held_once_more object_held)))
 
       ends : world_value after r2 ≡ replied (effect lib w (taken w p.pid (site (dup h asked) [] (a ∷ d ∷ []))) p.pid (dup h asked) (made ∷ [])) p.pid (site (dup h asked) [] (a ∷ d ∷ [])) status.Ok (made ∷ [])
-      ends = rw copied (replied_with before after p p2 write r r2 (site (dup h asked) [] (a ∷ d ∷ [])) status.Ok (made ∷ []) (process_with made dups.copy) (on_process w p.pid (process_with made dups.copy)) refl rest is)
+      ends = rw copied (replied_with before after p p2 write r r2 (site (dup h asked) [] (a ∷ d ∷ [])) status.Ok (made ∷ []) (process_with made copy) (on_process w p.pid (process_with made copy)) refl rest is)
 
   -- an answer other than OK changes the registers alone
   same_world : p2.table ≡ p.table → r2 ≡ r → (s : Site) → s.consumed ≡ [] → (answer : Status) → Replies s (Err answer) p p2

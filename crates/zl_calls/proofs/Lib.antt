@@ -7,3 +7,4 @@ pub mod Answered
 pub mod Counting
 pub mod Labs
 pub mod Written
+pub mod Kept

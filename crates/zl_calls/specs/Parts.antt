@@ -1,15 +1,16 @@
 -- What calls do to the table of their caller and to the objects.
-use Rattle.std.specs.Prelude.{ℕ, ◌≡◌, ◌+◌, ◌^◌, Bool, true, false, ◌&&◌, ◌||◌, not, nat_le, List, [], ◌∷◌, length, Option, Some, None, Result, Ok, Err}
+use Rattle.std.specs.Prelude.{ℕ, ◌≡◌, ◌<◌, IsTrue, ◌+◌, ◌^◌, Bool, true, false, ◌&&◌, ◌||◌, not, nat_le, List, [], ◌∷◌, length, Option, Some, None, Result, Ok, Err}
 use Rattle.zl_rights.specs.declared.kind.Kind.TheVariants as kind
 use Rattle.zl_rights.specs.declared.status.Status.{Status}
 use Rattle.zl_rights.specs.declared.status.Status.TheVariants as status
 use Rattle.zl_rights.specs.declared.entry.Entry.{Entry}
+use Rattle.zl_rights.specs.declared.rights.Rights.{Rights}
 use Rattle.zl_rights.specs.Numbers.{bits, within, narrowed, DUPLICATE, status_magnitude}
 use Rattle.zl_rights.specs.Map.{Map, get}
 use Rattle.zl_rights.specs.Signals.{is_empty}
 use Rattle.zl_rights.specs.World.{answered}
 use Rattle.zl_code.specs.Request.{Site}
-use Rattle.zl_code.specs.Tests.{with_rights, copy_of}
+use Rattle.zl_code.specs.Tests.{with_rights}
 use Rattle.zl_code.specs.Effects.{new_entry}
 use Rattle.zl_table.specs.Table.{Handles, Inserts}
 use Rattle.zl_calls.specs.declared.objects.Body.TheVariants as body
@@ -69,13 +70,17 @@ dup_refusal_of entries objects asked (Some e) =
 abbrev pub dup_refusal : Map Entry → Map Object → ℕ → ℕ → Option Status
 dup_refusal entries objects value asked = dup_refusal_of entries objects asked (get entries value)
 
--- a copy of the handle, with such rights, gets the value made
+-- a copy of the handle, with the rights that were granted, gets the value made
 pub record Dups (t : Handles) (r : Registry) (value asked made : ℕ) (t2 : Handles) (r2 : Registry) : Type 0 where
   pub unrefused : dup_refusal t.entries r.objects value asked ≡ None
-  pub copy : Entry
-  pub copied : copy_of (get t.entries value) asked ≡ copy ∷ []
-  pub inserts : Inserts t copy made t2
-  pub objects : r2 ≡ holding r copy.koid
+  pub original : Entry
+  pub was : get t.entries value ≡ Some original
+  pub granted : Rights
+  pub allowed : narrowed original.rights asked ≡ Some granted
+  pub room : length t.entries < 1024
+  pub place : IsTrue (has_place (get r.objects original.koid))
+  pub inserts : Inserts t (record original { rights = granted }) made t2
+  pub objects : r2 ≡ holding r original.koid
 
 -- ---- event_create
 

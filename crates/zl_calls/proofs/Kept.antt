@@ -10,7 +10,8 @@ use Rattle.std.proofs.lemmas.Bool.Decides.{nat_tests}
 use Rattle.std.proofs.lemmas.Option.{none-some, same_Some}
 use Rattle.zl_rights.specs.declared.rights.Rights.{Rights}
 use Rattle.zl_rights.specs.declared.entry.Entry.{Entry}
-use Rattle.zl_rights.specs.Numbers.{bits, within, narrowed, default_rights_of, SAME_RIGHTS}
+use Rattle.zl_rights.specs.Numbers.{bits, within, narrowed, default_rights_of, SAME_RIGHTS, rights_of}
+use Rattle.std.proofs.lemmas.Nat.{and_assoc}
 use Rattle.zl_rights.specs.Map.{Map, get, put, update, has_key}
 use Rattle.zl_rights.specs.Signals.{is_process, runs}
 use Rattle.zl_rights.specs.World.{Process as ProcessValue, kind_of}
@@ -94,3 +95,95 @@ child_held (e ∷ m) k job = elim (cases_Bool (e.0 == k)) as (λ _. list_any (λ
   | inl here ↦ rw (here, body_held e.1) refl
   | inr apart ↦ rw apart (ap (λ b. lives_below job e.1.body || b) (child_held m k job))
 ]
+
+-- ---- rights
+
+part_of : (a b c : ℕ) → IsTrue (within a b) → IsTrue (within b c) → IsTrue (within a c)
+part_of a b c first second =
+    let ab : bit_and b a ≡ a = eqb-true (bit_and b a) a first in
+    let bc : bit_and c b ≡ b = eqb-true (bit_and c b) b second in
+    eq-eqb (bit_and c a) a (ap (λ (x : ℕ). bit_and c x) (sym ab) ∙ (sym (and_assoc a c b) ∙ (ap (λ (x : ℕ). bit_and x a) bc ∙ ab)))
+
+allowed_within : (have : Rights) (asked : ℕ) (granted : Rights) (whole : ℕ) → narrowed have asked ≡ Some granted → IsTrue (within (bits have) whole) → IsTrue (within (bits granted) whole)
+allowed_within have asked granted whole allowed inside = by_same (cases_Bool (asked == SAME_RIGHTS))
+  where
+    by_part : ((asked == SAME_RIGHTS) ≡ false) → IsTrue (within asked (bits have)) ⊎ (within asked (bits have) ≡ false) → IsTrue (within (bits granted) whole)
+    by_part other (inl part) =
+        let is : rights_of asked ≡ granted = same_Some (rights_of asked) granted (rw (other, part) at allowed) in
+        subst (λ (r : Rights). IsTrue (within (bits r) whole)) is (part_of asked (bits have) whole part inside)
+    by_part other (inr apart) = absurd (none-some granted (rw (other, apart) at allowed))
+    by_same : IsTrue (asked == SAME_RIGHTS) ⊎ ((asked == SAME_RIGHTS) ≡ false) → IsTrue (within (bits granted) whole)
+    by_same (inl same) =
+        let is : have ≡ granted = same_Some have granted (rw same at allowed) in
+        subst (λ (r : Rights). IsTrue (within (bits r) whole)) is inside
+    by_same (inr other) = by_part other (cases_Bool (within asked (bits have)))
+
+-- ---- dup
+
+module _ (before after : List Process) (p p2 : Process) (write : IsWrite before after p p2) (r : Registry) (lab : IsLab before r) (h asked made : ℕ) (r2 : Registry) (dups : Dups p.table r h asked made p2.table r2) where
+  abbrev k : ℕ
+  k = dups.original.koid
+
+  abbrev copy : Entry
+  copy = record dups.original { rights = dups.granted }
+
+  original_named : IsNamed r.objects dups.original
+  original_named = lab.named p.pid (process_value p) h dups.original write.there dups.was
+
+  copy_named : IsNamed r.objects copy
+  copy_named = record {
+    object = original_named.object;
+    there = original_named.there;
+    kind = original_named.kind;
+    rights = allowed_within dups.original.rights asked dups.granted (default_rights_of dups.original.kind) dups.allowed original_named.rights;
+  }
+
+  counts : (j : ℕ) → handles_to (world_value after (holding r k)) j ≡ handles_to (world_value before r) j + cond (k == j) 1 0
+  counts j = counts_written before after p p2 r (holding r k) j (cond (k == j) 1 0) write
+      (ap (λ (m : Map Entry). count_by (λ x. x.1.koid == j) m) dups.inserts.entries ∙ count_put (λ x. x.1.koid == j) p.table.entries made copy dups.inserts.unused)
+
+  -- the object has place for one handle more
+  one_more : (o : Object) → get r.objects k ≡ Some o → (held_once_more o).handles ≡ o.handles + 1
+  one_more o at =
+      let place : IsTrue (nat_lt o.handles (2 ^ 62)) = rw at at dups.place in
+      rw place refl
+
+  next : IsNext before after r (holding r k)
+  unfolding has_living_child
+  next = record {
+    objects_in_order = rw (is_sorted-update r.objects k held_once_more) lab.objects_in_order;
+    next_koid = omega arith;
+    given_objects = λ j there. lab.given_objects j (sym (has_key-update r.objects k held_once_more j) ∙ there);
+    koids = lab.koids;
+    named = held_named r.objects k;
+    counted = λ j q at. found_held r.objects k (q.handles ≡ handles_to (world_value after (holding r k)) j) j q at
+      (λ o old here is.
+        let same : k ≡ j = eqb-true k j here in
+        let more : q.handles ≡ o.handles + 1 = ap (λ (x : Object). x.handles) (sym is) ∙ one_more o (rw same old) in
+        more ∙ (ap (λ (n : ℕ). n + 1) (lab.counted j o old) ∙ sym (counts j ∙ rw here refl)))
+      (λ apart old. lab.counted j q old ∙ sym (counts j ∙ rw apart (omega arith)));
+    agrees = λ j q at. found_held r.objects k (AgreesOn q.body (is_process (world_value before r) runs j)) j q at
+      (λ o old here is. subst (λ (x : Object). AgreesOn x.body (is_process (world_value before r) runs j)) is (rw (body_held o) (lab.agrees j o old)))
+      (λ apart old. lab.agrees j q old);
+    kept = λ j q at. found_held r.objects k (IsTrue (is_kept (holding r k).objects j q)) j q at
+      (λ o old here is.
+        let same : k ≡ j = eqb-true k j here in
+        let more : q.handles ≡ o.handles + 1 = ap (λ (x : Object). x.handles) (sym is) ∙ one_more o (rw same old) in
+        or_left (nat_lt 0 q.handles) _ (rw more (grind (arith, nat_tests))))
+      (λ apart old. still_kept j q q.body (lab.kept j q old));
+  }
+    where
+      still_alone : (j : ℕ) (b : Body) → stays_alone (holding r k).objects j b ≡ stays_alone r.objects j b
+      still_alone j body.RootJob = child_held r.objects k j
+      still_alone j (body.Process job lives) = refl
+      still_alone j body.Event = refl
+      still_kept : (j : ℕ) (q : Object) (b : Body) → IsTrue (is_kept r.objects j q) → IsTrue (is_kept (holding r k).objects j q)
+      still_kept j q b kept = rw (still_alone j q.body) kept
+
+  pub dup_keeps : p2.state ≡ p.state → IsLab after r2
+  dup_keeps state = rw dups.objects (keeps before after p p2 write r (holding r k) lab state
+      (inserted_table p.table copy made p2.table (lab.tables p.pid (process_value p) write.there) dups.room dups.inserts)
+      (λ v e at. held_named r.objects k e (found_inserted (IsNamed r.objects e) p.table copy made p2.table dups.inserts v e at
+        (λ is. subst (λ (x : Entry). IsNamed r.objects x) is copy_named)
+        (λ old. lab.named p.pid (process_value p) v e write.there old)))
+      next)

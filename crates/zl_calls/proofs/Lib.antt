@@ -8,3 +8,4 @@ pub mod Counting
 pub mod Labs
 pub mod Written
 pub mod Kept
+pub mod KeptEvent

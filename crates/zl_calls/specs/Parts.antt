@@ -91,5 +91,7 @@ event_refusal entries next_koid = status_if (not (has_room_in entries && nat_le 
 -- a handle to a new event gets the value made
 pub record CreatesEvent (t : Handles) (r : Registry) (made : ℕ) (t2 : Handles) (r2 : Registry) : Type 0 where
   pub unrefused : event_refusal t.entries r.next_koid ≡ None
+  pub room : length t.entries < 1024
+  pub koid : r.next_koid < 2 ^ 62
   pub inserts : Inserts t (new_entry r.next_koid kind.Event) made t2
   pub objects : r2 ≡ with_new r body.Event 1

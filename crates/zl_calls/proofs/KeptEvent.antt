@@ -1,0 +1,148 @@
+-- event_create keeps the invariant of the world.
+use Rattle.std.proofs.Common.{◌≡◌, ◌<◌, ◌≤◌, ◌+◌, ◌^◌, ℕ, zero, suc, Bool, true, false, ◌&&◌, ◌||◌, ◌==◌, List, [], ◌∷◌, ◌++◌, map, refl, sym, ap, ◌∙◌, subst, cond, Option, Some, None, inl, inr, ◌⊎◌, IsTrue, length, arith, eq-eqb}
+use Rattle.std.specs.Prelude.{nat_lt, is_some, if◌then◌else◌}
+use Rattle.std.specs.List.{list_any, count_by}
+use Rattle.std.specs.Ordering.{nat_cmp}
+use Rattle.std.specs.FinMap.Entries.{is_sorted}
+use Rattle.std.proofs.lemmas.Bool.{cases_Bool, eqb-true, or_left}
+use Rattle.std.proofs.lemmas.Option.{same_Some}
+use Rattle.zl_rights.specs.declared.kind.Kind.TheVariants as kind
+use Rattle.zl_rights.specs.declared.entry.Entry.{Entry}
+use Rattle.zl_rights.specs.Map.{Map, get, put, has_key}
+use Rattle.zl_rights.specs.Signals.{is_process, runs}
+use Rattle.zl_rights.specs.Settle.{in_table}
+use Rattle.zl_rights.specs.World.{Process as ProcessValue}
+use Rattle.zl_rights.proofs.MapLaws.{get-put}
+use Rattle.zl_code.specs.Tests.{handles_to}
+use Rattle.zl_code.specs.Effects.{new_entry}
+use Rattle.zl_table.specs.Table.{IsTable}
+use Rattle.zl_table.proofs.MapEdits.{sorted_put, put_key}
+use Rattle.zl_calls.specs.declared.objects.Body.{Body}
+use Rattle.zl_calls.specs.declared.objects.Body.TheVariants as body
+use Rattle.zl_calls.specs.declared.objects.Object.{Object}
+use Rattle.zl_calls.specs.declared.process.Process.{Process}
+use Rattle.zl_calls.specs.Registry.{Registry, new_object, with_new}
+use Rattle.zl_calls.specs.Parts.{CreatesEvent}
+use Rattle.zl_calls.specs.World.{process_entry, process_value, world_value}
+use Rattle.zl_calls.specs.Lab.{IsLab, IsNamed, AgreesOn, is_kept, stays_alone, has_living_child, lives_below}
+use Rattle.zl_calls.proofs.Answered.{IsWrite, put_last}
+use Rattle.zl_calls.proofs.Counting.{count_put, counts_written, counted_in_table}
+use Rattle.zl_calls.proofs.Labs.{Found, any_found}
+use Rattle.zl_calls.proofs.Kept.{inserted_table, found_inserted}
+use Rattle.zl_calls.proofs.Written.{IsNext, keeps}
+
+any_behind : {X : Type 0} (test : X → Bool) (xs : List X) (x : X) → test x ≡ false → list_any test (xs ++ x ∷ []) ≡ list_any test xs
+any_behind test [] x out = rw out refl
+any_behind test (y ∷ xs) x out = ap (λ b. test y || b) (any_behind test xs x out)
+
+-- ---- no handle names a koid that wasn't given
+
+module _ (ps : List Process) (r : Registry) (lab : IsLab ps r) where
+  given_key : (k : ℕ) (o : Object) → get r.objects k ≡ Some o → k < r.next_koid
+  given_key k o at = lab.given_objects k (rw at refl)
+
+  unnamed_any : IsTrue (in_table (world_value ps r) r.next_koid) → ⊥
+  unfolding in_table
+  unnamed_any some =
+      let holder : Found (λ p. list_any (λ h. h.1.koid == r.next_koid) p.1.handles) (map process_entry ps)
+            = any_found (λ p. list_any (λ h. h.1.koid == r.next_koid) p.1.handles) (map process_entry ps) lab.processes_in_order some in
+      let table : IsTable (record { entries = holder.value.handles; last = holder.value.last }) = lab.tables holder.key holder.value holder.at in
+      let handle : Found (λ h. h.1.koid == r.next_koid) holder.value.handles = any_found (λ h. h.1.koid == r.next_koid) holder.value.handles table.sorted holder.passes in
+      let named : IsNamed r.objects handle.value = lab.named holder.key holder.value handle.key handle.value holder.at handle.at in
+      omega (arith, given_key handle.value.koid named.object named.there, eqb-true handle.value.koid r.next_koid handle.passes)
+
+  unnamed : handles_to (world_value ps r) r.next_koid ≡ 0
+  unnamed = by_count (handles_to (world_value ps r) r.next_koid) refl
+    where
+      by_count : (n : ℕ) → handles_to (world_value ps r) r.next_koid ≡ n → ◌≡◌ {A = ℕ} n 0
+      by_count zero is = refl
+      by_count (suc n) is = absurd (unnamed_any (counted_in_table ps r r.next_koid (omega (arith, is))))
+
+-- ---- event_create
+
+module _ (before after : List Process) (p p2 : Process) (write : IsWrite before after p p2) (r : Registry) (lab : IsLab before r) (made : ℕ) (r2 : Registry) (creates : CreatesEvent p.table r made p2.table r2) where
+  abbrev n : ℕ
+  n = r.next_koid
+
+  abbrev fresh : Object
+  fresh = new_object n body.Event 1
+
+  abbrev entry : Entry
+  entry = new_entry n kind.Event
+
+  abbrev grown : Registry
+  grown = with_new r body.Event 1
+
+  grown_is : put r.objects n fresh ≡ grown.objects
+  grown_is = put_last r.objects n fresh lab.given_objects
+
+  get_grown : (j : ℕ) → get grown.objects j ≡ (if n == j then Some fresh else get r.objects j)
+  get_grown j = ap (λ (m : Map Object). get m j) (sym grown_is) ∙ get-put r.objects n fresh j
+
+  -- an object afterwards is the new one, or was there before
+  found_grown : (A : Type 0) (j : ℕ) (q : Object) → get grown.objects j ≡ Some q → (IsTrue (n == j) → fresh ≡ q → A) → ((n == j) ≡ false → get r.objects j ≡ Some q → A) → A
+  found_grown A j q at new old =
+      let read : (if n == j then Some fresh else get r.objects j) ≡ Some q = sym (get_grown j) ∙ at in
+      elim (cases_Bool (n == j)) as (λ _. A) [
+        | inl here ↦ new here (same_Some fresh q (rw here at read))
+        | inr apart ↦ old apart (rw apart at read)
+      ]
+
+  grown_named : (e : Entry) → IsNamed r.objects e → IsNamed grown.objects e
+  grown_named e named = record {
+    object = named.object;
+    there = elim (cases_Bool (n == e.koid)) as (λ _. get grown.objects e.koid ≡ Some named.object) [
+      | inl here ↦ absurd (omega (arith, given_key before r lab e.koid named.object named.there, eqb-true n e.koid here))
+      | inr apart ↦ get_grown e.koid ∙ rw apart named.there
+    ];
+    kind = named.kind;
+    rights = named.rights;
+  }
+
+  entry_named : IsNamed grown.objects entry
+  entry_named = record { object = fresh; there = get_grown n ∙ rw (same n) refl; kind = refl; rights = refl }
+    where
+      same : (j : ℕ) → (j == j) ≡ true
+      same j = eq-eqb j j refl
+
+  counts : (j : ℕ) → handles_to (world_value after grown) j ≡ handles_to (world_value before r) j + cond (n == j) 1 0
+  counts j = counts_written before after p p2 r grown j (cond (n == j) 1 0) write
+      (ap (λ (m : Map Entry). count_by (λ x. x.1.koid == j) m) creates.inserts.entries ∙ count_put (λ x. x.1.koid == j) p.table.entries made entry creates.inserts.unused)
+
+  next : IsNext before after r grown
+  unfolding has_living_child
+  next = record {
+    objects_in_order = rw (← grown_is) (sorted_put r.objects n fresh lab.objects_in_order);
+    next_koid = omega arith;
+    given_objects = λ j there. elim (put_key r.objects n fresh j (rw (← grown_is) at there)) as (λ _. j < n + 1) [
+      | inl same ↦ omega (arith, same)
+      | inr old ↦ omega (arith, lab.given_objects j old)
+    ];
+    koids = omega (arith, creates.koid);
+    named = grown_named;
+    counted = λ j q at. found_grown (q.handles ≡ handles_to (world_value after grown) j) j q at
+      (λ here is.
+        let same : n ≡ j = eqb-true n j here in
+        let none : ◌≡◌ {A = ℕ} (handles_to (world_value before r) j) 0 = rw (← same) (unnamed before r lab) in
+        ap (λ (x : Object). x.handles) (sym is) ∙ sym (counts j ∙ rw (here, none) refl))
+      (λ apart old. lab.counted j q old ∙ sym (counts j ∙ rw apart (omega arith)));
+    agrees = λ j q at. found_grown (AgreesOn q.body (is_process (world_value before r) runs j)) j q at
+      (λ here is. subst (λ (x : Object). AgreesOn x.body (is_process (world_value before r) runs j)) is tt)
+      (λ apart old. lab.agrees j q old);
+    kept = λ j q at. found_grown (IsTrue (is_kept grown.objects j q)) j q at
+      (λ here is. subst (λ (x : Object). IsTrue (is_kept grown.objects j x)) is refl)
+      (λ apart old. rw (still_alone j q.body) (lab.kept j q old));
+  }
+    where
+      still_alone : (j : ℕ) (b : Body) → stays_alone grown.objects j b ≡ stays_alone r.objects j b
+      still_alone j body.RootJob = any_behind (λ e. lives_below j e.1.body) r.objects (n, fresh) refl
+      still_alone j (body.Process job lives) = refl
+      still_alone j body.Event = refl
+
+  pub event_create_keeps : p2.state ≡ p.state → IsLab after r2
+  event_create_keeps state = rw creates.objects (keeps before after p p2 write r grown lab state
+      (inserted_table p.table entry made p2.table (lab.tables p.pid (process_value p) write.there) creates.room creates.inserts)
+      (λ v e at. found_inserted (IsNamed grown.objects e) p.table entry made p2.table creates.inserts v e at
+        (λ is. subst (λ (x : Entry). IsNamed grown.objects x) is entry_named)
+        (λ old. grown_named e (lab.named p.pid (process_value p) v e write.there old)))
+      next)

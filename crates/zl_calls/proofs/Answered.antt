@@ -123,6 +123,7 @@ module _ (lib : Library) (before after : List Process) (p p2 : Process) (write :
     where
       copy : Entry
       copy = record dups.original { rights = dups.granted }
+
       unrefused : refusal lib w p.pid (dup h asked) ≡ None
       unrefused = dup_refused lib w free p.pid r.objects (in_world counted) h asked ∙ rw (table_is, dups.unrefused) refl
 

@@ -1,20 +1,17 @@
 -- dup keeps the invariant of the world.
-use Rattle.std.proofs.Common.{◌≡◌, ◌<◌, ◌≤◌, ◌+◌, ◌^◌, ℕ, Bool, true, false, ◌&&◌, ◌||◌, ◌==◌, List, map, refl, sym, ap, ◌∙◌, subst, cond, Option, Some, None, inl, inr, ◌⊎◌, IsTrue, length, arith, eq-eqb, [], ◌∷◌}
+use Rattle.std.proofs.Common.{◌≡◌, ◌<◌, ◌≤◌, ◌+◌, ◌^◌, ℕ, true, false, ◌||◌, ◌==◌, List, refl, sym, ap, ◌∙◌, subst, cond, Option, Some, None, inl, inr, ◌⊎◌, IsTrue, length, arith, eq-eqb, [], ◌∷◌}
 use Rattle.std.specs.Prelude.{bit_and, nat_lt, if◌then◌else◌}
 use Rattle.std.specs.List.{list_any, count_by}
 use Rattle.std.specs.Option.{option_map}
-use Rattle.std.specs.Ordering.{nat_cmp}
-use Rattle.std.specs.FinMap.Entries.{is_sorted}
-use Rattle.std.proofs.lemmas.Bool.{cases_Bool, eqb-true, false≢true, or_cases, or_left, or_right}
+use Rattle.std.proofs.lemmas.Bool.{cases_Bool, eqb-true, or_left}
 use Rattle.std.proofs.lemmas.Bool.Decides.{nat_tests}
 use Rattle.std.proofs.lemmas.Option.{none-some, same_Some}
 use Rattle.zl_rights.specs.declared.rights.Rights.{Rights}
 use Rattle.zl_rights.specs.declared.entry.Entry.{Entry}
 use Rattle.zl_rights.specs.Numbers.{bits, within, narrowed, default_rights_of, SAME_RIGHTS, rights_of}
 use Rattle.std.proofs.lemmas.Nat.{and_assoc}
-use Rattle.zl_rights.specs.Map.{Map, get, put, update, has_key}
+use Rattle.zl_rights.specs.Map.{Map, get, update}
 use Rattle.zl_rights.specs.Signals.{is_process, runs}
-use Rattle.zl_rights.specs.World.{Process as ProcessValue, kind_of}
 use Rattle.zl_rights.proofs.MapLaws.{get-put, get-update}
 use Rattle.zl_code.specs.Tests.{handles_to}
 use Rattle.zl_table.specs.Table.{Handles, IsTable, Inserts}
@@ -23,9 +20,9 @@ use Rattle.zl_calls.specs.declared.objects.Body.{Body}
 use Rattle.zl_calls.specs.declared.objects.Body.TheVariants as body
 use Rattle.zl_calls.specs.declared.objects.Object.{Object}
 use Rattle.zl_calls.specs.declared.process.Process.{Process}
-use Rattle.zl_calls.specs.Registry.{Registry, has_place, held_once_more, holding}
+use Rattle.zl_calls.specs.Registry.{Registry, held_once_more, holding}
 use Rattle.zl_calls.specs.Parts.{Dups}
-use Rattle.zl_calls.specs.World.{process_entry, process_value, body_value, world_value}
+use Rattle.zl_calls.specs.World.{process_value, world_value}
 use Rattle.zl_calls.specs.Lab.{IsLab, IsNamed, AgreesOn, is_kept, stays_alone, has_living_child, lives_below}
 use Rattle.zl_calls.proofs.Answered.{IsWrite}
 use Rattle.zl_calls.proofs.Counting.{count_put, counts_written}
@@ -112,6 +109,7 @@ allowed_within have asked granted whole allowed inside = by_same (cases_Bool (as
         let is : rights_of asked ≡ granted = same_Some (rights_of asked) granted (rw (other, part) at allowed) in
         subst (λ (r : Rights). IsTrue (within (bits r) whole)) is (part_of asked (bits have) whole part inside)
     by_part other (inr apart) = absurd (none-some granted (rw (other, apart) at allowed))
+
     by_same : IsTrue (asked == SAME_RIGHTS) ⊎ ((asked == SAME_RIGHTS) ≡ false) → IsTrue (within (bits granted) whole)
     by_same (inl same) =
         let is : have ≡ granted = same_Some have granted (rw same at allowed) in
@@ -157,26 +155,27 @@ module _ (before after : List Process) (p p2 : Process) (write : IsWrite before 
     koids = lab.koids;
     named = held_named r.objects k;
     counted = λ j q at. found_held r.objects k (q.handles ≡ handles_to (world_value after (holding r k)) j) j q at
-      (λ o old here is.
+        (λ o old here is.
         let same : k ≡ j = eqb-true k j here in
         let more : q.handles ≡ o.handles + 1 = ap (λ (x : Object). x.handles) (sym is) ∙ one_more o (rw same old) in
         more ∙ (ap (λ (n : ℕ). n + 1) (lab.counted j o old) ∙ sym (counts j ∙ rw here refl)))
-      (λ apart old. lab.counted j q old ∙ sym (counts j ∙ rw apart (omega arith)));
+        (λ apart old. lab.counted j q old ∙ sym (counts j ∙ rw apart (omega arith)));
     agrees = λ j q at. found_held r.objects k (AgreesOn q.body (is_process (world_value before r) runs j)) j q at
-      (λ o old here is. subst (λ (x : Object). AgreesOn x.body (is_process (world_value before r) runs j)) is (rw (body_held o) (lab.agrees j o old)))
-      (λ apart old. lab.agrees j q old);
+        (λ o old here is. subst (λ (x : Object). AgreesOn x.body (is_process (world_value before r) runs j)) is (rw (body_held o) (lab.agrees j o old)))
+        (λ apart old. lab.agrees j q old);
     kept = λ j q at. found_held r.objects k (IsTrue (is_kept (holding r k).objects j q)) j q at
-      (λ o old here is.
+        (λ o old here is.
         let same : k ≡ j = eqb-true k j here in
         let more : q.handles ≡ o.handles + 1 = ap (λ (x : Object). x.handles) (sym is) ∙ one_more o (rw same old) in
         or_left (nat_lt 0 q.handles) _ (rw more (grind (arith, nat_tests))))
-      (λ apart old. still_kept j q q.body (lab.kept j q old));
+        (λ apart old. still_kept j q q.body (lab.kept j q old));
   }
     where
       still_alone : (j : ℕ) (b : Body) → stays_alone (holding r k).objects j b ≡ stays_alone r.objects j b
       still_alone j body.RootJob = child_held r.objects k j
       still_alone j (body.Process job lives) = refl
       still_alone j body.Event = refl
+
       still_kept : (j : ℕ) (q : Object) (b : Body) → IsTrue (is_kept r.objects j q) → IsTrue (is_kept (holding r k).objects j q)
       still_kept j q b kept = rw (still_alone j q.body) kept
 
@@ -184,6 +183,6 @@ module _ (before after : List Process) (p p2 : Process) (write : IsWrite before 
   dup_keeps state = rw dups.objects (keeps before after p p2 write r (holding r k) lab state
       (inserted_table p.table copy made p2.table (lab.tables p.pid (process_value p) write.there) dups.room dups.inserts)
       (λ v e at. held_named r.objects k e (found_inserted (IsNamed r.objects e) p.table copy made p2.table dups.inserts v e at
-        (λ is. subst (λ (x : Entry). IsNamed r.objects x) is copy_named)
-        (λ old. lab.named p.pid (process_value p) v e write.there old)))
+      (λ is. subst (λ (x : Entry). IsNamed r.objects x) is copy_named)
+      (λ old. lab.named p.pid (process_value p) v e write.there old)))
       next)

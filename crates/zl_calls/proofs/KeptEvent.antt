@@ -1,17 +1,14 @@
 -- event_create keeps the invariant of the world.
-use Rattle.std.proofs.Common.{◌≡◌, ◌<◌, ◌≤◌, ◌+◌, ◌^◌, ℕ, zero, suc, Bool, true, false, ◌&&◌, ◌||◌, ◌==◌, List, [], ◌∷◌, ◌++◌, map, refl, sym, ap, ◌∙◌, subst, cond, Option, Some, None, inl, inr, ◌⊎◌, IsTrue, length, arith, eq-eqb}
-use Rattle.std.specs.Prelude.{nat_lt, is_some, if◌then◌else◌}
+use Rattle.std.proofs.Common.{◌≡◌, ◌<◌, ◌+◌, ℕ, zero, suc, Bool, true, false, ◌||◌, ◌==◌, List, [], ◌∷◌, ◌++◌, map, refl, sym, ap, ◌∙◌, subst, cond, Some, inl, inr, IsTrue, arith, eq-eqb}
+use Rattle.std.specs.Prelude.{if◌then◌else◌}
 use Rattle.std.specs.List.{list_any, count_by}
-use Rattle.std.specs.Ordering.{nat_cmp}
-use Rattle.std.specs.FinMap.Entries.{is_sorted}
-use Rattle.std.proofs.lemmas.Bool.{cases_Bool, eqb-true, or_left}
+use Rattle.std.proofs.lemmas.Bool.{cases_Bool, eqb-true}
 use Rattle.std.proofs.lemmas.Option.{same_Some}
 use Rattle.zl_rights.specs.declared.kind.Kind.TheVariants as kind
 use Rattle.zl_rights.specs.declared.entry.Entry.{Entry}
-use Rattle.zl_rights.specs.Map.{Map, get, put, has_key}
+use Rattle.zl_rights.specs.Map.{Map, get, put}
 use Rattle.zl_rights.specs.Signals.{is_process, runs}
 use Rattle.zl_rights.specs.Settle.{in_table}
-use Rattle.zl_rights.specs.World.{Process as ProcessValue}
 use Rattle.zl_rights.proofs.MapLaws.{get-put}
 use Rattle.zl_code.specs.Tests.{handles_to}
 use Rattle.zl_code.specs.Effects.{new_entry}
@@ -45,7 +42,7 @@ module _ (ps : List Process) (r : Registry) (lab : IsLab ps r) where
   unfolding in_table
   unnamed_any some =
       let holder : Found (λ p. list_any (λ h. h.1.koid == r.next_koid) p.1.handles) (map process_entry ps)
-            = any_found (λ p. list_any (λ h. h.1.koid == r.next_koid) p.1.handles) (map process_entry ps) lab.processes_in_order some in
+      = any_found (λ p. list_any (λ h. h.1.koid == r.next_koid) p.1.handles) (map process_entry ps) lab.processes_in_order some in
       let table : IsTable (record { entries = holder.value.handles; last = holder.value.last }) = lab.tables holder.key holder.value holder.at in
       let handle : Found (λ h. h.1.koid == r.next_koid) holder.value.handles = any_found (λ h. h.1.koid == r.next_koid) holder.value.handles table.sorted holder.passes in
       let named : IsNamed r.objects handle.value = lab.named holder.key holder.value handle.key handle.value holder.at handle.at in
@@ -121,17 +118,17 @@ module _ (before after : List Process) (p p2 : Process) (write : IsWrite before 
     koids = omega (arith, creates.koid);
     named = grown_named;
     counted = λ j q at. found_grown (q.handles ≡ handles_to (world_value after grown) j) j q at
-      (λ here is.
+        (λ here is.
         let same : n ≡ j = eqb-true n j here in
         let none : ◌≡◌ {A = ℕ} (handles_to (world_value before r) j) 0 = rw (← same) (unnamed before r lab) in
         ap (λ (x : Object). x.handles) (sym is) ∙ sym (counts j ∙ rw (here, none) refl))
-      (λ apart old. lab.counted j q old ∙ sym (counts j ∙ rw apart (omega arith)));
+        (λ apart old. lab.counted j q old ∙ sym (counts j ∙ rw apart (omega arith)));
     agrees = λ j q at. found_grown (AgreesOn q.body (is_process (world_value before r) runs j)) j q at
-      (λ here is. subst (λ (x : Object). AgreesOn x.body (is_process (world_value before r) runs j)) is tt)
-      (λ apart old. lab.agrees j q old);
+        (λ here is. subst (λ (x : Object). AgreesOn x.body (is_process (world_value before r) runs j)) is tt)
+        (λ apart old. lab.agrees j q old);
     kept = λ j q at. found_grown (IsTrue (is_kept grown.objects j q)) j q at
-      (λ here is. subst (λ (x : Object). IsTrue (is_kept grown.objects j x)) is refl)
-      (λ apart old. rw (still_alone j q.body) (lab.kept j q old));
+        (λ here is. subst (λ (x : Object). IsTrue (is_kept grown.objects j x)) is refl)
+        (λ apart old. rw (still_alone j q.body) (lab.kept j q old));
   }
     where
       still_alone : (j : ℕ) (b : Body) → stays_alone grown.objects j b ≡ stays_alone r.objects j b
@@ -143,6 +140,6 @@ module _ (before after : List Process) (p p2 : Process) (write : IsWrite before 
   event_create_keeps state = rw creates.objects (keeps before after p p2 write r grown lab state
       (inserted_table p.table entry made p2.table (lab.tables p.pid (process_value p) write.there) creates.room creates.inserts)
       (λ v e at. found_inserted (IsNamed grown.objects e) p.table entry made p2.table creates.inserts v e at
-        (λ is. subst (λ (x : Entry). IsNamed grown.objects x) is entry_named)
-        (λ old. grown_named e (lab.named p.pid (process_value p) v e write.there old)))
+      (λ is. subst (λ (x : Entry). IsNamed grown.objects x) is entry_named)
+      (λ old. grown_named e (lab.named p.pid (process_value p) v e write.there old)))
       next)

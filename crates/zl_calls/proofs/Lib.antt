@@ -9,3 +9,4 @@ pub mod Labs
 pub mod Written
 pub mod Kept
 pub mod KeptEvent
+pub mod Performed

@@ -1,5 +1,5 @@
 -- A process of the list is written: the map by pids, and what the invariant says of processes.
-use Rattle.std.proofs.Common.{◌≡◌, ◌<◌, ◌≤◌, ◌+◌, ℕ, Bool, true, false, ◌==◌, List, map, get_or, set, refl, sym, ap, ◌∙◌, cond, Option, Some, None, inl, inr, ◌⊎◌, ◌^◌, subst, IsTrue, arith}
+use Rattle.std.proofs.Common.{◌≡◌, ◌<◌, ◌≤◌, ◌+◌, ℕ, false, ◌==◌, List, map, get_or, set, refl, sym, ap, ◌∙◌, cond, Some, inl, inr, ◌⊎◌, ◌^◌, subst, IsTrue, arith}
 use Rattle.std.specs.List.{position, count_by}
 use Rattle.std.specs.Option.{option_map}
 use Rattle.std.specs.Ordering.{nat_cmp}

@@ -1,11 +1,12 @@
 -- A process of the list is written: the map by pids, and what the invariant says of processes.
-use Rattle.std.proofs.Common.{◌≡◌, ◌<◌, ◌≤◌, ◌+◌, ℕ, false, ◌==◌, List, map, get_or, set, refl, sym, ap, ◌∙◌, cond, Some, inl, inr, ◌⊎◌, ◌^◌, subst, IsTrue, arith}
+use Rattle.std.proofs.Common.{Option, None, ◌≡◌, ◌<◌, ◌≤◌, ◌+◌, ℕ, false, ◌==◌, List, map, get_or, set, refl, sym, ap, ◌∙◌, cond, Some, inl, inr, ◌⊎◌, ◌^◌, subst, IsTrue, arith, [], ◌∷◌}
+use Rattle.std.specs.Prelude.{MatchOption}
 use Rattle.std.specs.List.{position, count_by}
 use Rattle.std.specs.Option.{option_map}
 use Rattle.std.specs.Ordering.{nat_cmp}
 use Rattle.std.specs.FinMap.Entries.{is_sorted}
 use Rattle.std.proofs.lemmas.Bool.{cases_Bool, eqb-true}
-use Rattle.std.proofs.lemmas.Option.{same_Some}
+use Rattle.std.proofs.lemmas.Option.{none-some, same_Some, slice_get-get_or}
 use Rattle.zl_rights.specs.declared.entry.Entry.{Entry}
 use Rattle.zl_rights.specs.Map.{Map, get, update, has_key}
 use Rattle.zl_rights.specs.World.{Process as ProcessValue}
@@ -17,11 +18,11 @@ use Rattle.zl_table.proofs.MapEdits.{is_sorted-update, has_key-update}
 use Rattle.zl_calls.specs.declared.objects.Object.{Object}
 use Rattle.zl_calls.specs.declared.process.Process.{Process}
 use Rattle.zl_calls.specs.Registry.{Registry}
-use Rattle.zl_calls.specs.World.{process_entry, process_value, world_value}
+use Rattle.zl_calls.specs.World.{process_entry, process_value, world_value, IsPlaceOf}
 use Rattle.zl_calls.specs.Lab.{IsLab, IsNamed, AgreesOn, is_kept}
 use Rattle.zl_calls.proofs.Answered.{IsWrite}
 use Rattle.zl_calls.proofs.Counting.{counts_written}
-use Rattle.zl_calls.proofs.Positions.{IsFirst, first_at, get_first, update_first}
+use Rattle.zl_calls.proofs.Positions.{IsFirst, first_at, get_first, get_missing, update_first}
 
 pub write_at : (ps : List Process) (pid place : ℕ) (p p2 : Process) → Some place ≡ position (λ q. q.pid == pid) ps → p ≡ get_or ps place p → p2.pid ≡ p.pid → IsWrite ps (set ps place p2) p p2
 write_at ps pid place p p2 found read same =
@@ -30,6 +31,17 @@ write_at ps pid place p p2 found read same =
     record {
       there = rw key (get_first (λ (q : Process). q.pid) process_value ps pid place p first ∙ ap (λ (q : Process). Some (process_value q)) (sym read));
       writes = λ f is. rw key (update_first (λ (q : Process). q.pid) process_value ps pid place p f p2 first (is ∙ ap (λ (q : Process). f (process_value q)) read) (same ∙ ap (λ (q : Process). q.pid) read));
+    }
+
+-- the first place with the pid holds what the map has at the pid
+pub place_is : (ps : List Process) (pid : ℕ) (o : Option ℕ) → o ≡ position (λ q. q.pid == pid) ps → MatchOption o (get (map process_entry ps) pid ≡ None) (IsPlaceOf ps pid)
+place_is ps pid None is = get_missing (λ (q : Process). q.pid) process_value ps pid (sym is)
+place_is [] pid (Some i) is = absurd (none-some i (sym is))
+place_is (p ∷ ps) pid (Some i) is =
+    let first : IsFirst (λ (q : Process). q.pid) (p ∷ ps) pid i p = first_at (λ (q : Process). q.pid) process_value (p ∷ ps) pid i p (sym is) in
+    record {
+      within = first.within;
+      holds = get_first (λ (q : Process). q.pid) process_value (p ∷ ps) pid i p first ∙ sym (ap (option_map process_value) (slice_get-get_or (p ∷ ps) i p first.within));
     }
 
 -- ---- what is new in the objects

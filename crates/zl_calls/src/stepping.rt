@@ -1,6 +1,7 @@
 //! Which process stands where, what stands next for it, and what it then does.
 
-ghost use Rattle.std.specs.Prelude.{◌≡◌, ◌<◌, ◌^◌, None, map, MatchOption, OnSome};
+ghost use Rattle.std.specs.Prelude.{◌≡◌, ◌==◌, ◌<◌, ◌^◌, None, map, MatchOption, OnSome};
+ghost use Rattle.std.specs.List.{position};
 ghost use Rattle.std.specs.Option.{option_map};
 ghost use Rattle.zl_rights.specs.Map.{get};
 ghost use Rattle.zl_code.specs.Request.{name_of};
@@ -19,14 +20,17 @@ use zl_rights::{HValue, Pid, Status};
 
 /// Where the process stands in the list.
 pub fn place_of(processes: &[Process], pid: Pid) -> Option<usize>
-    ensures { MatchOption result (get (map process_entry processes.now) pid ≡ None) (IsPlaceOf processes.now pid) }
+    ensures found { MatchOption result (get (map process_entry processes.now) pid ≡ None) (IsPlaceOf processes.now pid) }
+    ensures first { result ≡ position (λ process. process.pid == pid) processes.now }
 {
-    for (place, process) in processes.iter().enumerate() {
-        if process.pid == pid {
-            return Some(place);
-        }
-    }
-    None
+    first_with(processes, pid)
+}
+
+// The first place with the pid.
+fn first_with(processes: &[Process], pid: Pid) -> Option<usize>
+    ensures { result ≡ position (λ process. process.pid == pid) processes.now }
+{
+    processes.iter().position(|process| process.pid == pid)
 }
 
 /// The call that stands next, if one does.

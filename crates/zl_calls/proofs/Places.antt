@@ -1,12 +1,11 @@
 -- Where a process stands in the list, and what stands next for it.
-use Rattle.std.proofs.Common.{◌≡◌, ◌<◌, ◌≤◌, ◌+◌, ℕ, suc, ◌==◌, List, ◌∷◌, length, map, drop, get_or, Option, Some, None, refl, sym, ap, ◌∙◌, cond, drop-cons, add-one}
+use Rattle.std.proofs.Common.{◌≡◌, ◌<◌, ℕ, List, length, map, get_or, Option, Some, None, refl}
 use Rattle.std.specs.Prelude.{slice_get}
 use Rattle.std.specs.Option.{option_map}
 use Rattle.std.proofs.lemmas.Option.{slice_get-map, slice_get_read}
-use Rattle.std.proofs.Common.{inl, inr, eq-eqb, IsTrue}
-use Rattle.std.proofs.lemmas.Bool.{cases_Bool, eqb-true, false≢true}
-use Rattle.std.proofs.lemmas.List.{drop_all}
-use Rattle.zl_rights.specs.Map.{Map, get}
+use Rattle.std.proofs.Common.{IsTrue}
+use Rattle.std.proofs.lemmas.Bool.{false≢true}
+use Rattle.zl_rights.specs.Map.{get}
 use Rattle.zl_rights.specs.World.{World, Cpu, Process as ProcessValue}
 use Rattle.zl_rights.specs.Signals.{is_process, is_ready}
 use Rattle.zl_code.specs.declared.instr.Instr.{Instr}
@@ -18,43 +17,7 @@ use Rattle.zl_code.specs.Local.{local_effect}
 use Rattle.zl_code.specs.Request.{site_of, name_of}
 use Rattle.zl_code.specs.Steps.{next_at, next_of, next_for}
 use Rattle.zl_calls.specs.declared.process.Process.{Process}
-use Rattle.zl_calls.specs.World.{process_entry, process_value, call_in, IsPlaceOf}
-
--- ---- the first process with the pid
-
-cons_at : (ps : List Process) (i : ℕ) (p : Process) → i < length ps → p ≡ get_or ps i p → drop i ps ≡ p ∷ drop (i + 1) ps
-cons_at ps i p lt is = rw add-one (drop-cons ps i p lt ∙ ap (λ (x : Process). x ∷ drop (suc i) ps) (sym is))
-
-front : (m : Map ProcessValue) (k : ℕ) (v : ProcessValue) → get ((k, v) ∷ m) k ≡ Some v
-unfolding get
-front m k v = rw (eq-eqb k k refl) refl
-
-behind : (m : Map ProcessValue) (j k : ℕ) (v : ProcessValue) → (j ≡ k → ⊥) → get ((j, v) ∷ m) k ≡ get m k
-unfolding get
-behind m j k v apart = elim (cases_Bool (j == k)) as (λ _. cond (j == k) (Some v) (get m k) ≡ get m k) [
-  | inl here ↦ absurd (apart (eqb-true j k here))
-  | inr other ↦ rw other refl
-]
-
-pub found_here : (ps : List Process) (pid i : ℕ) (p : Process) → i < length ps → p ≡ get_or ps i p → p.pid ≡ pid
-    → get (map process_entry (drop i ps)) pid ≡ get (map process_entry ps) pid → IsPlaceOf ps pid i
-found_here ps pid i p lt is here so_far = record {
-  within = lt;
-  holds =
-      let cut : get (map process_entry (drop i ps)) pid ≡ get ((p.pid, process_value p) ∷ map process_entry (drop (i + 1) ps)) pid = ap (λ (xs : List Process). get (map process_entry xs) pid) (cons_at ps i p lt is) in
-      let first : get ((p.pid, process_value p) ∷ map process_entry (drop (i + 1) ps)) pid ≡ Some (process_value p) = rw here (front (map process_entry (drop (i + 1) ps)) pid (process_value p)) in
-      sym so_far ∙ (cut ∙ (first ∙ sym (ap (option_map process_value) (slice_get_read ps (length ps) i p refl lt is))));
-}
-
-pub not_here : (ps : List Process) (pid i : ℕ) (p : Process) → i < length ps → p ≡ get_or ps i p → (p.pid ≡ pid → ⊥)
-    → get (map process_entry (drop i ps)) pid ≡ get (map process_entry ps) pid → get (map process_entry (drop (i + 1) ps)) pid ≡ get (map process_entry ps) pid
-not_here ps pid i p lt is apart so_far =
-    let cut : get (map process_entry (drop i ps)) pid ≡ get ((p.pid, process_value p) ∷ map process_entry (drop (i + 1) ps)) pid = ap (λ (xs : List Process). get (map process_entry xs) pid) (cons_at ps i p lt is) in
-    sym (behind (map process_entry (drop (i + 1) ps)) p.pid pid (process_value p) apart) ∙ (sym cut ∙ so_far)
-
-pub nowhere : (ps : List Process) (pid i : ℕ) → length ps ≤ i → get (map process_entry (drop i ps)) pid ≡ get (map process_entry ps) pid → get (map process_entry ps) pid ≡ None
-unfolding get
-nowhere ps pid i le so_far = sym so_far ∙ rw (drop_all i ps le) refl
+use Rattle.zl_calls.specs.World.{process_entry, call_in}
 
 -- ---- reads of the list
 

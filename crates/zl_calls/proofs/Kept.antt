@@ -1,8 +1,7 @@
 -- dup keeps the invariant of the world.
-use Rattle.std.proofs.Common.{◌≡◌, ◌<◌, ◌≤◌, ◌+◌, ◌^◌, ℕ, true, false, ◌||◌, ◌==◌, List, refl, sym, ap, ◌∙◌, subst, cond, Option, Some, None, inl, inr, ◌⊎◌, IsTrue, length, arith, eq-eqb, [], ◌∷◌}
+use Rattle.std.proofs.Common.{◌≡◌, ◌<◌, ◌≤◌, ◌+◌, ◌^◌, ℕ, true, false, ◌==◌, List, refl, sym, ap, ◌∙◌, subst, cond, Some, inl, inr, ◌⊎◌, IsTrue, length, arith, eq-eqb}
 use Rattle.std.specs.Prelude.{bit_and, nat_lt, if◌then◌else◌}
-use Rattle.std.specs.List.{list_any, count_by}
-use Rattle.std.specs.Option.{option_map}
+use Rattle.std.specs.List.{count_by}
 use Rattle.std.proofs.lemmas.Bool.{cases_Bool, eqb-true, or_left}
 use Rattle.std.proofs.lemmas.Bool.Decides.{nat_tests}
 use Rattle.std.proofs.lemmas.Option.{none-some, same_Some}
@@ -10,23 +9,22 @@ use Rattle.zl_rights.specs.declared.rights.Rights.{Rights}
 use Rattle.zl_rights.specs.declared.entry.Entry.{Entry}
 use Rattle.zl_rights.specs.Numbers.{bits, within, narrowed, default_rights_of, SAME_RIGHTS, rights_of}
 use Rattle.std.proofs.lemmas.Nat.{and_assoc}
-use Rattle.zl_rights.specs.Map.{Map, get, update}
+use Rattle.zl_rights.specs.Map.{Map, get}
 use Rattle.zl_rights.specs.Signals.{is_process, runs}
-use Rattle.zl_rights.proofs.MapLaws.{get-put, get-update}
+use Rattle.zl_rights.proofs.MapLaws.{get-put}
 use Rattle.zl_code.specs.Tests.{handles_to}
 use Rattle.zl_table.specs.Table.{Handles, IsTable, Inserts}
 use Rattle.zl_table.proofs.MapEdits.{sorted_put, length-put_new, put_key, is_sorted-update, has_key-update}
-use Rattle.zl_calls.specs.declared.objects.Body.{Body}
-use Rattle.zl_calls.specs.declared.objects.Body.TheVariants as body
 use Rattle.zl_calls.specs.declared.objects.Object.{Object}
 use Rattle.zl_calls.specs.declared.process.Process.{Process}
-use Rattle.zl_calls.specs.Registry.{Registry, held_once_more, holding}
+use Rattle.zl_calls.specs.Registry.{Registry, held_once_more, holding, is_kept}
 use Rattle.zl_calls.specs.Parts.{Dups}
 use Rattle.zl_calls.specs.World.{process_value, world_value}
-use Rattle.zl_calls.specs.Lab.{IsLab, IsNamed, AgreesOn, is_kept, stays_alone, has_living_child, lives_below}
+use Rattle.zl_calls.specs.Lab.{IsLab, IsNamed, AgreesOn, is_in_job}
 use Rattle.zl_calls.proofs.Answered.{IsWrite}
 use Rattle.zl_calls.proofs.Counting.{count_put, counts_written}
 use Rattle.zl_calls.proofs.Written.{IsNext, keeps}
+use Rattle.zl_calls.proofs.SameBodies.{found_updated, named_updated, alone_updated, in_job_updated}
 
 -- ---- a table with one handle more
 
@@ -53,45 +51,6 @@ found_inserted A t e v t2 inserts value q at new old =
 
 body_held : (o : Object) → (held_once_more o).body ≡ o.body
 body_held o = elim (nat_lt o.handles (2 ^ 62)) as (λ b. (cond b (record o { handles = o.handles + 1 }) o).body ≡ o.body) [ true ↦ refl | false ↦ refl ]
-
-module _ (os : Map Object) (k : ℕ) where
-  -- an object afterwards is one that was there before, perhaps with one handle more
-  pub found_held : (A : Type 0) (j : ℕ) (q : Object) → get (update os k held_once_more) j ≡ Some q
-      → ((o : Object) → get os j ≡ Some o → IsTrue (k == j) → held_once_more o ≡ q → A) → ((k == j) ≡ false → get os j ≡ Some q → A) → A
-  found_held A j q at more same =
-      let read : (if k == j then option_map held_once_more (get os j) else get os j) ≡ Some q = sym (get-update os k held_once_more j) ∙ at in
-      elim (cases_Bool (k == j)) as (λ _. A) [
-        | inl here ↦ by_object (get os j) refl here (rw here at read)
-        | inr apart ↦ same apart (rw apart at read)
-      ]
-    where
-      by_object : (o : Option Object) → get os j ≡ o → IsTrue (k == j) → option_map held_once_more o ≡ Some q → A
-      by_object None is here read = absurd (none-some q read)
-      by_object (Some o) is here read = more o is here (same_Some (held_once_more o) q read)
-
-  held_named : (e : Entry) → IsNamed os e → IsNamed (update os k held_once_more) e
-  held_named e named = elim (cases_Bool (k == e.koid)) as (λ _. IsNamed (update os k held_once_more) e) [
-    | inl here ↦ record {
-      object = held_once_more named.object;
-      there = rw (get-update os k held_once_more e.koid, here, named.there) refl;
-      kind = rw (body_held named.object) named.kind;
-      rights = named.rights;
-    }
-    | inr apart ↦ record {
-      object = named.object;
-      there = rw (get-update os k held_once_more e.koid, apart) named.there;
-      kind = named.kind;
-      rights = named.rights;
-    }
-  ]
-
-child_held : (m : Map Object) (k job : ℕ) → list_any (λ e. lives_below job e.1.body) (update m k held_once_more) ≡ list_any (λ e. lives_below job e.1.body) m
-unfolding update
-child_held [] k job = refl
-child_held (e ∷ m) k job = elim (cases_Bool (e.0 == k)) as (λ _. list_any (λ x. lives_below job x.1.body) (update (e ∷ m) k held_once_more) ≡ list_any (λ x. lives_below job x.1.body) (e ∷ m)) [
-  | inl here ↦ rw (here, body_held e.1) refl
-  | inr apart ↦ rw apart (ap (λ b. lives_below job e.1.body || b) (child_held m k job))
-]
 
 -- ---- rights
 
@@ -147,42 +106,36 @@ module _ (before after : List Process) (p p2 : Process) (write : IsWrite before 
       rw place refl
 
   next : IsNext before after r (holding r k)
-  unfolding has_living_child
   next = record {
     objects_in_order = rw (is_sorted-update r.objects k held_once_more) lab.objects_in_order;
     next_koid = omega arith;
     given_objects = λ j there. lab.given_objects j (sym (has_key-update r.objects k held_once_more j) ∙ there);
     koids = lab.koids;
-    named = held_named r.objects k;
-    counted = λ j q at. found_held r.objects k (q.handles ≡ handles_to (world_value after (holding r k)) j) j q at
+    named = named_updated held_once_more body_held r.objects k;
+    counted = λ j q at. found_updated held_once_more r.objects k (q.handles ≡ handles_to (world_value after (holding r k)) j) j q at
         (λ o old here is.
         let same : k ≡ j = eqb-true k j here in
         let more : q.handles ≡ o.handles + 1 = ap (λ (x : Object). x.handles) (sym is) ∙ one_more o (rw same old) in
         more ∙ (ap (λ (n : ℕ). n + 1) (lab.counted j o old) ∙ sym (counts j ∙ rw here refl)))
         (λ apart old. lab.counted j q old ∙ sym (counts j ∙ rw apart (omega arith)));
-    agrees = λ j q at. found_held r.objects k (AgreesOn q.body (is_process (world_value before r) runs j)) j q at
+    agrees = λ j q at. found_updated held_once_more r.objects k (AgreesOn q.body (is_process (world_value before r) runs j)) j q at
         (λ o old here is. subst (λ (x : Object). AgreesOn x.body (is_process (world_value before r) runs j)) is (rw (body_held o) (lab.agrees j o old)))
         (λ apart old. lab.agrees j q old);
-    kept = λ j q at. found_held r.objects k (IsTrue (is_kept (holding r k).objects j q)) j q at
+    in_jobs = λ j q at. found_updated held_once_more r.objects k (IsTrue (is_in_job (holding r k).objects q.body)) j q at
+        (λ o old here is. subst (λ (x : Object). IsTrue (is_in_job (holding r k).objects x.body)) is (rw (body_held o, in_job_updated held_once_more body_held r.objects k o.body) (lab.in_jobs j o old)))
+        (λ apart old. rw (in_job_updated held_once_more body_held r.objects k q.body) (lab.in_jobs j q old));
+    kept = λ j q at. found_updated held_once_more r.objects k (IsTrue (is_kept (holding r k).objects j q)) j q at
         (λ o old here is.
         let same : k ≡ j = eqb-true k j here in
         let more : q.handles ≡ o.handles + 1 = ap (λ (x : Object). x.handles) (sym is) ∙ one_more o (rw same old) in
         or_left (nat_lt 0 q.handles) _ (rw more (grind (arith, nat_tests))))
-        (λ apart old. still_kept j q q.body (lab.kept j q old));
+        (λ apart old. rw (alone_updated held_once_more body_held r.objects k j q.body) (lab.kept j q old));
   }
-    where
-      still_alone : (j : ℕ) (b : Body) → stays_alone (holding r k).objects j b ≡ stays_alone r.objects j b
-      still_alone j body.RootJob = child_held r.objects k j
-      still_alone j (body.Process job lives) = refl
-      still_alone j body.Event = refl
-
-      still_kept : (j : ℕ) (q : Object) (b : Body) → IsTrue (is_kept r.objects j q) → IsTrue (is_kept (holding r k).objects j q)
-      still_kept j q b kept = rw (still_alone j q.body) kept
 
   pub dup_keeps : p2.state ≡ p.state → IsLab after r2
   dup_keeps state = rw dups.objects (keeps before after p p2 write r (holding r k) lab state
       (inserted_table p.table copy made p2.table (lab.tables p.pid (process_value p) write.there) dups.room dups.inserts)
-      (λ v e at. held_named r.objects k e (found_inserted (IsNamed r.objects e) p.table copy made p2.table dups.inserts v e at
+      (λ v e at. named_updated held_once_more body_held r.objects k e (found_inserted (IsNamed r.objects e) p.table copy made p2.table dups.inserts v e at
       (λ is. subst (λ (x : Entry). IsNamed r.objects x) is copy_named)
       (λ old. lab.named p.pid (process_value p) v e write.there old)))
       next)

@@ -1,13 +1,14 @@
 -- event_create keeps the invariant of the world.
-use Rattle.std.proofs.Common.{◌≡◌, ◌<◌, ◌+◌, ℕ, zero, suc, Bool, true, false, ◌||◌, ◌==◌, List, [], ◌∷◌, ◌++◌, map, refl, sym, ap, ◌∙◌, subst, cond, Some, inl, inr, IsTrue, arith, eq-eqb}
-use Rattle.std.specs.Prelude.{if◌then◌else◌}
+use Rattle.std.proofs.Common.{◌≡◌, ◌<◌, ◌+◌, ℕ, zero, suc, Bool, true, false, ◌||◌, ◌==◌, List, [], ◌∷◌, ◌++◌, map, refl, sym, ap, ◌∙◌, subst, cond, Option, Some, None, inl, inr, IsTrue, arith, eq-eqb}
+use Rattle.std.specs.Prelude.{if◌then◌else◌, is_some}
 use Rattle.std.specs.List.{list_any, count_by}
-use Rattle.std.proofs.lemmas.Bool.{cases_Bool, eqb-true}
+use Rattle.std.proofs.lemmas.Bool.{cases_Bool, eqb-true, false≢true}
 use Rattle.std.proofs.lemmas.Option.{same_Some}
 use Rattle.zl_rights.specs.declared.kind.Kind.TheVariants as kind
 use Rattle.zl_rights.specs.declared.entry.Entry.{Entry}
 use Rattle.zl_rights.specs.Map.{Map, get, put}
-use Rattle.zl_rights.specs.Signals.{is_process, runs}
+use Rattle.zl_rights.specs.World.{Process as ProcessValue}
+use Rattle.zl_rights.specs.Signals.{is_process, runs, state_passes}
 use Rattle.zl_rights.specs.Settle.{in_table}
 use Rattle.zl_rights.proofs.MapLaws.{get-put}
 use Rattle.zl_code.specs.Tests.{handles_to}
@@ -18,10 +19,10 @@ use Rattle.zl_calls.specs.declared.objects.Body.{Body}
 use Rattle.zl_calls.specs.declared.objects.Body.TheVariants as body
 use Rattle.zl_calls.specs.declared.objects.Object.{Object}
 use Rattle.zl_calls.specs.declared.process.Process.{Process}
-use Rattle.zl_calls.specs.Registry.{Registry, new_object, with_new}
+use Rattle.zl_calls.specs.Registry.{Registry, new_object, with_new, is_kept, stays_alone, lives_below, has_living_child, is_job_at, is_job_in}
 use Rattle.zl_calls.specs.Parts.{CreatesEvent}
 use Rattle.zl_calls.specs.World.{process_entry, process_value, world_value}
-use Rattle.zl_calls.specs.Lab.{IsLab, IsNamed, AgreesOn, is_kept, stays_alone, has_living_child, lives_below}
+use Rattle.zl_calls.specs.Lab.{IsLab, IsNamed, AgreesOn, is_in_job}
 use Rattle.zl_calls.proofs.Answered.{IsWrite, put_last}
 use Rattle.zl_calls.proofs.Counting.{count_put, counts_written, counted_in_table}
 use Rattle.zl_calls.proofs.Labs.{Found, any_found}
@@ -106,6 +107,14 @@ module _ (before after : List Process) (p p2 : Process) (write : IsWrite before 
   counts j = counts_written before after p p2 r grown j (cond (n == j) 1 0) write
       (ap (λ (m : Map Entry). count_by (λ x. x.1.koid == j) m) creates.inserts.entries ∙ count_put (λ x. x.1.koid == j) p.table.entries made entry creates.inserts.unused)
 
+  not_running : is_process (world_value before r) runs n ≡ false
+  unfolding is_process
+  not_running = by_process (get (map process_entry before) n) refl
+    where
+      by_process : (o : Option ProcessValue) → get (map process_entry before) n ≡ o → state_passes runs o ≡ false
+      by_process None is = refl
+      by_process (Some q) is = absurd (omega (arith, lab.given_processes n (rw is refl)))
+
   next : IsNext before after r grown
   unfolding has_living_child
   next = record {
@@ -124,8 +133,11 @@ module _ (before after : List Process) (p p2 : Process) (write : IsWrite before 
         ap (λ (x : Object). x.handles) (sym is) ∙ sym (counts j ∙ rw (here, none) refl))
         (λ apart old. lab.counted j q old ∙ sym (counts j ∙ rw apart (omega arith)));
     agrees = λ j q at. found_grown (AgreesOn q.body (is_process (world_value before r) runs j)) j q at
-        (λ here is. subst (λ (x : Object). AgreesOn x.body (is_process (world_value before r) runs j)) is tt)
+        (λ here is. subst (λ (x : Object). AgreesOn x.body (is_process (world_value before r) runs j)) is (rw (← eqb-true n j here) not_running))
         (λ apart old. lab.agrees j q old);
+    in_jobs = λ j q at. found_grown (IsTrue (is_in_job grown.objects q.body)) j q at
+        (λ here is. subst (λ (x : Object). IsTrue (is_in_job grown.objects x.body)) is refl)
+        (λ apart old. still_in_job q.body (lab.in_jobs j q old));
     kept = λ j q at. found_grown (IsTrue (is_kept grown.objects j q)) j q at
         (λ here is. subst (λ (x : Object). IsTrue (is_kept grown.objects j x)) is refl)
         (λ apart old. rw (still_alone j q.body) (lab.kept j q old));
@@ -135,6 +147,22 @@ module _ (before after : List Process) (p p2 : Process) (write : IsWrite before 
       still_alone j body.RootJob = any_behind (λ e. lives_below j e.1.body) r.objects (n, fresh) refl
       still_alone j (body.Process job lives) = refl
       still_alone j body.Event = refl
+
+      job_grown : (j : ℕ) → IsTrue (is_job_at r.objects j) → IsTrue (is_job_at grown.objects j)
+      job_grown j there = elim (cases_Bool (n == j)) as (λ _. IsTrue (is_job_at grown.objects j)) [
+        | inl here ↦ absurd (omega (arith, lab.given_objects j (job_there (get r.objects j) there), eqb-true n j here))
+        | inr apart ↦ rw (get_grown j, apart) there
+      ]
+        where
+          job_there : (o : Option Object) → IsTrue (is_job_in o) → IsTrue (is_some o)
+          job_there None h = absurd (false≢true h)
+          job_there (Some o) h = refl
+
+      still_in_job : (b : Body) → IsTrue (is_in_job r.objects b) → IsTrue (is_in_job grown.objects b)
+      still_in_job body.RootJob h = refl
+      still_in_job (body.Process job false) h = refl
+      still_in_job (body.Process job true) h = job_grown job h
+      still_in_job body.Event h = refl
 
   pub event_create_keeps : p2.state ≡ p.state → IsLab after r2
   event_create_keeps state = rw creates.objects (keeps before after p p2 write r grown lab state

@@ -28,9 +28,9 @@ use Rattle.zl_calls.specs.declared.objects.Object.{Object}
 use Rattle.zl_calls.specs.declared.process.State.{State}
 use Rattle.zl_calls.specs.declared.process.State.TheVariants as state
 use Rattle.zl_calls.specs.declared.process.Process.{Process}
-use Rattle.zl_calls.specs.Registry.{Registry, has_place}
+use Rattle.zl_calls.specs.Registry.{Registry, has_place, stays_alone, lives_below, has_living_child}
 use Rattle.zl_calls.specs.World.{process_entry, process_value, state_value, object_entry, object_value, world_value}
-use Rattle.zl_calls.specs.Lab.{IsLab, IsNamed, stays_alone, lives_below, has_living_child}
+use Rattle.zl_calls.specs.Lab.{IsLab, IsNamed}
 use Rattle.zl_calls.proofs.Quiet.{Started, IsSettled, settles_itself, wakes_nothing}
 use Rattle.zl_calls.proofs.Refused.{NoPolicy, empty_policies}
 use Rattle.zl_calls.proofs.Counting.{counted_in_table}

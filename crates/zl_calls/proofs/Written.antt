@@ -17,9 +17,9 @@ use Rattle.zl_table.specs.Table.{IsTable}
 use Rattle.zl_table.proofs.MapEdits.{is_sorted-update, has_key-update}
 use Rattle.zl_calls.specs.declared.objects.Object.{Object}
 use Rattle.zl_calls.specs.declared.process.Process.{Process}
-use Rattle.zl_calls.specs.Registry.{Registry}
+use Rattle.zl_calls.specs.Registry.{Registry, is_kept}
 use Rattle.zl_calls.specs.World.{process_entry, process_value, world_value, IsPlaceOf}
-use Rattle.zl_calls.specs.Lab.{IsLab, IsNamed, AgreesOn, is_kept}
+use Rattle.zl_calls.specs.Lab.{IsLab, IsNamed, AgreesOn, is_in_job}
 use Rattle.zl_calls.proofs.Answered.{IsWrite}
 use Rattle.zl_calls.proofs.Counting.{counts_written}
 use Rattle.zl_calls.proofs.Positions.{IsFirst, first_at, get_first, get_missing, update_first}
@@ -54,6 +54,7 @@ pub record IsNext (before after : List Process) (r r2 : Registry) : Type 0 where
   pub named : (e : Entry) → IsNamed r.objects e → IsNamed r2.objects e
   pub counted : (k : ℕ) (o : Object) → get r2.objects k ≡ Some o → o.handles ≡ handles_to (world_value after r2) k
   pub agrees : (k : ℕ) (o : Object) → get r2.objects k ≡ Some o → AgreesOn o.body (is_process (world_value before r) runs k)
+  pub in_jobs : (k : ℕ) (o : Object) → get r2.objects k ≡ Some o → IsTrue (is_in_job r2.objects o.body)
   pub kept : (k : ℕ) (o : Object) → get r2.objects k ≡ Some o → IsTrue (is_kept r2.objects k o)
 
 -- ---- what is found afterwards
@@ -98,6 +99,7 @@ module _ (before after : List Process) (p p2 : Process) (write : IsWrite before 
     named = λ k q v e at there. found_after (IsNamed r2.objects e) k q at (λ is. named v e (ap (λ (x : ProcessValue). get x.handles v) is ∙ there)) (λ old. next.named e (lab.named k q v e old there));
     counted = next.counted;
     agrees = λ k o at. rw (same_runs state r r2 k) (next.agrees k o at);
+    in_jobs = next.in_jobs;
     kept = next.kept;
   }
 
@@ -120,5 +122,6 @@ refusal_keeps before after p p2 r write lab table state = keeps before after p p
       named = λ e named. named;
       counted = λ k o at. lab.counted k o at ∙ sym (same_counts before after p p2 r k write table);
       agrees = lab.agrees;
+      in_jobs = lab.in_jobs;
       kept = lab.kept;
     })

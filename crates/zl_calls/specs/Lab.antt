@@ -1,6 +1,5 @@
 -- What is true of every world that this crate makes.
-use Rattle.std.specs.Prelude.{ℕ, ◌≡◌, ◌<◌, ◌≤◌, ◌^◌, ⊤, Bool, false, ◌&&◌, ◌||◌, ◌==◌, nat_lt, List, map, Some, IsTrue}
-use Rattle.std.specs.List.{list_any}
+use Rattle.std.specs.Prelude.{ℕ, ◌≡◌, ◌<◌, ◌≤◌, ◌^◌, Bool, true, false, ◌||◌, not, List, map, Some, IsTrue}
 use Rattle.std.specs.Ordering.{nat_cmp}
 use Rattle.std.specs.FinMap.Entries.{is_sorted}
 use Rattle.zl_rights.specs.declared.entry.Entry.{Entry}
@@ -14,27 +13,8 @@ use Rattle.zl_calls.specs.declared.objects.Body.{Body}
 use Rattle.zl_calls.specs.declared.objects.Body.TheVariants as body
 use Rattle.zl_calls.specs.declared.objects.Object.{Object}
 use Rattle.zl_calls.specs.declared.process.Process.{Process}
-use Rattle.zl_calls.specs.Registry.{Registry}
+use Rattle.zl_calls.specs.Registry.{Registry, is_job_at, is_kept}
 use Rattle.zl_calls.specs.World.{process_entry, body_value, world_value}
-
--- ---- what keeps an object
-
--- a living process of the job k
-abbrev pub lives_below : ℕ → Body → Bool
-lives_below k (body.Process job lives) = (job == k) && lives
-lives_below k _ = false
-
-unfoldable pub has_living_child : Map Object → ℕ → Bool
-has_living_child objects k = list_any (λ e. lives_below k e.1.body) objects
-
--- an object that stays without a handle
-abbrev pub stays_alone : Map Object → ℕ → Body → Bool
-stays_alone objects k body.RootJob = has_living_child objects k
-stays_alone objects k (body.Process job lives) = lives
-stays_alone objects k body.Event = false
-
-abbrev pub is_kept : Map Object → ℕ → Object → Bool
-is_kept objects k o = nat_lt 0 o.handles || stays_alone objects k o.body
 
 -- ---- handles and processes
 
@@ -45,10 +25,15 @@ pub record IsNamed (objects : Map Object) (e : Entry) : Type 0 where
   pub kind : e.kind ≡ kind_of (body_value object.body)
   pub rights : IsTrue (within (bits e.rights) (default_rights_of e.kind))
 
--- the object of a process says whether the process runs
+-- the object of a process says whether the process runs; nothing else runs
 abbrev pub AgreesOn : Body → Bool → Type 0
 AgreesOn (body.Process job lives) running = lives ≡ running
-AgreesOn _ running = ⊤
+AgreesOn _ running = running ≡ false
+
+-- the object of a process that lives names its job
+abbrev pub is_in_job : Map Object → Body → Bool
+is_in_job objects (body.Process job lives) = not lives || is_job_at objects job
+is_in_job objects _ = true
 
 -- ---- all of it
 
@@ -62,4 +47,5 @@ pub record IsLab (processes : List Process) (r : Registry) : Type 0 where
   pub named : (k : ℕ) (p : ProcessValue) (v : ℕ) (e : Entry) → get (map process_entry processes) k ≡ Some p → get p.handles v ≡ Some e → IsNamed r.objects e
   pub counted : (k : ℕ) (o : Object) → get r.objects k ≡ Some o → o.handles ≡ handles_to (world_value processes r) k
   pub agrees : (k : ℕ) (o : Object) → get r.objects k ≡ Some o → AgreesOn o.body (is_process (world_value processes r) runs k)
+  pub in_jobs : (k : ℕ) (o : Object) → get r.objects k ≡ Some o → IsTrue (is_in_job r.objects o.body)
   pub kept : (k : ℕ) (o : Object) → get r.objects k ≡ Some o → IsTrue (is_kept r.objects k o)

@@ -1,7 +1,11 @@
 -- What the definitions of calls see of the objects: each with its count of handles, by koid.
-use Rattle.std.specs.Prelude.{ℕ, ◌+◌, ◌^◌, Bool, false, nat_lt, [], ◌∷◌, ◌++◌, Option, Some, None, if◌then◌else◌}
-use Rattle.zl_rights.specs.Map.{Map, update}
+use Rattle.std.specs.Prelude.{ℕ, ◌≡◌, ◌+◌, ◌-◌, ◌^◌, Bool, true, false, ◌&&◌, ◌||◌, ◌==◌, nat_lt, [], ◌∷◌, ◌++◌, Option, Some, None, if◌then◌else◌}
+use Rattle.std.specs.List.{list_any}
+use Rattle.zl_rights.specs.declared.entry.Entry.{Entry}
+use Rattle.zl_rights.specs.Numbers.{changed}
+use Rattle.zl_rights.specs.Map.{Map, get, update, without}
 use Rattle.zl_calls.specs.declared.objects.Body.{Body}
+use Rattle.zl_calls.specs.declared.objects.Body.TheVariants as body
 use Rattle.zl_calls.specs.declared.objects.Object.{Object}
 
 -- the objects by koid, and the least koid that was not given yet
@@ -23,6 +27,59 @@ has_place (Some o) = nat_lt o.handles (2 ^ 62)
 abbrev pub held_once_more : Object → Object
 held_once_more o = if nat_lt o.handles (2 ^ 62) then record o { handles = o.handles + 1 } else o
 
+-- one handle less names the object
+abbrev pub held_once_less : Object → Object
+held_once_less o = record o { handles = o.handles - 1 }
+
+-- ---- jobs and processes
+
+abbrev pub is_job_body : Body → Bool
+is_job_body body.RootJob = true
+is_job_body _ = false
+
+abbrev pub is_job_in : Option Object → Bool
+is_job_in None = false
+is_job_in (Some o) = is_job_body o.body
+
+-- the object k is a job
+abbrev pub is_job_at : Map Object → ℕ → Bool
+is_job_at objects k = is_job_in (get objects k)
+
+abbrev pub job_of : Body → Option ℕ
+job_of (body.Process job lives) = Some job
+job_of _ = None
+
+abbrev pub job_in : Option Object → Option ℕ
+job_in None = None
+job_in (Some o) = job_of o.body
+
+abbrev pub stopped_body : Body → Body
+stopped_body (body.Process job lives) = body.Process job false
+stopped_body b = b
+
+-- the object of a process that has ended
+abbrev pub stopped : Object → Object
+stopped o = record o { body = stopped_body o.body }
+
+-- ---- what keeps an object
+
+-- a living process of the job k
+abbrev pub lives_below : ℕ → Body → Bool
+lives_below k (body.Process job lives) = (job == k) && lives
+lives_below k _ = false
+
+unfoldable pub has_living_child : Map Object → ℕ → Bool
+has_living_child objects k = list_any (λ e. lives_below k e.1.body) objects
+
+-- an object that stays without a handle
+abbrev pub stays_alone : Map Object → ℕ → Body → Bool
+stays_alone objects k body.RootJob = has_living_child objects k
+stays_alone objects k (body.Process job lives) = lives
+stays_alone objects k body.Event = false
+
+abbrev pub is_kept : Map Object → ℕ → Object → Bool
+is_kept objects k o = nat_lt 0 o.handles || stays_alone objects k o.body
+
 -- ---- changes
 
 -- an object with no signals raised, which so many handles name
@@ -39,3 +96,43 @@ with_new r body handles = record {
 -- the objects, where one handle more names the object k
 abbrev pub holding : Registry → ℕ → Registry
 holding r k = record r { objects = update r.objects k held_once_more }
+
+-- the objects, where the signals of the object k were changed
+abbrev pub raised_changed : ℕ → ℕ → Object → Object
+raised_changed clear set o = record o { raised = record { 0 = changed o.raised.0 clear set } }
+
+abbrev pub changing : Registry → ℕ → ℕ → ℕ → Registry
+changing r k clear set = record r { objects = update r.objects k (raised_changed clear set) }
+
+-- the objects, where one handle less names the object k
+abbrev pub letting_go : Registry → ℕ → Registry
+letting_go r k = record r { objects = update r.objects k held_once_less }
+
+-- the objects, where the process k has ended
+abbrev pub stopping : Registry → ℕ → Registry
+stopping r k = record r { objects = update r.objects k stopped }
+
+abbrev pub without_unkept : Registry → ℕ → Option Object → Registry
+without_unkept r k None = r
+without_unkept r k (Some o) = if is_kept r.objects k o then r else record r { objects = without r.objects k }
+
+-- the objects without k, unless something keeps it
+abbrev pub without_unheld : Registry → ℕ → Registry
+without_unheld r k = without_unkept r k (get r.objects k)
+
+-- the objects after a handle to k has closed
+abbrev pub released : Registry → ℕ → Registry
+released r k = without_unheld (letting_go r k) k
+
+abbrev pub ended_in : Registry → ℕ → Option ℕ → Registry
+ended_in r k None = r
+ended_in r k (Some job) = without_unheld (without_unheld (stopping r k) k) job
+
+-- the objects after the process k has ended
+abbrev pub process_ended : Registry → ℕ → Registry
+process_ended r k = ended_in r k (job_in (get r.objects k))
+
+-- the handles close, one after another
+pub data Closes : Map Entry → Registry → Registry → Type 0 where
+  none_left : (r : Registry) → Closes [] r r
+  one_more : (m : Map Entry) (value : ℕ) (e : Entry) (r r2 : Registry) → get m value ≡ Some e → Closes (without m value) (released r e.koid) r2 → Closes m r r2

@@ -1,7 +1,7 @@
-ghost use Rattle.std.specs.Prelude.{◌≡◌, ◌-◌, ◌==◌, ◌<◌, ◌≤◌, ◌^◌, length, nat_lt, take, IfSome, IfOk, OnErr, OnSome};
-ghost use Rattle.std.specs.List.{position};
-ghost use Rattle.zl_rights.specs.Map.{get};
-ghost use Rattle.zl_calls.specs.Registry.{has_place, held_once_more, with_new, holding};
+ghost use Rattle.std.specs.Prelude.{not, ◌≡◌, ◌-◌, ◌==◌, ◌<◌, ◌^◌, length, nat_lt, take, IfOk, OnErr};
+ghost use Rattle.std.specs.List.{position, filter, list_any};
+ghost use Rattle.zl_rights.specs.Map.{get, without};
+ghost use Rattle.zl_calls.specs.Registry.{has_place, held_once_more, held_once_less, raised_changed, stopped, job_of, job_in, lives_below, has_living_child, is_kept, with_new, holding, changing, letting_go, stopping, without_unheld, released, process_ended};
 
 use bitflags::Flags;
 use std::alloc::{AllocError, Global};
@@ -37,6 +37,61 @@ impl Object {
             }
         } else {
             self
+        }
+    }
+
+    // The object with one handle less.
+    fn held_once_less(self) -> Object
+        ensures { result ≡ held_once_less self }
+    {
+        Object {
+            handles: self.handles.saturating_sub(1),
+            ..self
+        }
+    }
+
+    // The object with these signals cleared, and then those set.
+    fn changed(self, clear: Signals, set: Signals) -> Object
+        ensures { result ≡ raised_changed clear.0 set.0 self }
+    {
+        Object {
+            raised: self.raised.changed(clear, set),
+            ..self
+        }
+    }
+
+    // The object of a process that has ended.
+    fn stopped(self) -> Object
+        ensures { result ≡ stopped self }
+    {
+        match self.body {
+            Body::Process { job, .. } => Object {
+                body: Body::Process { job, lives: false },
+                ..self
+            },
+            _ => self,
+        }
+    }
+
+    // The job of a process.
+    fn job(self) -> Option<Koid>
+        ensures { result ≡ job_of self.body }
+    {
+        match self.body {
+            Body::Process { job, .. } => Some(job),
+            _ => None,
+        }
+    }
+}
+
+impl Body {
+    // Whether it is a process of the job that lives.
+    fn lives_below(&self, parent: Koid) -> bool
+        ensures { result ≡ lives_below parent self.now }
+    {
+        match self {
+            Body::Process { job, lives } => *job == parent && *lives,
+            _ => false,
         }
     }
 }
@@ -142,59 +197,82 @@ impl Objects {
     }
 
     /// The signals that calls set and clear at the object change.
-    pub fn change(&mut self, koid: Koid, clear: Signals, set: Signals) {
+    pub fn change(&mut self, koid: Koid, clear: Signals, set: Signals)
+        ensures { self.new ≡ changing self.old koid clear.0 set.0 }
+    {
         if let Some(place) = place_of(&self.list, koid) {
-            let object = &mut self.list[place];
-            object.raised = object.raised.changed(clear, set);
+            self.list[place] = self.list[place].changed(clear, set);
         }
     }
 
-    /// One handle less names the object; what isn't held any more is gone. It takes no memory.
-    pub fn release(&mut self, koid: Koid) {
+    /// A handle to the object has closed; what isn't held any more is gone. It takes no memory.
+    pub fn release(&mut self, koid: Koid)
+        ensures { self.new ≡ released self.old koid }
+    {
+        self.let_go(koid);
+        self.remove_unheld(koid);
+    }
+
+    // One handle less names the object.
+    fn let_go(&mut self, koid: Koid)
+        ensures { self.new ≡ letting_go self.old koid }
+    {
         if let Some(place) = place_of(&self.list, koid) {
-            let object = &mut self.list[place];
-            object.handles = object.handles.saturating_sub(1);
-            self.remove_unheld(koid);
+            self.list[place] = self.list[place].held_once_less();
         }
     }
 
     /// The process has ended; what isn't held any more is gone. It takes no memory.
-    pub fn end(&mut self, pid: Koid) {
-        if let Some(place) = place_of(&self.list, pid) {
-            let object = &mut self.list[place];
-            if let Body::Process { job, .. } = object.body {
-                object.body = Body::Process { job, lives: false };
-            }
-            self.remove_unheld(pid);
-        }
-    }
-
-    /// The object is gone unless it is held, and so is the job of a process that is gone.
-    pub fn remove_unheld(&mut self, koid: Koid) {
-        let mut next = Some(koid);
-        while let Some(koid) = next {
-            next = self.remove_one(koid);
-        }
-    }
-
-    // The object goes unless it is held; the job that may now be without a living child is the result.
-    fn remove_one(&mut self, koid: Koid) -> Option<Koid>
-        ensures fewer { OnSome result (length self.new.objects < length self.old.objects) }
-        ensures no_more { length self.new.objects ≤ length self.old.objects }
+    pub fn end(&mut self, pid: Koid)
+        ensures { self.new ≡ process_ended self.old pid }
     {
-        let place = place_of(&self.list, koid)?;
-        if self.is_held(self.list[place]) {
-            return None;
-        }
-        let object = self.list.remove(place);
-        match object.body {
-            Body::Process { job, .. } => Some(job),
-            _ => None,
+        if let Some(job) = self.job_of(pid) {
+            self.stop(pid);
+            self.remove_unheld(pid);
+            self.remove_unheld(job);
         }
     }
 
-    // Whether a handle names the object, or it is a started process that lives or a job with one.
-    fn is_held(&self, object: Object) -> bool {
+    // The process doesn't live any more.
+    fn stop(&mut self, pid: Koid)
+        ensures { self.new ≡ stopping self.old pid }
+    {
+        if let Some(place) = place_of(&self.list, pid) {
+            self.list[place] = self.list[place].stopped();
+        }
+    }
+
+    // The job of the process.
+    fn job_of(&self, pid: Koid) -> Option<Koid>
+        ensures { result ≡ job_in (get self.now.objects pid) }
+    {
+        match place_of(&self.list, pid) {
+            Some(place) => self.list[place].job(),
+            None => None,
+        }
+    }
+
+    /// The object is gone unless something keeps it. It takes no memory.
+    pub fn remove_unheld(&mut self, koid: Koid)
+        ensures { self.new ≡ without_unheld self.old koid }
+    {
+        if let Some(place) = place_of(&self.list, koid) {
+            if !self.keeps(self.list[place]) {
+                self.remove(koid);
+            }
+        }
+    }
+
+    fn remove(&mut self, koid: Koid)
+        ensures { self.new ≡ record self.old { objects = without self.old.objects koid } }
+    {
+        remove_from(&mut self.list, koid);
+    }
+
+    // Whether a handle names the object, or it is a process that lives or a job with one.
+    fn keeps(&self, object: Object) -> bool
+        ensures { result ≡ is_kept self.now.objects object.koid object }
+    {
         if object.handles > 0 {
             return true;
         }
@@ -205,11 +283,10 @@ impl Objects {
         }
     }
 
-    fn has_living_child(&self, parent: Koid) -> bool {
-        self.list.iter().any(|object| match object.body {
-            Body::Process { job, lives } => job == parent && lives,
-            _ => false,
-        })
+    fn has_living_child(&self, parent: Koid) -> bool
+        ensures { result ≡ has_living_child self.now.objects parent }
+    {
+        any_below(&self.list, parent)
     }
 }
 
@@ -218,4 +295,17 @@ fn place_of(list: &[Object], koid: Koid) -> Option<usize>
     ensures { result ≡ position (λ o. o.koid == koid) list.now }
 {
     list.iter().position(|object| object.koid == koid)
+}
+
+fn remove_from(list: &mut Vec<Object>, koid: Koid)
+    ensures { list.new.items ≡ filter (λ o. not (o.koid == koid)) list.old.items }
+{
+    list.retain(|object| object.koid != koid);
+}
+
+// Whether a process of the job lives.
+fn any_below(list: &[Object], job: Koid) -> bool
+    ensures { result ≡ list_any (λ o. lives_below job o.body) list.now }
+{
+    list.iter().any(|object| object.body.lives_below(job))
 }

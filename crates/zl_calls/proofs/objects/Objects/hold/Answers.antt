@@ -1,12 +1,13 @@
-use Rattle.zl_calls.proofs.Positions.{held_at, held_nowhere}
+use Rattle.zl_calls.proofs.Positions.{updated_at, updated_nowhere, koid_held}
+use Rattle.zl_calls.specs.Registry.{held_once_more}
 use Rattle.zl_calls.proofs.objects.Objects.hold.Goals as goal
 
 pub returns-in-Some : goal.returns-in-Some
 returns-in-Some c =
     rw (← c.self.view_is)
-    (held_at c.self.inside.list.items c.args.koid c.in-Some.place c.self.inside.next_koid c.index.result.now c.held_once_more.result (rw c.deref.ensures.value at (c.in-Some.ensures {u = tt})) c.index.ensures c.held_once_more.ensures)
+    (updated_at held_once_more koid_held c.self.inside.list.items c.args.koid c.self.inside.next_koid c.in-Some.place c.index.result.now c.held_once_more.result (rw c.deref.ensures.value at (c.in-Some.ensures {u = tt})) c.index.ensures c.held_once_more.ensures)
 
 pub returns-in_default : goal.returns-in_default
 returns-in_default c =
     rw (← c.self.view_is)
-    (held_nowhere c.self.inside.list.items c.args.koid c.self.inside.next_koid (rw c.deref.ensures.value at (c.in_default.ensures {u = tt})))
+    (updated_nowhere held_once_more koid_held c.self.inside.list.items c.args.koid c.self.inside.next_koid (rw c.deref.ensures.value at (c.in_default.ensures {u = tt})))

@@ -1,11 +1,15 @@
--- A table that a handle has left is shorter, and an empty one has no handle.
-use Rattle.std.proofs.Common.{◌≡◌, ◌<◌, ◌≤◌, ℕ, [], ◌∷◌, length, Some, Result, Err, refl, arith, inl, inr, ◌==◌}
-use Rattle.std.proofs.lemmas.Bool.{cases_Bool}
+-- Tables that handles leave, and empty ones.
+use Rattle.std.proofs.Common.{false, ◌^◌, bit_and, ◌≡◌, ◌<◌, ◌≤◌, ℕ, [], ◌∷◌, length, Some, None, Result, Err, refl, arith, inl, inr, ◌==◌}
+use Rattle.std.proofs.lemmas.Bool.{cases_Bool, eqb-true}
+use Rattle.std.proofs.lemmas.Nat.{and_le_l}
 use Rattle.zl_rights.specs.declared.entry.Entry.{Entry}
 use Rattle.zl_rights.specs.declared.status.Status.{Status}
 use Rattle.zl_rights.specs.declared.status.Status.TheVariants as status
 use Rattle.zl_rights.specs.Map.{Map, get, without}
+use Rattle.zl_rights.specs.Numbers.{within}
 use Rattle.zl_table.specs.Table.{Handles, Drains, looked_up}
+use Rattle.zl_calls.specs.Registry.{Registry, Closes, none_left, one_more, released}
+use Rattle.zl_calls.specs.Parts.{without_handle}
 
 length-without : {X : Type 0} (m : Map X) (k : ℕ) → length (without m k) ≤ length m
 unfolding without
@@ -30,3 +34,28 @@ pub empty_refuses : (m : Map Entry) (value needed n : ℕ) → n ≡ length m �
 unfolding get
 empty_refuses [] value needed n count empty = refl
 empty_refuses (e ∷ m) value needed n count empty = absurd (omega (arith, count, empty))
+
+by_entries : (t : Handles) (value : ℕ) (m : Map Entry) → t.entries ≡ m → length m ≡ 0 → (None ≡ get t.entries value) × (t ≡ without_handle t value)
+unfolding get
+by_entries t value [] is none = (rw is refl, rw is refl)
+by_entries t value (e ∷ m) is none = absurd (omega (arith, none))
+
+pub empty_has_none : (t : Handles) (value n : ℕ) → n ≡ length t.entries → n ≡ 0 → (None ≡ get t.entries value) × (t ≡ without_handle t value)
+empty_has_none t value n count empty = by_entries t value t.entries refl (omega (arith, count, empty))
+
+-- ---- the handles of a table close
+
+pub drained_closes : (old : Handles) (e : Entry) (new : Handles) (r mid r2 : Registry) → Drains old e new → mid ≡ released r e.koid → Closes new.entries mid r2 → Closes old.entries r r2
+drained_closes old e new r mid r2 d is rest = one_more old.entries d.value e r r2 d.removes.was (rw (d.removes.entries, is) at rest)
+
+pub all_closed : (t : Handles) (r : Registry) → t.entries ≡ [] → Closes t.entries r r
+all_closed t r none = rw none (none_left r)
+
+-- ---- sets of bits
+
+-- a number that is too large has a bit outside the set
+pub too_large : (bits settable : ℕ) → settable < 2 ^ 32 → (bits < 2 ^ 32 → ⊥) → within bits settable ≡ false
+too_large bits settable small large = elim (cases_Bool (within bits settable)) as (λ _. within bits settable ≡ false) [
+  | inl inside ↦ absurd (large (omega (arith, eqb-true (bit_and settable bits) bits inside, and_le_l settable bits, small)))
+  | inr outside ↦ outside
+]

@@ -1,22 +1,25 @@
 -- What calls do to the table of their caller and to the objects.
-use Rattle.std.specs.Prelude.{ℕ, ◌≡◌, ◌<◌, IsTrue, ◌+◌, ◌^◌, Bool, true, false, ◌&&◌, ◌||◌, not, nat_le, List, [], ◌∷◌, length, Option, Some, None, Result, Ok, Err}
+use Rattle.std.specs.Prelude.{ℕ, ◌≡◌, ◌<◌, IsTrue, ◌+◌, ◌^◌, Bool, true, false, ◌&&◌, ◌||◌, not, nat_le, List, [], ◌∷◌, length, Option, Some, None, Result, Ok, Err, ℤ, ⊤, ◌==◌, if◌then◌else◌}
+use Rattle.zl_rights.specs.declared.kind.Kind.{Kind}
 use Rattle.zl_rights.specs.declared.kind.Kind.TheVariants as kind
 use Rattle.zl_rights.specs.declared.status.Status.{Status}
 use Rattle.zl_rights.specs.declared.status.Status.TheVariants as status
 use Rattle.zl_rights.specs.declared.entry.Entry.{Entry}
 use Rattle.zl_rights.specs.declared.rights.Rights.{Rights}
-use Rattle.zl_rights.specs.Numbers.{bits, within, narrowed, DUPLICATE, status_magnitude}
-use Rattle.zl_rights.specs.Map.{Map, get}
+use Rattle.zl_rights.specs.Numbers.{bits, within, narrowed, DUPLICATE, SIGNAL, USER_SIGNALS, status_magnitude}
+use Rattle.zl_rights.specs.Map.{Map, get, has_key, without}
 use Rattle.zl_rights.specs.Signals.{is_empty}
 use Rattle.zl_rights.specs.World.{answered}
 use Rattle.zl_code.specs.Request.{Site}
 use Rattle.zl_code.specs.Tests.{with_rights}
 use Rattle.zl_code.specs.Effects.{new_entry}
+use Rattle.zl_code.specs.Calls.{cpu_answered}
 use Rattle.zl_table.specs.Table.{Handles, Inserts}
 use Rattle.zl_calls.specs.declared.objects.Body.TheVariants as body
 use Rattle.zl_calls.specs.declared.objects.Object.{Object}
+use Rattle.zl_calls.specs.declared.process.State.TheVariants as state
 use Rattle.zl_calls.specs.declared.process.Process.{Process}
-use Rattle.zl_calls.specs.Registry.{Registry, has_place, with_new, holding}
+use Rattle.zl_calls.specs.Registry.{Registry, has_place, with_new, holding, changing, released, process_ended, Closes}
 
 -- ---- refusals
 
@@ -57,6 +60,37 @@ Replies s answer old new = new ≡ record old {
   table = new.table;
 }
 
+-- the same for an answer that gives no value, and where operands may be consumed
+abbrev pub RepliesWith : Site → Status → Process → Process → Type 0
+RepliesWith s answer old new = new ≡ record old {
+  cpu = cpu_answered s answer [] old.cpu;
+  table = new.table;
+}
+
+-- the answer of a call that gives no value
+abbrev pub answer_of : Option Status → Status
+answer_of None = status.Ok
+answer_of (Some s) = s
+
+abbrev pub answer_to : Result ⊤ Status → Status
+answer_to (Ok done) = status.Ok
+answer_to (Err s) = s
+
+-- ---- close
+
+-- the answer of close other than OK; 0 passes
+abbrev pub close_refusal : Map Entry → ℕ → Option Status
+close_refusal entries value = status_if (not (value == 0) && not (has_key entries value)) status.BadHandle
+
+-- the table without the handle
+abbrev pub without_handle : Handles → ℕ → Handles
+without_handle t value = if has_key t.entries value then record { entries = without t.entries value; last = Some value } else t
+
+-- the objects after the handle, if there is one, has closed
+abbrev pub closing : Registry → Option Entry → Registry
+closing r None = r
+closing r (Some e) = released r e.koid
+
 -- ---- dup
 
 abbrev pub dup_refusal_of : Map Entry → Map Object → ℕ → Option Entry → Option Status
@@ -95,3 +129,39 @@ pub record CreatesEvent (t : Handles) (r : Registry) (made : ℕ) (t2 : Handles)
   pub koid : r.next_koid < 2 ^ 62
   pub inserts : Inserts t (new_entry r.next_koid kind.Event) made t2
   pub objects : r2 ≡ with_new r body.Event 1
+
+-- ---- signal
+
+-- the signals that calls may set and clear at an object of the kind
+abbrev pub settable_at : Kind → ℕ
+settable_at kind.Event = 0xff00_0008
+settable_at _ = USER_SIGNALS
+
+abbrev pub may_change_at : Kind → ℕ → ℕ → Bool
+may_change_at k clear set = within clear (settable_at k) && within set (settable_at k)
+
+abbrev pub signal_refusal_of : ℕ → ℕ → Option Entry → Option Status
+signal_refusal_of clear set None = Some status.BadHandle
+signal_refusal_of clear set (Some e) =
+    first_status (status_if (not (within SIGNAL (bits e.rights))) status.AccessDenied)
+    (status_if (not (may_change_at e.kind clear set)) status.InvalidArgs)
+
+-- the answer of signal other than OK
+abbrev pub signal_refusal : Map Entry → ℕ → ℕ → ℕ → Option Status
+signal_refusal entries value clear set = signal_refusal_of clear set (get entries value)
+
+-- the signals of the object that the handle names change
+pub record SignalsObject (entries : Map Entry) (r : Registry) (value clear set : ℕ) (r2 : Registry) : Type 0 where
+  pub unrefused : signal_refusal entries value clear set ≡ None
+  pub original : Entry
+  pub was : get entries value ≡ Some original
+  pub objects : r2 ≡ changing r original.koid clear set
+
+-- ---- the end of a process
+
+-- the process has ended with the code, without handles, and its objects are those that are left
+pub record Ends (code : ℤ) (old : Process) (r : Registry) (new : Process) (r2 : Registry) : Type 0 where
+  pub process : new ≡ record old { state = state.Ended code; table = new.table }
+  pub no_handle : new.table.entries ≡ []
+  pub no_last : new.table.last ≡ None
+  pub objects : Closes old.table.entries (process_ended r old.pid) r2

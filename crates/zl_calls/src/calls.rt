@@ -1,12 +1,13 @@
 //! The system calls, each over its process and the objects, with the answer as the result.
 
-ghost use Rattle.std.specs.Prelude.{◌≡◌, ◌<◌, ◌^◌, [], ◌∷◌, length, IfOk, IfErr, OnErr};
-ghost use Rattle.zl_rights.specs.Numbers.{bits};
+ghost use Rattle.std.specs.Prelude.{◌≡◌, ◌<◌, ◌^◌, ◌==◌, not, [], ◌∷◌, length, IfOk, IfErr, OnOk, OnErr, Some, None, if◌then◌else◌};
+ghost use Rattle.zl_rights.specs.Numbers.{bits, within};
+ghost use Rattle.zl_rights.specs.Map.{get};
 ghost use Rattle.zl_code.specs.Effects.{signed_word};
 ghost use Rattle.zl_code.specs.Local.{reg};
-ghost use Rattle.zl_code.specs.Request.{site, dup, event_create};
+ghost use Rattle.zl_code.specs.Request.{site, close, dup, event_create, signal};
 ghost use Rattle.zl_table.specs.Table.{Inserts, looked_up};
-ghost use Rattle.zl_calls.specs.Parts.{IsRefusedBy, Replies, Dups, dup_refusal, CreatesEvent, event_refusal};
+ghost use Rattle.zl_calls.specs.Parts.{IsRefusedBy, status_if, Replies, RepliesWith, answer_of, answer_to, close_refusal, without_handle, closing, Dups, dup_refusal, CreatesEvent, event_refusal, settable_at, signal_refusal, SignalsObject, Ends};
 
 use crate::objects::{Body, Objects};
 use crate::process::Process;
@@ -27,7 +28,10 @@ pub fn close(
     handle: Register,
 ) -> Status
     requires { process.old.cpu.counter < 2 ^ 32 }
-    ensures { process.new.state ≡ process.old.state }
+    ensures answer { result ≡ answer_of (close_refusal process.old.table.entries (reg process.old.cpu handle)) }
+    ensures table { process.new.table ≡ without_handle process.old.table (reg process.old.cpu handle) }
+    ensures objects { objects.new ≡ closing objects.old (get process.old.table.entries (reg process.old.cpu handle)) }
+    ensures replied { RepliesWith (site (close (reg process.old.cpu handle)) (handle ∷ []) (status ∷ [])) result process.old process.new }
 {
     let value = process.cpu.register(handle);
     let answer = close_value(&mut process.table, objects, value);
@@ -36,18 +40,43 @@ pub fn close(
     answer
 }
 
-fn close_value(table: &mut Table, objects: &mut Objects, value: u64) -> Status {
-    if value == 0 {
-        return Status::Ok;
+fn close_value(table: &mut Table, objects: &mut Objects, value: u64) -> Status
+    ensures answer { result ≡ answer_of (close_refusal table.old.entries value) }
+    ensures table { table.new ≡ without_handle table.old value }
+    ensures objects { objects.new ≡ closing objects.old (get table.old.entries value) }
+{
+    match take_out(table, value) {
+        Some(entry) => {
+            objects.release(entry.koid);
+            Status::Ok
+        }
+        None => unless_zero(value),
     }
-    let Ok(value) = HValue::try_from(value) else {
-        return Status::BadHandle;
-    };
-    let Some(entry) = table.remove(value) else {
-        return Status::BadHandle;
-    };
-    objects.release(entry.koid);
-    Status::Ok
+}
+
+// What it is answered to close a value that isn't live.
+fn unless_zero(value: u64) -> Status
+    ensures { result ≡ answer_of (status_if (not (value == 0)) Status.BadHandle) }
+{
+    if value == 0 {
+        Status::Ok
+    } else {
+        Status::BadHandle
+    }
+}
+
+// The handle at the value leaves the table, if it is live.
+fn take_out(table: &mut Table, value: u64) -> Option<Entry>
+    ensures entry { result ≡ get table.old.entries value }
+    ensures table { table.new ≡ without_handle table.old value }
+{
+    if table.len() == 0 {
+        return None;
+    }
+    match HValue::try_from(value) {
+        Ok(value) => table.remove(value),
+        Err(_) => None,
+    }
 }
 
 /// Makes a second handle to the object, with the rights asked for.
@@ -158,19 +187,30 @@ pub fn signal(
     handle: Register,
     clear: Register,
     set: Register,
-) -> Status
+) -> Result<(), Status>
     requires { process.old.cpu.counter < 2 ^ 32 }
-    ensures { process.new.state ≡ process.old.state }
+    ensures ok { OnOk result (SignalsObject process.old.table.entries objects.old (reg process.old.cpu handle) (reg process.old.cpu clear) (reg process.old.cpu set) objects.new) }
+    ensures err { IfErr result (λ refused. signal_refusal process.old.table.entries (reg process.old.cpu handle) (reg process.old.cpu clear) (reg process.old.cpu set) ≡ Some refused) }
+    ensures same_table { process.new.table ≡ process.old.table }
+    ensures same_objects { OnErr result (objects.new ≡ objects.old) }
+    ensures replied { RepliesWith (site (signal (reg process.old.cpu handle) (reg process.old.cpu clear) (reg process.old.cpu set)) [] (status ∷ [])) (answer_to result) process.old process.new }
 {
     let value = process.cpu.register(handle);
     let clear = process.cpu.register(clear);
     let set = process.cpu.register(set);
-    let answer = match signal_value(&process.table, objects, value, clear, set) {
+    let result = signal_value(&process.table, objects, value, clear, set);
+    process.answer(status, answer_to(result));
+    result
+}
+
+/// The answer of a call that gives no value.
+pub fn answer_to(call: Result<(), Status>) -> Status
+    ensures { result ≡ answer_to call }
+{
+    match call {
         Ok(()) => Status::Ok,
         Err(refused) => refused,
-    };
-    process.answer(status, answer);
-    answer
+    }
 }
 
 fn signal_value(
@@ -179,7 +219,11 @@ fn signal_value(
     value: u64,
     clear: u64,
     set: u64,
-) -> Result<(), Status> {
+) -> Result<(), Status>
+    ensures ok { OnOk result (SignalsObject table.now.entries objects.old value clear set objects.new) }
+    ensures err { IfErr result (λ refused. signal_refusal table.now.entries value clear set ≡ Some refused) }
+    ensures same_objects { OnErr result (objects.new ≡ objects.old) }
+{
     let entry = look_up(table, value, Rights::SIGNAL)?;
     let settable = settable(entry.kind);
     let (Some(clear), Some(set)) = (
@@ -200,32 +244,50 @@ pub fn process_exit(
     process: &mut Process,
     objects: &mut Objects,
     code: Register,
-) -> i32 {
+) -> i32
+    ensures code { result ≡ signed_word (reg process.old.cpu code) }
+    ensures ends { Ends result process.old objects.old process.new objects.new }
+{
     let code = signed_word(process.cpu.register(code));
     end(alloc, process, objects, code);
     code
 }
 
 /// The process ends with the code; its handles close, and what isn't held any more is gone.
-pub fn end(alloc: Global, process: &mut Process, objects: &mut Objects, code: i32) {
+pub fn end(alloc: Global, process: &mut Process, objects: &mut Objects, code: i32)
+    ensures { Ends code process.old objects.old process.new objects.new }
+{
     let mut table = process.end(alloc, code);
+    objects.end(process.pid);
     while let Some(entry) = table.drain() {
         objects.release(entry.koid);
     }
-    objects.end(process.pid);
 }
 
 // The signals that calls may set and clear at an object of this kind.
-fn settable(kind: Kind) -> u32 {
+fn settable(kind: Kind) -> u32
+    ensures { result ≡ settable_at kind }
+{
     match kind {
         Kind::Event => 0xff00_0008,
         _ => 0xff00_0000,
     }
 }
 
-fn signals_within(bits: u64, settable: u32) -> Option<Signals> {
-    let bits = u32::try_from(bits).ok()?;
-    if bits & settable == bits {
+// The signals with these bits, if each of them may be changed.
+fn signals_within(bits: u64, settable: u32) -> Option<Signals>
+    ensures { result ≡ (if within bits settable then Some (record { 0 = bits }) else None) }
+{
+    match u32::try_from(bits) {
+        Ok(bits) => signals_if(bits, settable),
+        Err(_) => None,
+    }
+}
+
+fn signals_if(bits: u32, settable: u32) -> Option<Signals>
+    ensures { result ≡ (if within bits settable then Some (record { 0 = bits }) else None) }
+{
+    if settable & bits == bits {
         Some(Signals::from_bits_retain(bits))
     } else {
         None

@@ -1,4 +1,4 @@
-ghost use Rattle.std.specs.Prelude.{◌≡◌, ◌<◌, ◌^◌, [], ◌∷◌};
+ghost use Rattle.std.specs.Prelude.{◌≡◌, ◌<◌, ◌^◌, [], ◌∷◌, None};
 ghost use Rattle.zl_rights.specs.Numbers.{status_magnitude};
 ghost use Rattle.zl_rights.specs.World.{answered};
 ghost use Rattle.zl_rights.specs.Signals.{is_ready};
@@ -78,7 +78,12 @@ impl Process {
     }
 
     /// The process ends with the code, with an empty table; the old one is the result.
-    pub fn end(&mut self, alloc: Global, code: i32) -> Table {
+    pub fn end(&mut self, alloc: Global, code: i32) -> Table
+        ensures table { result ≡ self.old.table }
+        ensures ended { self.new ≡ record self.old { state = State.Ended code; table = self.new.table } }
+        ensures no_handle { self.new.table.entries ≡ [] }
+        ensures no_last { self.new.table.last ≡ None }
+    {
         self.state = State::Ended(code);
         std::mem::replace(&mut self.table, Table::new(alloc))
     }

@@ -85,7 +85,9 @@ pub fn act(alloc: Global, process: &mut Process, objects: &mut Objects, call: Ca
             handle,
             clear,
             set,
-        } => Outcome::Answered(calls::signal(process, objects, status, handle, clear, set)),
+        } => Outcome::Answered(calls::answer_to(calls::signal(
+            process, objects, status, handle, clear, set,
+        ))),
         CallInstr::ProcessExit { code } => Outcome::Ended(calls::process_exit(
             alloc, process, objects, code,
         )),

@@ -1,5 +1,11 @@
 use Rattle.std.proofs.Common.{length}
+use Rattle.zl_calls.specs.Registry.{Registry, Closes}
 use Rattle.zl_calls.proofs.calls.end.Given as goal
+
+abbrev pub invariant-loop-entry : goal.invariant-loop-entry
+invariant-loop-entry l = record {
+  closes : (r2 : Registry) → Closes l.table.entries l.objects r2 → Closes l.initial.table.entries l.initial.objects r2;
+}
 
 abbrev pub decreases-loop-entry : goal.decreases-loop-entry
 decreases-loop-entry l = length l.table.entries

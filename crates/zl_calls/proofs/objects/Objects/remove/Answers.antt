@@ -2,7 +2,7 @@ use Rattle.zl_calls.proofs.Positions.{without_filtered}
 use Rattle.std.proofs.Common.{ap, ◌∙◌, map}
 use Rattle.zl_rights.specs.Map.{Map}
 use Rattle.zl_calls.specs.declared.objects.Object.{Object}
-use Rattle.zl_calls.specs.Registry.{Registry, keyed}
+use Rattle.zl_calls.specs.Registry.{keyed}
 use Rattle.zl_calls.proofs.objects.Objects.remove.Goals as goal
 
 pub returns : goal.returns

@@ -1,6 +1,5 @@
 use Rattle.zl_calls.proofs.Positions.{read_at, read_nowhere, key_at, unkept_at}
-use Rattle.std.proofs.Common.{◌≡◌, refl, sym, true, false, ◌∙◌, get_or, Some}
-use Rattle.std.specs.List.{position}
+use Rattle.std.proofs.Common.{refl, sym, true, false, ◌∙◌}
 use Rattle.zl_calls.proofs.objects.Objects.remove_unheld.Goals as goal
 
 pub returns-then-not-keeps : goal.returns-then-not-keeps

@@ -111,6 +111,7 @@ module _ (before after : List Process) (p p2 : Process) (write : IsWrite before 
     next_koid = omega arith;
     given_objects = λ j there. lab.given_objects j (sym (has_key-update r.objects k held_once_more j) ∙ there);
     koids = lab.koids;
+    no_zero = λ j there. lab.no_zero j (sym (has_key-update r.objects k held_once_more j) ∙ there);
     named = named_updated held_once_more body_held r.objects k;
     counted = λ j q at. found_updated held_once_more r.objects k (q.handles ≡ handles_to (world_value after (holding r k)) j) j q at
         (λ o old here is.

@@ -125,6 +125,10 @@ module _ (before after : List Process) (p p2 : Process) (write : IsWrite before 
       | inr old ↦ omega (arith, lab.given_objects j old)
     ];
     koids = omega (arith, creates.koid);
+    no_zero = λ j there. elim (put_key r.objects n fresh j (rw (← grown_is) at there)) as (λ _. 0 < j) [
+      | inl same ↦ omega (arith, same, lab.above_zero)
+      | inr old ↦ lab.no_zero j old
+    ];
     named = grown_named;
     counted = λ j q at. found_grown (q.handles ≡ handles_to (world_value after grown) j) j q at
         (λ here is.

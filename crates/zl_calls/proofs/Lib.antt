@@ -7,6 +7,7 @@ pub mod Answered
 pub mod Counting
 pub mod Labs
 pub mod Written
+pub mod MapsWithout
 pub mod SameBodies
 pub mod Kept
 pub mod KeptEvent

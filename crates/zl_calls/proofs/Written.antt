@@ -51,6 +51,7 @@ pub record IsNext (before after : List Process) (r r2 : Registry) : Type 0 where
   pub next_koid : r.next_koid ≤ r2.next_koid
   pub given_objects : (k : ℕ) → IsTrue (has_key r2.objects k) → k < r2.next_koid
   pub koids : r2.next_koid ≤ 2 ^ 62
+  pub no_zero : (k : ℕ) → IsTrue (has_key r2.objects k) → 0 < k
   pub named : (e : Entry) → IsNamed r.objects e → IsNamed r2.objects e
   pub counted : (k : ℕ) (o : Object) → get r2.objects k ≡ Some o → o.handles ≡ handles_to (world_value after r2) k
   pub agrees : (k : ℕ) (o : Object) → get r2.objects k ≡ Some o → AgreesOn o.body (is_process (world_value before r) runs k)
@@ -95,6 +96,8 @@ module _ (before after : List Process) (p p2 : Process) (write : IsWrite before 
     given_processes = λ k there. omega (arith, next.next_koid, lab.given_processes k (sym (has_key-update (map process_entry before) p.pid (λ _. process_value p2) k) ∙ (rw after_is at there)));
     given_objects = next.given_objects;
     koids = next.koids;
+    above_zero = omega (arith, next.next_koid, lab.above_zero);
+    no_zero = next.no_zero;
     tables = λ k q at. found_after (IsTable (record { entries = q.handles; last = q.last })) k q at (λ is. subst (λ (x : ProcessValue). IsTable (record { entries = x.handles; last = x.last })) is table) (lab.tables k q);
     named = λ k q v e at there. found_after (IsNamed r2.objects e) k q at (λ is. named v e (ap (λ (x : ProcessValue). get x.handles v) is ∙ there)) (λ old. next.named e (lab.named k q v e old there));
     counted = next.counted;
@@ -119,6 +122,7 @@ refusal_keeps before after p p2 r write lab table state = keeps before after p p
       next_koid = omega arith;
       given_objects = lab.given_objects;
       koids = lab.koids;
+      no_zero = lab.no_zero;
       named = λ e named. named;
       counted = λ k o at. lab.counted k o at ∙ sym (same_counts before after p p2 r k write table);
       agrees = lab.agrees;

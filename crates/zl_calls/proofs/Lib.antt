@@ -8,6 +8,8 @@ pub mod Counting
 pub mod Labs
 pub mod Written
 pub mod MapsWithout
+pub mod Unheld
+pub mod Closing
 pub mod SameBodies
 pub mod Kept
 pub mod KeptEvent

@@ -1,5 +1,5 @@
 -- Maps that an entry has left: tests, counts, and what is seen.
-use Rattle.std.proofs.Common.{◌≡◌, ◌+◌, ℕ, Bool, true, false, ◌||◌, ◌==◌, [], ◌∷◌, map, refl, sym, ap, ◌∙◌, cond, Some, None, inl, inr, IsTrue, arith}
+use Rattle.std.proofs.Common.{◌≡◌, ◌+◌, ℕ, Bool, true, false, ◌||◌, ◌==◌, [], ◌∷◌, map, refl, sym, ap, ◌∙◌, cond, Some, inl, inr, IsTrue, arith}
 use Rattle.std.specs.List.{list_any, count_by}
 use Rattle.std.specs.Ordering.{nat_cmp}
 use Rattle.std.specs.FinMap.Entries.{is_sorted}

@@ -50,6 +50,29 @@ module _ {X : Type 0} where
     | inr apart ↦ rw apart (omega (arith, sum_by-cons n e (update m k f), sum_by-cons n e m, sum_update n m k c x f (rw apart at there) more))
   ]
 
+module _ {X : Type 0} where
+  pub sum_fewer : (n : ℕ × X → ℕ) (m : Map X) (k c : ℕ) (x : X) (f : X → X) → get m k ≡ Some x → n (k, x) ≡ n (k, f x) + c → sum_by n m ≡ sum_by n (update m k f) + c
+  unfolding get update
+  sum_fewer n [] k c x f there fewer = absurd (none-some x there)
+  sum_fewer n (e ∷ m) k c x f there fewer = elim (cases_Bool (e.0 == k)) as (λ _. sum_by n (e ∷ m) ≡ sum_by n (update (e ∷ m) k f) + c) [
+    | inl here ↦
+        let same : e.1 ≡ x = same_Some e.1 x (rw here at there) in
+        let head : n e ≡ n (k, x) = λ i. n (eqb-true e.0 k here i, same i) in
+        let new : n (k, f e.1) ≡ n (k, f x) = λ i. n (k, f (same i)) in
+        rw here (omega (arith, sum_by-cons n (k, f e.1) m, sum_by-cons n e m, head, new, fewer))
+    | inr apart ↦ rw apart (omega (arith, sum_by-cons n e (update m k f), sum_by-cons n e m, sum_fewer n m k c x f (rw apart at there) fewer))
+  ]
+
+-- the handles that name k before a process was written whose table has c fewer of them
+pub counts_fewer : (before after : List Process) (p p2 : Process) (r r2 : Registry) (k c : ℕ) → IsWrite before after p p2
+    → count_by (λ h. h.1.koid == k) p.table.entries ≡ count_by (λ h. h.1.koid == k) p2.table.entries + c
+    → handles_to (world_value before r) k ≡ handles_to (world_value after r2) k + c
+unfolding handles_to
+counts_fewer before after p p2 r r2 k c write fewer =
+    let summed : sum_by (λ q. count_by (λ h. h.1.koid == k) q.1.handles) (map process_entry before) ≡ sum_by (λ (q : ℕ × ProcessValue). count_by (λ h. h.1.koid == k) q.1.handles) (update (map process_entry before) p.pid (λ _. process_value p2)) + c
+    = sum_fewer (λ q. count_by (λ h. h.1.koid == k) q.1.handles) (map process_entry before) p.pid c (process_value p) (λ _. process_value p2) write.there fewer in
+    rw (no_queues r.objects k, no_queues r2.objects k, write.writes (λ _. process_value p2) refl) (omega (arith, summed))
+
 -- the handles that name k after a process was written whose table has c more of them
 pub counts_written : (before after : List Process) (p p2 : Process) (r r2 : Registry) (k c : ℕ) → IsWrite before after p p2
     → count_by (λ h. h.1.koid == k) p2.table.entries ≡ count_by (λ h. h.1.koid == k) p.table.entries + c

@@ -10,6 +10,8 @@ pub mod Written
 pub mod MapsWithout
 pub mod Unheld
 pub mod Closing
+pub mod Closed
+pub mod Stopped
 pub mod SameBodies
 pub mod Kept
 pub mod KeptEvent

@@ -61,10 +61,10 @@ pub record IsNext (before after : List Process) (r r2 : Registry) : Type 0 where
 -- ---- what is found afterwards
 
 module _ (before after : List Process) (p p2 : Process) (write : IsWrite before after p p2) where
-  after_is : map process_entry after ≡ update (map process_entry before) p.pid (λ _. process_value p2)
+  pub after_is : map process_entry after ≡ update (map process_entry before) p.pid (λ _. process_value p2)
   after_is = write.writes (λ _. process_value p2) refl
 
-  get_after : (k : ℕ) → get (map process_entry after) k ≡ cond (p.pid == k) (Some (process_value p2)) (get (map process_entry before) k)
+  pub get_after : (k : ℕ) → get (map process_entry after) k ≡ cond (p.pid == k) (Some (process_value p2)) (get (map process_entry before) k)
   get_after k = ap (λ (m : Map ProcessValue). get m k) after_is ∙ (get-update (map process_entry before) p.pid (λ _. process_value p2) k ∙ by_key (cases_Bool (p.pid == k)))
     where
       by_key : (IsTrue (p.pid == k)) ⊎ ((p.pid == k) ≡ false) → cond (p.pid == k) (option_map (λ _. process_value p2) (get (map process_entry before) k)) (get (map process_entry before) k) ≡ cond (p.pid == k) (Some (process_value p2)) (get (map process_entry before) k)
@@ -72,13 +72,13 @@ module _ (before after : List Process) (p p2 : Process) (write : IsWrite before 
       by_key (inr apart) = rw apart refl
 
   -- what is there afterwards is the new process, or was there before
-  found_after : (A : Type 0) (k : ℕ) (q : ProcessValue) → get (map process_entry after) k ≡ Some q → (process_value p2 ≡ q → A) → (get (map process_entry before) k ≡ Some q → A) → A
+  pub found_after : (A : Type 0) (k : ℕ) (q : ProcessValue) → get (map process_entry after) k ≡ Some q → (process_value p2 ≡ q → A) → (get (map process_entry before) k ≡ Some q → A) → A
   found_after A k q at new old = elim (cases_Bool (p.pid == k)) as (λ _. A) [
     | inl here ↦ new (same_Some (process_value p2) q (rw (get_after k, here) at at))
     | inr apart ↦ old (rw (get_after k, apart) at at)
   ]
 
-  same_runs : p2.state ≡ p.state → (r r2 : Registry) (k : ℕ) → is_process (world_value after r2) runs k ≡ is_process (world_value before r) runs k
+  pub same_runs : p2.state ≡ p.state → (r r2 : Registry) (k : ℕ) → is_process (world_value after r2) runs k ≡ is_process (world_value before r) runs k
   unfolding is_process
   same_runs same r r2 k = elim (cases_Bool (p.pid == k)) as (λ _. state_passes runs (get (map process_entry after) k) ≡ state_passes runs (get (map process_entry before) k)) [
     | inl here ↦ rw (get_after k, here, ← eqb-true p.pid k here, write.there, same) refl

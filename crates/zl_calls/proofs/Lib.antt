@@ -12,6 +12,7 @@ pub mod Unheld
 pub mod Closing
 pub mod Closed
 pub mod Stopped
+pub mod Ended
 pub mod SameBodies
 pub mod Kept
 pub mod KeptEvent

@@ -13,7 +13,7 @@ use Rattle.zl_rights.specs.declared.entry.Entry.{Entry}
 use Rattle.zl_rights.specs.Map.{Map, get, has_key, each}
 use Rattle.zl_rights.specs.World.{World, Process as ProcessValue, State as StateValue, Created, Ready, Blocked, Ended, Gone}
 use Rattle.zl_rights.specs.Signals.{is_process, runs, lives, is_job_below, is_process_of, state_passes}
-use Rattle.zl_rights.specs.Settle.{Koids, is_held, in_table, in_queue, has_living_child as living_child, process_without, state_without}
+use Rattle.zl_rights.specs.Settle.{Settles, Koids, is_held, in_table, in_queue, has_living_child as living_child, process_without, state_without}
 use Rattle.zl_code.specs.declared.history.CallName.{CallName}
 use Rattle.zl_code.specs.declared.history.Outcome.{Outcome}
 use Rattle.zl_code.specs.declared.history.TraceItem.TheVariants as item
@@ -180,17 +180,26 @@ module _ (ps : List Process) (r : Registry) (lab : IsLab ps r) where
 
 -- ---- a call is a step
 
+-- a call, and what isn't held any more goes
+pub call_settles : (lib : Library) (before after : List Process) (r acted r2 : Registry) (p : Process) (call : CallName) (s : Site) (ends : Outcome)
+    → get (map process_entry before) p.pid ≡ Some (process_value p) → state_value p.state ≡ Ready → next_for lib (process_value p) ≡ AtCall call s
+    → Calls lib (world_value before r) p.pid s ends (world_value after acted) → Settles (world_value after acted) (world_value after r2)
+    → Step lib (world_value before r) p.pid (item.Call p.pid call ends) (world_value after r2)
+call_settles lib before after r acted r2 p call s ends there ready next calls settles = record {
+  process = process_value p;
+  is_there = there;
+  is_ready = ready;
+  acted = world_value after acted;
+  acts = rw next (ends, refl, calls);
+  settled = world_value after r2;
+  settles = settles;
+  ends_awake = sym (wakes_nothing (map process_entry after) (map object_entry r2.objects) r2.next_koid);
+}
+
+-- a call after which all is held
 pub call_steps : (lib : Library) (before after : List Process) (r r2 : Registry) (p : Process) (call : CallName) (s : Site) (ends : Outcome)
     → get (map process_entry before) p.pid ≡ Some (process_value p) → state_value p.state ≡ Ready → next_for lib (process_value p) ≡ AtCall call s
     → Calls lib (world_value before r) p.pid s ends (world_value after r2) → IsSettled (world_value after r2)
     → Step lib (world_value before r) p.pid (item.Call p.pid call ends) (world_value after r2)
-call_steps lib before after r r2 p call s ends there ready next calls settled = record {
-  process = process_value p;
-  is_there = there;
-  is_ready = ready;
-  acted = world_value after r2;
-  acts = rw next (ends, refl, calls);
-  settled = world_value after r2;
-  settles = settles_itself (map process_entry after) (map object_entry r2.objects) r2.next_koid (started after) settled;
-  ends_awake = sym (wakes_nothing (map process_entry after) (map object_entry r2.objects) r2.next_koid);
-}
+call_steps lib before after r r2 p call s ends there ready next calls settled = call_settles lib before after r r2 r2 p call s ends there ready next calls
+    (settles_itself (map process_entry after) (map object_entry r2.objects) r2.next_koid (started after) settled)

@@ -16,4 +16,6 @@ pub mod Ended
 pub mod SameBodies
 pub mod Kept
 pub mod KeptEvent
+pub mod Done
+pub mod Close
 pub mod Performed

@@ -20,13 +20,9 @@ use Rattle.zl_calls.specs.Lab.{IsLab}
 use Rattle.zl_calls.proofs.Answered.{IsWrite, dup_calls, dup_refused_calls, event_create_calls, event_create_refused_calls}
 use Rattle.zl_calls.proofs.Labs.{no_policy, given, handles_counted, all_held, call_steps}
 use Rattle.zl_calls.proofs.Written.{refusal_keeps}
+use Rattle.zl_calls.proofs.Done.{IsDone}
 use Rattle.zl_calls.proofs.Kept.{dup_keeps}
 use Rattle.zl_calls.proofs.KeptEvent.{event_create_keeps}
-
--- the call is a step, and the invariant holds afterwards
-pub record IsDone (lib : Library) (before after : List Process) (r r2 : Registry) (pid : ℕ) (call : CallName) (ends : Outcome) : Type 0 where
-  pub step : Step lib (world_value before r) pid (item.Call pid call ends) (world_value after r2)
-  pub lab : IsLab after r2
 
 -- a ready process of a lab, at the call
 module _ (lib : Library) (before after : List Process) (r r2 : Registry) (p p2 : Process)

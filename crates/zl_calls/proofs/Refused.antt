@@ -62,7 +62,7 @@ answers (Some s) = Some (outcome.Answered s)
 
 -- an answer that refuses the call, or wants memory
 module _ (lib : Library) (w : World) (p : ℕ) (s : Site) where
-  no_values : (request : Request) (answer : Status) → gives w p request answer [] ≡ []
+  pub no_values : (request : Request) (answer : Status) → gives w p request answer [] ≡ []
   unfolding gives
   no_values request status.Ok = refl
   no_values request _ = refl

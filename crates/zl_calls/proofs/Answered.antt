@@ -143,7 +143,7 @@ module _ (lib : Library) (before after : List Process) (p p2 : Process) (write :
       ends = rw copied (replied_with before after p p2 write r r2 (site (dup h asked) [] (a ∷ d ∷ [])) status.Ok (made ∷ []) (process_with made copy) (on_process w p.pid (process_with made copy)) refl rest is)
 
   -- an answer other than OK changes the registers alone
-  same_world : p2.table ≡ p.table → r2 ≡ r → (s : Site) → s.consumed ≡ [] → (answer : Status) → Replies s (Err answer) p p2
+  pub same_world : p2.table ≡ p.table → r2 ≡ r → (s : Site) → s.consumed ≡ [] → (answer : Status) → Replies s (Err answer) p p2
       → world_value after r2 ≡ replied w p.pid s answer []
   unfolding replied on_process
   same_world table objects s consumed answer replies =

@@ -18,4 +18,5 @@ pub mod Kept
 pub mod KeptEvent
 pub mod Done
 pub mod Close
+pub mod Signal
 pub mod Performed

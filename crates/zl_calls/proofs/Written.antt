@@ -108,10 +108,10 @@ module _ (before after : List Process) (p p2 : Process) (write : IsWrite before 
 
 -- ---- a refusal keeps the invariant
 
-same_counts : (before after : List Process) (p p2 : Process) (r : Registry) (k : ℕ) → IsWrite before after p p2 → p2.table ≡ p.table → handles_to (world_value after r) k ≡ handles_to (world_value before r) k
-same_counts before after p p2 r k write table =
+pub same_counts : (before after : List Process) (p p2 : Process) (r r2 : Registry) (k : ℕ) → IsWrite before after p p2 → p2.table ≡ p.table → handles_to (world_value after r2) k ≡ handles_to (world_value before r) k
+same_counts before after p p2 r r2 k write table =
     let none : count_by (λ h. h.1.koid == k) p2.table.entries ≡ count_by (λ h. h.1.koid == k) p.table.entries + 0 = rw table (omega arith) in
-    counts_written before after p p2 r r k 0 write none ∙ omega arith
+    counts_written before after p p2 r r2 k 0 write none ∙ omega arith
 
 pub refusal_keeps : (before after : List Process) (p p2 : Process) (r : Registry) → IsWrite before after p p2 → IsLab before r → p2.table ≡ p.table → p2.state ≡ p.state → IsLab after r
 refusal_keeps before after p p2 r write lab table state = keeps before after p p2 write r r lab state
@@ -124,7 +124,7 @@ refusal_keeps before after p p2 r write lab table state = keeps before after p p
       koids = lab.koids;
       no_zero = lab.no_zero;
       named = λ e named. named;
-      counted = λ k o at. lab.counted k o at ∙ sym (same_counts before after p p2 r k write table);
+      counted = λ k o at. lab.counted k o at ∙ sym (same_counts before after p p2 r r k write table);
       agrees = lab.agrees;
       in_jobs = lab.in_jobs;
       kept = lab.kept;

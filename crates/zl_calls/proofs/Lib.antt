@@ -19,4 +19,5 @@ pub mod KeptEvent
 pub mod Done
 pub mod Close
 pub mod Signal
+pub mod Exit
 pub mod Performed

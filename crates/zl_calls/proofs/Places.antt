@@ -1,8 +1,8 @@
 -- Where a process stands in the list, and what stands next for it.
-use Rattle.std.proofs.Common.{◌≡◌, ◌<◌, ℕ, List, length, map, get_or, Option, Some, None, refl}
-use Rattle.std.specs.Prelude.{slice_get}
+use Rattle.std.proofs.Common.{◌≡◌, ◌<◌, ℕ, List, length, map, get_or, Option, Some, None, refl, sym, ◌≤◌}
+use Rattle.std.specs.Prelude.{slice_get, IfSome, IfNone}
 use Rattle.std.specs.Option.{option_map}
-use Rattle.std.proofs.lemmas.Option.{slice_get-map, slice_get_read}
+use Rattle.std.proofs.lemmas.Option.{slice_get-map, slice_get_read, none-some}
 use Rattle.std.proofs.Common.{IsTrue}
 use Rattle.std.proofs.lemmas.Bool.{false≢true}
 use Rattle.zl_rights.specs.Map.{get}
@@ -12,10 +12,11 @@ use Rattle.zl_code.specs.declared.instr.Instr.{Instr}
 use Rattle.zl_code.specs.declared.instr.Instr.TheVariants as instr
 use Rattle.zl_code.specs.declared.instr.LocalInstr.TheVariants as local
 use Rattle.zl_code.specs.declared.instr.CallInstr.TheVariants as call
-use Rattle.zl_code.specs.Image.{Library, Program, instr_at, call_at, call_in as call_found}
+use Rattle.zl_code.specs.declared.history.CallName.{CallName}
+use Rattle.zl_code.specs.Image.{Library, Program, instr_at, call_at, call_in as call_found, local_at, local_in as local_found}
 use Rattle.zl_code.specs.Local.{local_effect}
-use Rattle.zl_code.specs.Request.{site_of, name_of}
-use Rattle.zl_code.specs.Steps.{next_at, next_of, next_for}
+use Rattle.zl_code.specs.Request.{Site, site_of, name_of}
+use Rattle.zl_code.specs.Steps.{IsStuck, moves, calls_at, next_at, next_of, next_for}
 use Rattle.zl_calls.specs.declared.process.Process.{Process}
 use Rattle.zl_calls.specs.World.{process_entry, call_in}
 
@@ -40,6 +41,40 @@ by_instr (Some (instr.Unknown bytes)) c = refl
 pub call_named : (lib : Library) (p : ProcessValue) (g : Program) → slice_get lib p.program ≡ Some g → option_map name_of (call_at g.image p.cpu.counter) ≡ call_in (next_for lib p)
 unfolding next_at
 call_named lib p g h = rw h (by_instr (instr_at g.image p.cpu.counter) p.cpu)
+
+site_by_instr : (i : Option Instr) (c : Cpu) → IfSome (call_found i) (λ x. next_of i c ≡ calls_at (name_of x) (site_of x c))
+site_by_instr None c = tt
+site_by_instr (Some (instr.Local x)) c = tt
+site_by_instr (Some (instr.Call x)) c = refl
+site_by_instr (Some (instr.Unknown bytes)) c = tt
+
+pub site_at : (lib : Library) (p : ProcessValue) (g : Program) → slice_get lib p.program ≡ Some g → IfSome (call_at g.image p.cpu.counter) (λ x. next_for lib p ≡ calls_at (name_of x) (site_of x p.cpu))
+unfolding next_at
+site_at lib p g h = rw h (site_by_instr (instr_at g.image p.cpu.counter) p.cpu)
+
+local_by_instr : (i : Option Instr) (c : Cpu) → IfSome (local_found i) (λ x. next_of i c ≡ moves (local_effect x c))
+local_by_instr None c = tt
+local_by_instr (Some (instr.Local x)) c = refl
+local_by_instr (Some (instr.Call x)) c = tt
+local_by_instr (Some (instr.Unknown bytes)) c = tt
+
+pub moves_at : (lib : Library) (p : ProcessValue) (g : Program) → slice_get lib p.program ≡ Some g → IfSome (local_at g.image p.cpu.counter) (λ x. next_for lib p ≡ moves (local_effect x p.cpu))
+unfolding next_at
+moves_at lib p g h = rw h (local_by_instr (instr_at g.image p.cpu.counter) p.cpu)
+
+stuck_by_instr : (i : Option Instr) (c : Cpu) → IfNone (local_found i) (call_in (next_of i c) ≡ None → next_of i c ≡ IsStuck)
+stuck_by_instr None c = λ no_call. refl
+stuck_by_instr (Some (instr.Local x)) c = tt
+stuck_by_instr (Some (instr.Call x)) c = λ no_call. by_site (name_of x) (site_of x c) no_call
+  where
+    by_site : (n : CallName) (s : Option Site) → call_in (calls_at n s) ≡ None → calls_at n s ≡ IsStuck
+    by_site n None no_call = refl
+    by_site n (Some s) no_call = absurd (none-some n (sym no_call))
+stuck_by_instr (Some (instr.Unknown bytes)) c = λ no_call. refl
+
+pub stuck_at : (lib : Library) (p : ProcessValue) (g : Program) → slice_get lib p.program ≡ Some g → IfNone (local_at g.image p.cpu.counter) (call_in (next_for lib p) ≡ None → next_for lib p ≡ IsStuck)
+unfolding next_at
+stuck_at lib p g h = rw h (stuck_by_instr (instr_at g.image p.cpu.counter) p.cpu)
 
 -- a process that isn't there isn't ready
 pub absent_is_not_ready : (w : World) (pid : ℕ) → get w.processes pid ≡ None → IsTrue (is_process w is_ready pid) → ⊥

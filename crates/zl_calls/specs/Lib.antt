@@ -4,3 +4,4 @@ pub mod World
 pub mod Registry
 pub mod Parts
 pub mod Lab
+pub mod Acted

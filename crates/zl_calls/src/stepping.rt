@@ -1,11 +1,13 @@
 //! Which process stands where, what stands next for it, and what it then does.
 
-ghost use Rattle.std.specs.Prelude.{◌≡◌, ◌==◌, ◌<◌, ◌^◌, None, map, MatchOption, OnSome};
+ghost use Rattle.std.specs.Prelude.{◌≡◌, ◌==◌, ◌<◌, ◌^◌, Some, None, map, MatchOption, IfSome, IfNone, OnSome};
 ghost use Rattle.std.specs.List.{position};
 ghost use Rattle.std.specs.Option.{option_map};
 ghost use Rattle.zl_rights.specs.Map.{get};
-ghost use Rattle.zl_code.specs.Request.{name_of};
-ghost use Rattle.zl_code.specs.Steps.{next_for};
+ghost use Rattle.zl_code.specs.Local.{local_effect};
+ghost use Rattle.zl_code.specs.Request.{name_of, site_of};
+ghost use Rattle.zl_code.specs.Steps.{next_for, moves, calls_at, IsStuck};
+ghost use Rattle.zl_calls.specs.Acted.{Acted};
 ghost use Rattle.zl_calls.specs.Parts.{status_of};
 ghost use Rattle.zl_calls.specs.World.{process_entry, process_value, call_in, IsPlaceOf};
 
@@ -36,6 +38,7 @@ fn first_with(processes: &[Process], pid: Pid) -> Option<usize>
 /// The call that stands next, if one does.
 pub fn next_call(library: &Library, process: &Process) -> Option<CallInstr>
     ensures named { option_map name_of result ≡ call_in (next_for library.now (process_value process.now)) }
+    ensures site { IfSome result (λ call. next_for library.now (process_value process.now) ≡ calls_at (name_of call) (site_of call process.now.cpu)) }
     ensures within { OnSome result (process.now.cpu.counter < 4096) }
 {
     let program = library.get(process.program)?;
@@ -44,6 +47,8 @@ pub fn next_call(library: &Library, process: &Process) -> Option<CallInstr>
 
 /// The local instruction that stands next, if one does.
 pub fn next_local(library: &Library, process: &Process) -> Option<LocalInstr>
+    ensures found { IfSome result (λ local. next_for library.now (process_value process.now) ≡ moves (local_effect local process.now.cpu)) }
+    ensures missing { IfNone result (call_in (next_for library.now (process_value process.now)) ≡ None → next_for library.now (process_value process.now) ≡ IsStuck) }
     ensures within { OnSome result (process.now.cpu.counter < 4096) }
 {
     let program = library.get(process.program)?;
@@ -66,6 +71,7 @@ pub fn name_of(call: CallInstr) -> CallName
 /// Does the call.
 pub fn act(alloc: Global, process: &mut Process, objects: &mut Objects, call: CallInstr) -> Outcome
     requires { process.old.cpu.counter < 2 ^ 32 }
+    ensures { Acted call process.old objects.old result process.new objects.new }
 {
     match call {
         CallInstr::Close { status, handle } => Outcome::Answered(calls::close(
@@ -105,8 +111,10 @@ fn answered_by(answer: Result<HValue, Status>) -> Outcome
 }
 
 /// Does the local instruction.
+#[tactic(auto, unfolding(zl_code::specs::Local::local_effect))]
 pub fn run(cpu: &mut Cpu, local: LocalInstr)
     requires { cpu.old.counter < 2 ^ 32 }
+    ensures { local_effect local cpu.old ≡ Some cpu.new }
 {
     match local {
         LocalInstr::Const {

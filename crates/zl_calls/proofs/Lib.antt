@@ -21,3 +21,7 @@ pub mod Close
 pub mod Signal
 pub mod Exit
 pub mod Performed
+pub mod BootFaults
+pub mod BootMaking
+pub mod BootLab
+pub mod BootRun

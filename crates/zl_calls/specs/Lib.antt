@@ -5,3 +5,5 @@ pub mod Registry
 pub mod Parts
 pub mod Lab
 pub mod Acted
+pub mod Making
+pub mod Makes

@@ -6,6 +6,7 @@
 //! `boot` as a whole are what the definitions say is not proved yet.
 #![tactic(auto)]
 
+mod booting;
 mod calls;
 mod cpu;
 mod objects;

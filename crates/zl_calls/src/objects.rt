@@ -1,7 +1,8 @@
-ghost use Rattle.std.specs.Prelude.{not, ◌≡◌, ◌-◌, ◌==◌, ◌<◌, ◌^◌, length, nat_lt, take, IfOk, OnErr};
+ghost use Rattle.std.specs.Prelude.{[], not, ◌≡◌, ◌-◌, ◌==◌, ◌<◌, ◌^◌, length, nat_lt, take, IfOk, OnErr};
 ghost use Rattle.std.specs.List.{position, filter, list_any};
 ghost use Rattle.zl_rights.specs.Map.{get, without};
-ghost use Rattle.zl_calls.specs.Registry.{has_place, held_once_more, held_once_less, raised_changed, stopped, job_of, job_in, lives_below, has_living_child, is_kept, with_new, holding, changing, letting_go, stopping, without_unheld, released, process_ended};
+ghost use Rattle.zl_calls.specs.Registry.{has_place, held_once_more, held_once_less, raised_changed, stopped, job_of, job_in, lives_below, has_living_child, is_kept, is_job_at, with_new, holding, changing, letting_go, stopping, without_unheld, released, process_ended};
+ghost use Rattle.zl_calls.specs.Making.{root_alone};
 
 use bitflags::Flags;
 use std::alloc::{AllocError, Global};
@@ -120,7 +121,9 @@ impl Objects {
     pub const MOST: u64 = 1 << 62;
 
     /// The root job alone.
-    pub fn new(alloc: Global) -> Result<Objects, AllocError> {
+    pub fn new(alloc: Global) -> Result<Objects, AllocError>
+        ensures { IfOk result (λ objects. objects ≡ root_alone) }
+    {
         let mut objects = Objects {
             list: Vec::new(alloc),
             next_koid: Objects::ROOT_JOB,
@@ -169,8 +172,17 @@ impl Objects {
         self.next_koid = koid;
     }
 
+    /// All objects are gone. It takes no memory.
+    pub fn clear(&mut self)
+        ensures { self.new ≡ record self.old { objects = [] } }
+    {
+        self.list.clear();
+    }
+
     /// Whether the koid is that of a job.
-    pub fn is_job(&self, koid: Koid) -> bool {
+    pub fn is_job(&self, koid: Koid) -> bool
+        ensures { result ≡ is_job_at self.now.objects koid }
+    {
         match place_of(&self.list, koid) {
             Some(place) => matches!(self.list[place].body, Body::RootJob),
             None => false,

@@ -1,25 +1,22 @@
-ghost use Rattle.std.specs.Prelude.{◌≡◌, IsSome, IsTrue, None, slice_get, map};
+ghost use Rattle.std.specs.Prelude.{◌≡◌, ◌≢◌, ◌≤◌, IsSome, IsTrue, IfOk, OnOk, IfErr, None, slice_get, map};
+ghost use Rattle.zl_code.specs.declared.boot.BootCause.TheVariants.{NoMemory};
+ghost use Rattle.zl_code.specs.Boot.{IsBoot, FirstFault, MOST_ITEMS};
 ghost use Rattle.zl_calls.specs.World.{call_for, state_in, is_ready_in};
+ghost use Rattle.zl_calls.specs.Makes.{HasNoSlots, IsReached};
 
+use crate::booting::{Made, booted};
 use crate::calls::end;
-use crate::cpu::Cpu;
-use crate::objects::{Body, Objects};
-use crate::process::{Process, State};
+use crate::objects::Objects;
+use crate::process::Process;
 use crate::program::Library;
 use crate::stepping::{act, name_of, next_call, next_local, place_of, run};
-use std::alloc::{AllocError, Global};
+use std::alloc::Global;
 use std::marker::Model;
-use zl_code::{Boot, BootCause, BootFault, CallName, Outcome, ProcState, Statement};
-use zl_rights::{Koid, Pid};
-use zl_table::Table;
+use zl_code::{Boot, BootFault, CallName, Outcome, ProcState};
+use zl_rights::Pid;
 
 /// The code with which a stuck process ends (own profile).
 const STUCK: i32 = -1028;
-
-// The most processes and koids, the root job's among them, that a boot makes (own profile).
-const MOST_PROCESSES: usize = 64;
-
-const MOST_KOIDS: Koid = 1024;
 
 /// The world of a lab: its programs, every process ever made, and the objects.
 #[derive(Drop)]
@@ -56,67 +53,23 @@ impl World {
     /// program, `Limit` for the 65th process or where no koid up to 1,024 is left. A limit of the
     /// trace above `Boot::MOST_ITEMS` is `Limit` of a statement one past the last. `NoMemory` may
     /// come at any statement.
-    pub fn boot(alloc: Global, library: Library, boot: &Boot) -> Result<World, BootFault> {
-        let Ok(mut world) = World::empty(alloc, library) else {
-            return Err(fault_at(0, BootCause::NoMemory));
-        };
-        for (number, statement) in boot.statements.iter().enumerate() {
-            if let Err(cause) = world.make(*statement) {
-                return Err(fault_at(number, cause));
-            }
-        }
-        if boot.limit > Boot::MOST_ITEMS {
-            return Err(fault_at(boot.statements.len(), BootCause::Limit));
-        }
-        world.objects.remove_unheld(Objects::ROOT_JOB);
-        Ok(world)
-    }
-
-    // The root job alone.
-    fn empty(alloc: Global, library: Library) -> Result<World, AllocError> {
-        let objects = Objects::new(alloc)?;
+    pub fn boot(alloc: Global, library: Library, boot: &Boot) -> Result<World, BootFault>
+        ensures ok { IfOk result (λ world. HasNoSlots library
+            → IsBoot library boot.now.statements.items world.world) }
+        ensures programs { IfOk result (λ world. world.programs ≡ library) }
+        ensures limit { OnOk result (boot.now.limit ≤ MOST_ITEMS) }
+        ensures err { IfErr result (λ fault. HasNoSlots library → fault.cause ≢ NoMemory
+            → FirstFault library boot.now.statements.items boot.now.limit fault.statement fault.cause) }
+        ensures reached { IfErr result (λ fault. HasNoSlots library
+            → IsReached library boot.now.statements.items fault.statement) }
+    {
+        let Made { processes, objects } = booted(alloc, &library, boot)?;
         Ok(World {
             alloc,
             library,
-            processes: Vec::new(alloc),
+            processes,
             objects,
         })
-    }
-
-    fn make(&mut self, statement: Statement) -> Result<(), BootCause> {
-        match statement {
-            Statement::Process { job, program, word } => self.make_process(job, program, word),
-        }
-    }
-
-    fn make_process(&mut self, job: Koid, program: u64, word: u64) -> Result<(), BootCause> {
-        let Some(listed) = self.library.get(program as usize) else {
-            return Err(BootCause::Unknown);
-        };
-        if !self.objects.is_job(job) {
-            return Err(BootCause::Unknown);
-        }
-        if self.processes.len() >= MOST_PROCESSES || self.objects.next_koid() > MOST_KOIDS {
-            return Err(BootCause::Limit);
-        }
-        let memory = listed.image().memory();
-        let Ok(cpu) = Cpu::new(self.alloc, memory, word) else {
-            return Err(BootCause::NoMemory);
-        };
-        let Ok(pid) = self.objects.create(Body::Process { job, lives: true }, 0) else {
-            return Err(BootCause::NoMemory);
-        };
-        let process = Process {
-            pid,
-            program: program as usize,
-            state: State::Ready,
-            cpu,
-            table: Table::new(self.alloc),
-        };
-        match self.processes.push(process) {
-            Ok(()) => Ok(()),
-            Err(_) => Err(BootCause::NoMemory),
-        }
     }
 
     /// The koid of the n-th process ever made, from 0.
@@ -190,10 +143,4 @@ impl World {
             }
         }
     }
-}
-
-fn fault_at(statement: usize, cause: BootCause) -> BootFault
-    ensures { result ≡ record { statement = statement; cause = cause } }
-{
-    BootFault { statement, cause }
 }

@@ -1,0 +1,94 @@
+-- Which fault a statement of a boot has, from what the code tests.
+use Rattle.std.specs.List.{position}
+use Rattle.zl_calls.specs.declared.objects.Body.{Body}
+use Rattle.std.proofs.lemmas.Bool.{or_left, or_right}
+use Rattle.std.proofs.lemmas.Option.{slice_get_past}
+use Rattle.std.proofs.lemmas.List.{length-map}
+use Rattle.std.proofs.Common.{get_or, ◌≡◌, ◌<◌, ◌≤◌, ℕ, true, false, ◌||◌, not, ◌==◌, List, [], ◌∷◌, length, map, refl, sym, Option, Some, None, inl, inr, ◌⊎◌, arith}
+use Rattle.std.specs.Prelude.{slice_get, nat_lt, nat_le}
+use Rattle.std.specs.Option.{option_map}
+use Rattle.std.proofs.lemmas.Bool.Decides.{nat_tests}
+use Rattle.zl_rights.specs.Map.{get}
+use Rattle.zl_code.specs.declared.boot.BootCause.{BootCause}
+use Rattle.zl_code.specs.declared.boot.BootCause.TheVariants as cause
+use Rattle.zl_code.specs.declared.boot.Statement.TheVariants as statement
+use Rattle.zl_code.specs.Image.{Library, Program}
+use Rattle.zl_code.specs.Tests.{body_in}
+use Rattle.zl_code.specs.Boot.{boot_fault, is_job_body, is_job, first_cause, cause_if}
+use Rattle.zl_calls.specs.declared.objects.Body.TheVariants as body
+use Rattle.zl_calls.specs.declared.objects.Object.{Object}
+use Rattle.zl_calls.specs.declared.process.Process.{Process}
+use Rattle.zl_calls.specs.Registry.{Registry, keyed}
+use Rattle.zl_calls.specs.World.{process_entry, body_value, object_value, world_value}
+use Rattle.zl_calls.specs.Registry.{is_job_in as is_job_object, is_job_body as is_job_here}
+use Rattle.zl_calls.specs.Makes.{IsCauseOf}
+use Rattle.zl_calls.proofs.Labs.{get_seen}
+use Rattle.zl_calls.proofs.Positions.{first_at, get_first, get_missing}
+
+-- ---- jobs
+
+abbrev koid_of : Object → ℕ
+koid_of o = o.koid
+
+abbrev itself : Object → Object
+itself o = o
+
+pub job_at : (os : List Object) (k i : ℕ) (o : Object) → Some i ≡ position (λ o. o.koid == k) os → o ≡ get_or os i o → is_job_here o.body ≡ is_job_object (get (map keyed os) k)
+job_at os k i o found read = rw (get_first koid_of itself os k i o (first_at koid_of itself os k i o (sym found)), ← read) refl
+
+pub not_job : (b : Body) → (b ≡ body.RootJob → ⊥) → is_job_here b ≡ false
+not_job body.RootJob other = absurd (other refl)
+not_job (body.Process job lives) other = refl
+not_job body.Event other = refl
+
+pub job_nowhere : (os : List Object) (k : ℕ) → None ≡ position (λ o. o.koid == k) os → false ≡ is_job_object (get (map keyed os) k)
+job_nowhere os k missing = rw (get_missing koid_of itself os k (sym missing)) refl
+
+pub job_seen : (ps : List Process) (r : Registry) (k : ℕ) → is_job (world_value ps r) k ≡ is_job_object (get r.objects k)
+job_seen ps r k = rw (get_seen r.objects k) (by_object (get r.objects k))
+  where
+    by_object : (o : Option Object) → is_job_body (body_in (option_map object_value o)) ≡ is_job_object o
+    by_object None = refl
+    by_object (Some o) = by_body o.body
+      where
+        by_body : (b : Body) → is_job_body (Some (body_value b)) ≡ is_job_here b
+        by_body body.RootJob = refl
+        by_body (body.Process job lives) = refl
+        by_body body.Event = refl
+
+-- ---- faults
+
+module _ (lib : Library) (ps : List Process) (r : Registry) (job program word : ℕ) where
+  abbrev fault : Option BootCause
+  fault = boot_fault lib (world_value ps r) (statement.Process job program word)
+
+  pub fault_no_program : length lib ≤ program → fault ≡ Some cause.Unknown
+  unfolding boot_fault
+  fault_no_program past = rw (slice_get_past lib program past) (elim (is_job (world_value ps r) job) as (λ b. first_cause (cause_if (not b || true) cause.Unknown ∷ cause_if (nat_le 64 (length (map process_entry ps)) || nat_lt 1024 r.next_koid) cause.Limit ∷ []) ≡ Some cause.Unknown) [ true ↦ refl | false ↦ refl ])
+
+  pub fault_no_job : is_job_object (get r.objects job) ≡ false → fault ≡ Some cause.Unknown
+  unfolding boot_fault
+  fault_no_job none = rw (job_seen ps r job, none) refl
+
+  pub fault_limit : (g : Program) → slice_get lib program ≡ Some g → is_job_object (get r.objects job) ≡ true → (64 ≤ length ps) ⊎ (1024 < r.next_koid) → fault ≡ Some cause.Limit
+  unfolding boot_fault
+  fault_limit g there job_there past = rw (job_seen ps r job, job_there, there, above) refl
+    where
+      above : (nat_le 64 (length (map process_entry ps)) || nat_lt 1024 r.next_koid) ≡ true
+      above = elim past as (λ _. (nat_le 64 (length (map process_entry ps)) || nat_lt 1024 r.next_koid) ≡ true) [
+        | inl many ↦ or_left (nat_le 64 (length (map process_entry ps))) (nat_lt 1024 r.next_koid) (rw (length-map) (grind (arith, nat_tests, many)))
+        | inr given ↦ or_right (nat_le 64 (length (map process_entry ps))) (nat_lt 1024 r.next_koid) (grind (arith, nat_tests, given))
+      ]
+
+  pub no_fault : (g : Program) → slice_get lib program ≡ Some g → is_job_object (get r.objects job) ≡ true → length ps < 64 → r.next_koid ≤ 1024 → fault ≡ None
+  unfolding boot_fault
+  no_fault g there job_there few left = rw (job_seen ps r job, job_there, there, room, koid) refl
+    where
+      room : nat_le 64 (length (map process_entry ps)) ≡ false
+      room = rw (length-map) (grind (arith, nat_tests, few))
+
+      koid : nat_lt 1024 r.next_koid ≡ false
+      koid = grind (arith, nat_tests, left)
+
+  pub wants_memory : (g : Program) → slice_get lib program ≡ Some g → is_job_object (get r.objects job) ≡ true → length ps < 64 → r.next_koid ≤ 1024 → IsCauseOf fault cause.NoMemory
+  wants_memory g there job_there few left = rw (no_fault g there job_there few left) refl

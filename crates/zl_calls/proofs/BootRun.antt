@@ -1,0 +1,54 @@
+-- One statement after another: what was made is what the definitions make, up to the first fault.
+use Rattle.std.proofs.Common.{◌≢◌, ◌≡◌, ◌<◌, ◌≤◌, ◌+◌, ℕ, List, [], ◌∷◌, ◌++◌, take, length, refl, sym, ap, ◌∙◌, Option, Some, None, get_or}
+use Rattle.std.proofs.lemmas.List.{take_more, take_all}
+use Rattle.std.proofs.lemmas.Option.{slice_get-get_or}
+use Rattle.zl_rights.specs.World.{World}
+use Rattle.zl_code.specs.declared.boot.Statement.{Statement}
+use Rattle.zl_code.specs.declared.boot.BootCause.{BootCause}
+use Rattle.zl_code.specs.declared.boot.BootCause.TheVariants as cause
+use Rattle.zl_code.specs.Image.{Library}
+use Rattle.zl_code.specs.Boot.{boot_effect, boot_fault, Boots, FirstFault, at_statement, at_limit, MOST_ITEMS, origin}
+use Rattle.zl_calls.specs.declared.booting.Made.{Made}
+use Rattle.zl_calls.specs.Making.{IsMaking, root_alone}
+use Rattle.zl_calls.specs.Makes.{Makes, HasNoSlots, IsCauseOf, IsReached, seen}
+use Rattle.zl_calls.proofs.BootMaking.{starts_making}
+
+-- the statements made this
+pub record IsMadeBy (lib : Library) (done : List Statement) (made : Made) : Type 0 where
+  pub boots : HasNoSlots lib → Boots lib origin done (seen made)
+  pub making : IsMaking made.processes.items made.objects
+
+boots_more : (lib : Library) (w w2 w3 : World) (ss : List Statement) (s : Statement) → Boots lib w ss w2 → boot_fault lib w2 s ≡ None → w3 ≡ boot_effect lib w2 s → Boots lib w (ss ++ s ∷ []) w3
+boots_more lib w w2 w3 [] s so_far no_fault effect = (rw so_far at no_fault, rw so_far at effect)
+boots_more lib w w2 w3 (t ∷ ss) s so_far no_fault effect = (so_far.0, boots_more lib (boot_effect lib w t) w2 w3 ss s so_far.1 no_fault effect)
+
+pub none_made : (lib : Library) (made : Made) → made.processes.items ≡ [] → made.objects ≡ root_alone → IsMadeBy lib [] made
+none_made lib made none root = record {
+  boots = λ free. rw (none, root) refl;
+  making = rw (none, root) starts_making;
+}
+
+pub one_more : (lib : Library) (ss : List Statement) (i : ℕ) (d : Statement) (before after : Made) → i < length ss → IsMadeBy lib (take i ss) before → Makes lib (get_or ss i d) before after
+    → IsMadeBy lib (take (i + 1) ss) after
+one_more lib ss i d before after lt so_far makes = record {
+  boots = λ free. rw (take_more ss i d lt) (boots_more lib origin (seen before) (seen after) (take i ss) (get_or ss i d) (so_far.boots free) makes.no_fault (makes.effect free));
+  making = makes.making;
+}
+
+-- ---- faults
+
+pub first_fault : (lib : Library) (ss : List Statement) (limit i : ℕ) (d : Statement) (made : Made) (c : BootCause) → i < length ss → IsMadeBy lib (take i ss) made
+    → IsCauseOf (boot_fault lib (seen made) (get_or ss i d)) c → HasNoSlots lib → c ≢ cause.NoMemory → FirstFault lib ss limit i c
+first_fault lib ss limit i d made c lt so_far causes free other = by_fault (boot_fault lib (seen made) (get_or ss i d)) refl causes
+  where
+    by_fault : (o : Option BootCause) → boot_fault lib (seen made) (get_or ss i d) ≡ o → IsCauseOf o c → FirstFault lib ss limit i c
+    by_fault None is wants = absurd (other wants)
+    by_fault (Some found) is same = at_statement (seen made) i (get_or ss i d) c (so_far.boots free) (slice_get-get_or ss i d lt) (is ∙ ap (λ (x : BootCause). Some x) (sym same))
+
+pub limit_fault : (lib : Library) (ss : List Statement) (limit i : ℕ) (made : Made) → length ss ≤ i → IsMadeBy lib (take i ss) made → HasNoSlots lib → MOST_ITEMS < limit → FirstFault lib ss limit (length ss) cause.Limit
+limit_fault lib ss limit i made all so_far free above = at_limit (seen made) (rw take_all at (so_far.boots free)) above
+
+-- ---- the statements before a fault
+
+pub none_reached : (lib : Library) (ss : List Statement) → IsReached lib ss 0
+none_reached lib ss = record { made = origin; boots = refl }

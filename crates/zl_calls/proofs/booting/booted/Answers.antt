@@ -1,0 +1,29 @@
+use Rattle.zl_code.specs.declared.boot.Statement.TheVariants as statement
+use Rattle.zl_calls.proofs.BootRun.{none_made, one_more, first_fault, limit_fault, none_reached}
+use Rattle.zl_calls.proofs.booting.booted.Goals as goal
+
+pub returns-in_default-clause-reached : goal.returns-in_default-clause-reached
+returns-in_default-clause-reached c = rw c.fault_at.ensures (λ free. none_reached c.args.library.now c.args.boot.now.statements.items)
+
+pub loop-number-init : goal.loop-number-init
+loop-number-init c = none_made c.args.library.now c.in-Ok.made (c.in-Ok.ensures {u = tt}).no_process (c.in-Ok.ensures {u = tt}).root
+
+pub returns-in-Err-clause-err : goal.returns-in-Err-clause-err
+returns-in-Err-clause-err c =
+    let statements = c.deref-statement-items.ensures.value in
+    rw c.fault_at-in-Err.ensures
+    (first_fault c.args.library.now c.args.boot.now.statements.items c.args.boot.now.limit c.loop-number.number (statement.Process 0 0 0) c.loop-number.made c.in-Err.cause
+    (rw statements at c.loop-number-test.true) c.loop-number.invariant (rw statements at (c.in-Err.ensures {u = tt}).err))
+
+pub loop-number-preserved : goal.loop-number-preserved
+loop-number-preserved c =
+    let statements = c.deref-statement-items.ensures.value in
+    one_more c.args.library.now c.args.boot.now.statements.items c.loop-number.number (statement.Process 0 0 0) c.loop-number.made c.make.new.self
+    (rw statements at c.loop-number-test.true) c.loop-number.invariant (rw statements at (c.in_default-make.ensures {u = tt}).ok)
+
+pub returns-then-boot-gt-MOST_ITEMS-clause-err : goal.returns-then-boot-gt-MOST_ITEMS-clause-err
+returns-then-boot-gt-MOST_ITEMS-clause-err c =
+    let statements = c.deref-statement-items.ensures.value in
+    rw (c.fault_at-then-boot-gt-MOST_ITEMS.ensures, c.len.ensures, c.args.boot.now.statements.ok.0)
+    (λ free other. limit_fault c.args.library.now c.args.boot.now.statements.items c.args.boot.now.limit c.loop-number.number c.loop-number.made
+    (rw statements at c.loop-number-test.false) c.loop-number.invariant free c.if-boot-gt-MOST_ITEMS.true)

@@ -1,0 +1,47 @@
+-- What the statements of a boot make, before what isn't held is gone.
+use Rattle.std.specs.Prelude.{ℕ, ◌≡◌, ◌<◌, ◌≤◌, Bool, true, false, IsTrue, List, [], ◌∷◌, map, Option, Some, None}
+use Rattle.std.specs.List.{All}
+use Rattle.std.specs.Ordering.{nat_cmp}
+use Rattle.std.specs.FinMap.Entries.{is_sorted}
+use Rattle.zl_rights.specs.Map.{has_key}
+use Rattle.zl_calls.specs.declared.objects.Body.{Body}
+use Rattle.zl_calls.specs.declared.objects.Body.TheVariants as body
+use Rattle.zl_calls.specs.declared.objects.Object.{Object}
+use Rattle.zl_calls.specs.declared.process.State.TheVariants as state
+use Rattle.zl_calls.specs.declared.process.Process.{Process}
+use Rattle.zl_calls.specs.Registry.{Registry, keyed, new_object}
+use Rattle.zl_calls.specs.World.{process_entry}
+
+-- ---- objects
+
+-- the root job without handles
+abbrev pub root_job : Object
+root_job = new_object 1 body.RootJob 0
+
+-- the root job alone
+abbrev pub root_alone : Registry
+root_alone = record { objects = keyed root_job ∷ []; next_koid = 2 }
+
+-- the object of a living process of the root job
+abbrev pub object_of : Process → Object
+object_of p = new_object p.pid (body.Process 1 true) 0
+
+-- ---- processes
+
+-- a process before its first step: it is ready and has no handles
+pub record IsFresh (p : Process) : Type 0 where
+  pub ready : p.state ≡ state.Ready
+  pub no_handles : p.table.entries ≡ []
+  pub none_removed : p.table.last ≡ None
+
+-- ---- all of it
+
+-- the processes are fresh, and beside the root job just they are the objects
+pub record IsMaking (processes : List Process) (r : Registry) : Type 0 where
+  pub fresh : All IsFresh processes
+  pub objects : r.objects ≡ keyed root_job ∷ map (λ p. keyed (object_of p)) processes
+  pub processes_in_order : IsTrue (is_sorted nat_cmp (map process_entry processes))
+  pub objects_in_order : IsTrue (is_sorted nat_cmp r.objects)
+  pub given_processes : (k : ℕ) → IsTrue (has_key (map process_entry processes) k) → k < r.next_koid
+  pub given_objects : (k : ℕ) → IsTrue (has_key r.objects k) → k < r.next_koid
+  pub koids : r.next_koid ≤ 1025

@@ -1,19 +1,18 @@
 -- close, from its table and objects to a step.
-use Rattle.std.proofs.Common.{◌≡◌, ◌+◌, ◌<◌, ◌≤◌, ℕ, Bool, true, false, not, ◌&&◌, ◌||◌, ◌==◌, List, [], ◌∷◌, map, refl, sym, ap, ◌∙◌, subst, cond, Option, Some, None, inl, inr, ◌⊎◌, IsTrue, arith, eq-eqb, bit_and, length}
+use Rattle.std.proofs.Common.{◌≡◌, ◌+◌, ℕ, Bool, true, false, not, ◌&&◌, ◌==◌, List, [], ◌∷◌, refl, sym, ap, ◌∙◌, subst, cond, Option, Some, None, inl, inr, ◌⊎◌, IsTrue, arith, eq-eqb, bit_and}
 use Rattle.std.specs.Prelude.{if◌then◌else◌, is_some}
 use Rattle.std.specs.List.{count_by}
-use Rattle.std.specs.Option.{option_map}
 use Rattle.std.proofs.lemmas.List.Sums.{sum_by-cons}
 use Rattle.std.proofs.lemmas.Nat.{and_le_r}
-use Rattle.std.proofs.lemmas.Bool.{cases_Bool, eqb-true, false≢true}
+use Rattle.std.proofs.lemmas.Bool.{cases_Bool, false≢true}
 use Rattle.std.proofs.lemmas.Option.{none-some}
 use Rattle.zl_rights.specs.declared.status.Status.{Status}
 use Rattle.zl_rights.specs.declared.status.Status.TheVariants as status
 use Rattle.zl_rights.specs.declared.entry.Entry.{Entry}
 use Rattle.zl_rights.specs.declared.policy.Condition.TheVariants as condition
 use Rattle.zl_rights.specs.Numbers.{bits, within}
-use Rattle.zl_rights.specs.Map.{Map, get, has_key, without, update}
-use Rattle.zl_rights.specs.World.{World, Process as ProcessValue, Ready}
+use Rattle.zl_rights.specs.Map.{Map, get, has_key, without}
+use Rattle.zl_rights.specs.World.{World, Ready}
 use Rattle.zl_rights.specs.Settle.{Settles}
 use Rattle.zl_rights.proofs.MapLaws.{get-update}
 use Rattle.zl_code.specs.declared.history.CallName.TheVariants as name
@@ -21,7 +20,7 @@ use Rattle.zl_code.specs.declared.history.Outcome.{Outcome}
 use Rattle.zl_code.specs.declared.history.Outcome.TheVariants as outcome
 use Rattle.zl_code.specs.Image.{Library}
 use Rattle.zl_code.specs.Request.{Site, site, close}
-use Rattle.zl_code.specs.Tests.{table_of, operand_of, operand, examined, any, first, answer_if}
+use Rattle.zl_code.specs.Tests.{table_of, operand_of, operand, examined, any, first}
 use Rattle.zl_code.specs.Refusals.{refusal, handle_operands, listed}
 use Rattle.zl_code.specs.Effects.{on_process, process_without, may_choose, new_handles, remove_all, taken_handles, effect, gives}
 use Rattle.zl_code.specs.Steps.{AtCall, next_for}
@@ -31,12 +30,12 @@ use Rattle.zl_table.proofs.MapEdits.{get-without, sorted_without, length-without
 use Rattle.zl_calls.specs.declared.process.Process.{Process}
 use Rattle.zl_calls.specs.Registry.{Registry, released}
 use Rattle.zl_calls.specs.Parts.{RepliesWith, answer_of, status_if, close_refusal, without_handle, closing}
-use Rattle.zl_calls.specs.World.{process_entry, process_value, state_value, world_value}
-use Rattle.zl_calls.specs.Lab.{IsLab, IsNamed}
+use Rattle.zl_calls.specs.World.{process_value, state_value, world_value}
+use Rattle.zl_calls.specs.Lab.{IsLab}
 use Rattle.zl_calls.proofs.Answered.{IsWrite, replied_with}
 use Rattle.zl_calls.proofs.Closed.{IsClosed, one_closed, lab_of, settles_to}
 use Rattle.zl_calls.proofs.Done.{IsDone}
-use Rattle.zl_calls.proofs.Labs.{no_policy, all_held, call_steps, call_settles}
+use Rattle.zl_calls.proofs.Labs.{no_policy, call_settles}
 use Rattle.zl_calls.proofs.MapsWithout.{count_without}
 use Rattle.zl_calls.proofs.Refused.{NoPolicy, answers, fault_answers, no_values}
 use Rattle.zl_calls.proofs.Stopped.{sound_after}

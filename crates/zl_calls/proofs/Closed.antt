@@ -1,17 +1,13 @@
 -- A table's handles close, and a process ends: the invariant holds afterwards, and the worlds are settled.
-use Rattle.std.proofs.Common.{◌≡◌, ◌+◌, ◌<◌, ◌≤◌, ℕ, Bool, true, false, not, ◌&&◌, ◌||◌, ◌==◌, List, [], ◌∷◌, map, refl, sym, ap, ◌∙◌, subst, cond, Option, Some, None, inl, inr, ◌⊎◌, IsTrue, arith, eq-eqb}
-use Rattle.std.specs.List.{count_by}
+use Rattle.std.proofs.Common.{◌≡◌, ℕ, Bool, true, false, not, ◌&&◌, ◌==◌, List, [], map, refl, Some, IsTrue, arith}
 use Rattle.std.specs.Ordering.{nat_cmp}
 use Rattle.std.specs.FinMap.Entries.{is_sorted}
-use Rattle.std.proofs.lemmas.Bool.{cases_Bool}
 use Rattle.zl_rights.specs.declared.entry.Entry.{Entry}
 use Rattle.zl_rights.specs.Map.{Map, get, without}
-use Rattle.zl_rights.specs.World.{World}
 use Rattle.zl_rights.specs.Settle.{Settles}
 use Rattle.zl_table.proofs.MapEdits.{sorted_without}
-use Rattle.zl_calls.specs.declared.objects.Object.{Object}
 use Rattle.zl_calls.specs.declared.process.Process.{Process}
-use Rattle.zl_calls.specs.Registry.{Registry, letting_go, without_unheld, released, is_kept, Closes, none_left, one_more}
+use Rattle.zl_calls.specs.Registry.{Registry, letting_go, released, Closes, none_left, one_more}
 use Rattle.zl_calls.specs.World.{process_entry, object_entry, world_value}
 use Rattle.zl_calls.specs.Lab.{IsLab}
 use Rattle.zl_calls.proofs.Labs.{all_held, started}

@@ -2,7 +2,7 @@
 use Rattle.std.proofs.Common.{◌≡◌, ◌+◌, ℕ, ℤ, Bool, true, false, not, ◌&&◌, ◌||◌, ◌==◌, List, [], ◌∷◌, refl, sym, ap, ◌∙◌, subst, Option, Some, None, inl, inr, IsTrue}
 use Rattle.std.specs.List.{count_by, list_any}
 use Rattle.std.proofs.lemmas.Bool.{cases_Bool, eqb-true, false≢true}
-use Rattle.std.proofs.lemmas.Option.{none-some, same_Some}
+use Rattle.std.proofs.lemmas.Option.{same_Some}
 use Rattle.zl_rights.specs.declared.entry.Entry.{Entry}
 use Rattle.zl_rights.specs.Map.{Map, get, update}
 use Rattle.zl_rights.specs.World.{World}
@@ -15,13 +15,12 @@ use Rattle.zl_calls.specs.declared.objects.Object.{Object}
 use Rattle.zl_calls.specs.declared.process.State.TheVariants as state
 use Rattle.zl_calls.specs.declared.process.Process.{Process}
 use Rattle.zl_calls.specs.Registry.{Registry, stopped, stopped_body, stopping, process_ended, ended_in, without_unheld, job_in, job_of, is_kept, stays_alone, has_living_child, lives_below}
-use Rattle.zl_calls.specs.World.{world_value}
 use Rattle.zl_calls.specs.Lab.{IsLab, IsNamed}
 use Rattle.zl_calls.proofs.Answered.{IsWrite}
 use Rattle.zl_calls.proofs.SameBodies.{found_updated}
 use Rattle.zl_calls.proofs.Unheld.{IsSound}
-use Rattle.zl_calls.proofs.Closing.{KeepsBut, Leads, IsCleared, cleared}
-use Rattle.zl_calls.proofs.Closed.{KeepsAll, IsClosed}
+use Rattle.zl_calls.proofs.Closing.{KeepsBut, IsCleared, cleared}
+use Rattle.zl_calls.proofs.Closed.{IsClosed}
 use Rattle.zl_calls.proofs.Stopped.{sound_stopped, seen_stopped}
 
 module _ {X : Type 0} where

@@ -1,10 +1,8 @@
 -- The end of a process, by process_exit or because it is stuck, to a step.
-use Rattle.std.proofs.Common.{◌≡◌, ◌+◌, ◌<◌, ◌≤◌, ℕ, ℤ, Bool, true, false, List, [], ◌∷◌, map, refl, sym, ap, ◌∙◌, subst, Option, Some, None, IsTrue, arith, ◌==◌}
-use Rattle.std.specs.List.{count_by}
+use Rattle.std.proofs.Common.{◌≡◌, ℕ, ℤ, List, [], map, refl, sym, ap, ◌∙◌, arith}
 use Rattle.std.proofs.lemmas.Bool.{false≢true}
 use Rattle.std.proofs.lemmas.Option.{none-some}
 use Rattle.zl_rights.specs.Numbers.{STUCK}
-use Rattle.zl_rights.specs.declared.entry.Entry.{Entry}
 use Rattle.zl_rights.specs.Map.{Map, get}
 use Rattle.zl_rights.specs.World.{World, Process as ProcessValue, Ready, Ended}
 use Rattle.zl_rights.specs.Settle.{Settles}
@@ -12,19 +10,18 @@ use Rattle.zl_code.specs.declared.history.CallName.TheVariants as name
 use Rattle.zl_code.specs.declared.history.Outcome.TheVariants as outcome
 use Rattle.zl_code.specs.declared.history.TraceItem.TheVariants as item
 use Rattle.zl_code.specs.Image.{Library}
-use Rattle.zl_code.specs.Request.{Site, site, process_exit}
+use Rattle.zl_code.specs.Request.{site, process_exit}
 use Rattle.zl_code.specs.Refusals.{refusal, handle_operands, listed}
 use Rattle.zl_code.specs.Tests.{examined}
 use Rattle.zl_code.specs.Effects.{on_process, process_ended as process_over, ended, may_choose, new_handles, remove_all, taken_handles, effect, signed_word}
 use Rattle.zl_code.specs.Steps.{Step, AtCall, IsStuck, next_for}
 use Rattle.zl_code.specs.Calls.{Calls, Values}
-use Rattle.zl_table.specs.Table.{Handles, IsTable}
+use Rattle.zl_table.specs.Table.{IsTable}
 use Rattle.zl_calls.specs.declared.process.Process.{Process}
-use Rattle.zl_calls.specs.declared.process.State.TheVariants as state
 use Rattle.zl_calls.specs.Registry.{Registry, process_ended}
 use Rattle.zl_calls.specs.Parts.{Ends}
 use Rattle.zl_calls.specs.World.{process_entry, process_value, object_entry, state_value, world_value}
-use Rattle.zl_calls.specs.Lab.{IsLab, IsNamed}
+use Rattle.zl_calls.specs.Lab.{IsLab}
 use Rattle.zl_calls.proofs.Answered.{IsWrite}
 use Rattle.zl_calls.proofs.Closed.{IsClosed, all_closed, lab_of, settles_to}
 use Rattle.zl_calls.proofs.Done.{IsDone}

@@ -21,6 +21,7 @@ pub mod Close
 pub mod Signal
 pub mod Exit
 pub mod Performed
+pub mod Performing
 pub mod BootFaults
 pub mod BootMaking
 pub mod BootLab

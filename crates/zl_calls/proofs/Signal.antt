@@ -1,5 +1,5 @@
 -- signal, from its table and objects to a step.
-use Rattle.std.proofs.Common.{◌≡◌, ◌+◌, ◌<◌, ◌≤◌, ℕ, Bool, true, false, not, ◌&&◌, ◌||◌, ◌==◌, List, [], ◌∷◌, map, refl, sym, ap, ◌∙◌, subst, Option, Some, None, Err, inl, inr, IsTrue, arith}
+use Rattle.std.proofs.Common.{◌≡◌, ℕ, Bool, true, false, not, ◌==◌, List, [], ◌∷◌, map, refl, sym, ap, ◌∙◌, subst, Option, Some, None, inl, inr, IsTrue, arith}
 use Rattle.std.proofs.lemmas.Bool.{cases_Bool, eqb-true}
 use Rattle.zl_rights.specs.declared.status.Status.{Status}
 use Rattle.zl_rights.specs.declared.status.Status.TheVariants as status
@@ -7,7 +7,7 @@ use Rattle.zl_rights.specs.declared.entry.Entry.{Entry}
 use Rattle.zl_rights.specs.declared.policy.Condition.TheVariants as condition
 use Rattle.zl_rights.specs.Numbers.{bits, within, SIGNAL}
 use Rattle.zl_rights.specs.Map.{Map, get, update}
-use Rattle.zl_rights.specs.World.{World, Process as ProcessValue, Object as ObjectValue, Body as BodyValue, Ready, kind_of}
+use Rattle.zl_rights.specs.World.{World, Object as ObjectValue, Ready, kind_of}
 use Rattle.zl_rights.specs.Signals.{is_process, runs}
 use Rattle.zl_code.specs.declared.history.CallName.TheVariants as name
 use Rattle.zl_code.specs.declared.history.Outcome.{Outcome}
@@ -25,11 +25,10 @@ use Rattle.zl_calls.specs.declared.objects.Body.TheVariants as body
 use Rattle.zl_calls.specs.declared.objects.Object.{Object}
 use Rattle.zl_calls.specs.declared.process.Process.{Process}
 use Rattle.zl_calls.specs.Registry.{Registry, raised_changed, changing, is_kept}
-use Rattle.zl_calls.specs.Parts.{Replies, RepliesWith, signal_refusal, signal_refusal_of, first_status, status_if, settable_at, may_change_at, SignalsObject}
+use Rattle.zl_calls.specs.Parts.{RepliesWith, signal_refusal, signal_refusal_of, first_status, status_if, settable_at, may_change_at, SignalsObject}
 use Rattle.zl_calls.specs.World.{process_entry, process_value, object_entry, object_value, body_value, state_value, world_value}
 use Rattle.zl_calls.specs.Lab.{IsLab, IsNamed, AgreesOn, is_in_job}
 use Rattle.zl_calls.proofs.Answered.{IsWrite, seen_entry, replied_with, same_world}
-use Rattle.zl_calls.proofs.Counting.{counts_written}
 use Rattle.zl_calls.proofs.Done.{IsDone}
 use Rattle.zl_calls.proofs.Labs.{get_seen, no_policy, all_held, call_steps}
 use Rattle.zl_calls.proofs.Refused.{NoPolicy, answers, fault_answers, no_values}

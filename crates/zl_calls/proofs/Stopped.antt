@@ -1,14 +1,13 @@
 -- A process loses handles, or ends: the invariant but for what keeps the objects.
-use Rattle.std.proofs.Common.{◌≡◌, ℤ, ◌+◌, ◌<◌, ◌≤◌, ℕ, Bool, true, false, not, ◌&&◌, ◌||◌, ◌==◌, List, [], ◌∷◌, map, refl, sym, ap, ◌∙◌, subst, cond, Option, Some, None, inl, inr, ◌⊎◌, IsTrue, arith, eq-eqb}
-use Rattle.std.specs.Prelude.{if◌then◌else◌, nat_lt, is_some}
-use Rattle.std.specs.List.{count_by, list_any}
+use Rattle.std.proofs.Common.{◌≡◌, ℤ, ◌+◌, ◌<◌, ℕ, Bool, true, false, ◌==◌, List, map, refl, sym, ap, ◌∙◌, subst, Option, Some, None, inl, inr, IsTrue, eq-eqb}
+use Rattle.std.specs.Prelude.{if◌then◌else◌}
+use Rattle.std.specs.List.{count_by}
 use Rattle.std.specs.Option.{option_map}
-use Rattle.std.proofs.lemmas.Bool.{cases_Bool, eqb-true, false≢true}
-use Rattle.std.proofs.lemmas.Option.{none-some, same_Some}
+use Rattle.std.proofs.lemmas.Bool.{cases_Bool, eqb-true}
 use Rattle.zl_rights.specs.declared.entry.Entry.{Entry}
-use Rattle.zl_rights.specs.Map.{Map, get, update, has_key}
-use Rattle.zl_rights.specs.World.{World, Process as ProcessValue, Object as ObjectValue, State as StateValue, Ready, kind_of}
-use Rattle.zl_rights.specs.Signals.{is_process, runs, state_passes}
+use Rattle.zl_rights.specs.Map.{Map, get, has_key}
+use Rattle.zl_rights.specs.World.{Process as ProcessValue, Object as ObjectValue, kind_of}
+use Rattle.zl_rights.specs.Signals.{is_process, runs}
 use Rattle.zl_rights.proofs.MapLaws.{get-update}
 use Rattle.zl_code.specs.Tests.{handles_to}
 use Rattle.zl_table.specs.Table.{IsTable}
@@ -18,7 +17,7 @@ use Rattle.zl_calls.specs.declared.objects.Body.TheVariants as body
 use Rattle.zl_calls.specs.declared.objects.Object.{Object}
 use Rattle.zl_calls.specs.declared.process.State.TheVariants as state
 use Rattle.zl_calls.specs.declared.process.Process.{Process}
-use Rattle.zl_calls.specs.Registry.{Registry, stopped, stopped_body, stopping, process_ended, ended_in, without_unheld, job_in, job_of, is_kept, stays_alone, has_living_child, lives_below, is_job_at, is_job_in, is_job_body}
+use Rattle.zl_calls.specs.Registry.{Registry, stopped, stopped_body, stopping, is_job_at, is_job_in, is_job_body}
 use Rattle.zl_calls.specs.World.{process_entry, process_value, object_value, body_value, world_value}
 use Rattle.zl_calls.specs.Lab.{IsLab, IsNamed, AgreesOn, is_in_job}
 use Rattle.zl_calls.proofs.Answered.{IsWrite, update_unseen}
@@ -26,8 +25,6 @@ use Rattle.zl_calls.proofs.Counting.{counts_fewer}
 use Rattle.zl_calls.proofs.SameBodies.{found_updated}
 use Rattle.zl_calls.proofs.Written.{after_is, get_after, found_after, same_runs}
 use Rattle.zl_calls.proofs.Unheld.{IsSound}
-use Rattle.zl_calls.proofs.Closing.{KeepsBut, Leads, IsCleared, cleared}
-use Rattle.zl_calls.proofs.Closed.{KeepsAll}
 
 -- ---- the table of the process has lost the handles m
 

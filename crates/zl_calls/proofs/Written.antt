@@ -33,6 +33,11 @@ write_at ps pid place p p2 found read same =
       writes = λ f is. rw key (update_first (λ (q : Process). q.pid) process_value ps pid place p f p2 first (is ∙ ap (λ (q : Process). f (process_value q)) read) (same ∙ ap (λ (q : Process). q.pid) read));
     }
 
+pub pid_read : (ps : List Process) (pid place : ℕ) (p : Process) → Some place ≡ position (λ q. q.pid == pid) ps → p ≡ get_or ps place p → p.pid ≡ pid
+pid_read ps pid place p found read =
+    let first : IsFirst (λ (q : Process). q.pid) ps pid place p = first_at (λ (q : Process). q.pid) process_value ps pid place p (sym found) in
+    ap (λ (q : Process). q.pid) read ∙ eqb-true (get_or ps place p).pid pid first.here
+
 -- the first place with the pid holds what the map has at the pid
 pub place_is : (ps : List Process) (pid : ℕ) (o : Option ℕ) → o ≡ position (λ q. q.pid == pid) ps → MatchOption o (get (map process_entry ps) pid ≡ None) (IsPlaceOf ps pid)
 place_is ps pid None is = get_missing (λ (q : Process). q.pid) process_value ps pid (sym is)

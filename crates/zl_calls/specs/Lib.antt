@@ -3,7 +3,8 @@ pub mod Cpu
 pub mod World
 pub mod Registry
 pub mod Parts
-pub mod Lab
 pub mod Acted
+pub mod Lab
 pub mod Making
 pub mod Makes
+pub mod Steps

@@ -3,6 +3,7 @@ ghost use Rattle.zl_code.specs.declared.boot.BootCause.TheVariants.{NoMemory};
 ghost use Rattle.zl_code.specs.Boot.{IsBoot, FirstFault, MOST_ITEMS};
 ghost use Rattle.zl_calls.specs.World.{call_for, state_in, is_ready_in};
 ghost use Rattle.zl_calls.specs.Makes.{HasNoSlots, IsReached};
+ghost use Rattle.zl_calls.specs.Steps.{Performs, StepsTo, local_item};
 
 use crate::booting::{Made, booted};
 use crate::calls::end;
@@ -33,8 +34,11 @@ impl Model for World {
     ghost Value = { Lab };
 
     ghost use Rattle.zl_calls.specs.World.{world_value};
+    ghost use Rattle.zl_calls.specs.Lab.{IsLab};
 
     ghost view = { λ w. record { programs = w.library; world = world_value w.processes.items w.objects } };
+
+    ghost invariant = { λ w. IsLab w.processes.items w.objects };
 }
 
 /// What a process did that wasn't at a call.
@@ -108,6 +112,7 @@ impl World {
     /// `process_exit`; a call that was refused memory is answered `NoMemory`.
     pub fn perform(&mut self, pid: Pid) -> Outcome
         requires { IsSome (call_for self.old pid) }
+        ensures { Performs self.old pid result self.new }
     {
         let Some(place) = place_of(&self.processes, pid) else {
             unreachable!()
@@ -126,6 +131,7 @@ impl World {
     pub fn local(&mut self, pid: Pid) -> Local
         requires ready { IsTrue (is_ready_in self.old pid) }
         requires no_call { call_for self.old pid ≡ None }
+        ensures { StepsTo self.old (local_item pid result) self.new }
     {
         let Some(place) = place_of(&self.processes, pid) else {
             unreachable!()

@@ -1,5 +1,4 @@
-use Rattle.std.proofs.Common.{ap, ◌∙◌, rules}
-use Rattle.zl_code.specs.declared.history.Outcome.{Outcome}
+use Rattle.std.proofs.Common.{ap, rules}
 use Rattle.zl_code.specs.declared.history.Outcome.TheVariants as outcome
 use Rattle.zl_rights.specs.declared.status.Status.{Status}
 use Rattle.zl_calls.proofs.stepping.act.Goals as goal

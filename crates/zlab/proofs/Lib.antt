@@ -5,3 +5,4 @@ pub mod Decimals
 pub mod ReadyProcess
 pub mod Following
 pub mod StoredRun
+pub mod RowsScenario

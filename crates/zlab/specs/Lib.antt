@@ -3,3 +3,4 @@ pub mod Follows
 pub mod Input
 pub mod Output
 pub mod Lines
+pub mod Scenario

@@ -1,10 +1,31 @@
--- Lines, words and numbers of a scenario.
-use Rattle.std.specs.Prelude.{ℕ, Bool, ◌+◌, ◌-◌, ◌*◌, ◌/◌, ◌%◌, ◌^◌, ◌&&◌, not, ◌==◌, nat_lt, nat_le, List, [], ◌∷◌, length, filter, fold, Option, Some, None, if◌then◌else◌}
-use Rattle.std.specs.List.{slice_split, list_all}
+-- Lines, words, numbers and digits of a scenario.
+use Rattle.std.specs.Prelude.{ℕ, Bool, ◌+◌, ◌-◌, ◌*◌, ◌/◌, ◌%◌, ◌^◌, ◌&&◌, not, ◌==◌, nat_lt, nat_le, List, [], ◌∷◌, codes, length, filter, fold, Option, Some, None, if◌then◌else◌}
+use Rattle.std.specs.List.{slice_split, list_all, starts_with}
+use Rattle.std.specs.Cmp.Lexicographic.{pointwise}
+
+-- ---- lines and words
+
+-- the lines of a text, between line feeds
+abbrev pub lines_of : List ℕ → List (List ℕ)
+lines_of text = slice_split (λ byte. byte == 10) text
+
+-- each byte is an ASCII character
+abbrev pub is_ascii : List ℕ → Bool
+is_ascii line = list_all (λ byte. nat_lt byte 128) line
+
+-- the first byte is `#`
+abbrev pub is_comment : List ℕ → Bool
+is_comment line = starts_with ◌==◌ line (codes "#")
 
 -- the parts of a line between spaces that aren't empty
 abbrev pub words_of : List ℕ → List (List ℕ)
 words_of line = filter (λ word. not (length word == 0)) (slice_split (λ byte. byte == 32) line)
+
+-- the word has just these bytes
+unfoldable pub is_word : List ℕ → List ℕ → Bool
+is_word word bytes = pointwise ◌==◌ word bytes
+
+-- ---- numbers
 
 abbrev pub is_decimal_digit : ℕ → Bool
 is_decimal_digit byte = nat_le 48 byte && nat_le byte 57
@@ -12,6 +33,8 @@ is_decimal_digit byte = nat_le 48 byte && nat_le byte 57
 -- the value of a decimal digit
 abbrev pub decimal_digit_of : ℕ → Option ℕ
 decimal_digit_of byte = if is_decimal_digit byte then Some (byte - 48) else None
+
+-- ---- the bytes of a program
 
 -- the value of a lower-case hexadecimal digit
 abbrev pub hex_digit_of : ℕ → Option ℕ
@@ -32,3 +55,17 @@ number_of word = if is_number word then Some (decimal_value word) else None
 -- the values of the two digits of a byte
 abbrev pub hex_digits_of_byte : ℕ → List ℕ
 hex_digits_of_byte byte = byte / 16 ∷ byte % 16 ∷ []
+
+abbrev both : Option ℕ → Option (List ℕ) → Option (List ℕ)
+both (Some digit) (Some digits) = Some (digit ∷ digits)
+both _ _ = None
+
+-- the values of the digits of a line, spaces apart, if each other byte is a digit
+unfoldable pub digits_of : List ℕ → Option (List ℕ)
+digits_of [] = Some []
+digits_of (byte ∷ bytes) = if byte == 32 then digits_of bytes else both (hex_digit_of byte) (digits_of bytes)
+
+-- the bytes that digits spell, two digits a byte
+unfoldable pub bytes_of_digits : List ℕ → List ℕ
+bytes_of_digits (high ∷ low ∷ digits) = (high * 16 + low) ∷ bytes_of_digits digits
+bytes_of_digits _ = []

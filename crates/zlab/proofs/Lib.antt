@@ -6,3 +6,6 @@ pub mod ReadyProcess
 pub mod Following
 pub mod StoredRun
 pub mod RowsScenario
+pub mod Programs
+pub mod LineDigits
+pub mod ReadingOn

@@ -4,3 +4,4 @@ pub mod Input
 pub mod Output
 pub mod Lines
 pub mod Scenario
+pub mod Reading

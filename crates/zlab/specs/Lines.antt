@@ -56,7 +56,8 @@ number_of word = if is_number word then Some (decimal_value word) else None
 abbrev pub hex_digits_of_byte : ℕ → List ℕ
 hex_digits_of_byte byte = byte / 16 ∷ byte % 16 ∷ []
 
-abbrev both : Option ℕ → Option (List ℕ) → Option (List ℕ)
+-- a digit and those after it, if both are there
+abbrev pub both : Option ℕ → Option (List ℕ) → Option (List ℕ)
 both (Some digit) (Some digits) = Some (digit ∷ digits)
 both _ _ = None
 

@@ -51,23 +51,26 @@ abbrev pub with_statement : Said → ℕ → Statement → Said
 with_statement said n s = record said { statements = said.statements ++ (s ∷ []); lines = said.lines ++ (n ∷ []) }
 
 -- `process JOB PROGRAM WORD`: three numbers, and a program that stands further up
-abbrev pub process_said : ℕ → Said → Option ℕ → Option ℕ → Option ℕ → Result Said Cause
+unfoldable pub process_said : ℕ → Said → Option ℕ → Option ℕ → Option ℕ → Result Said Cause
 process_said n said (Some job) (Some program) (Some word) =
     if nat_lt program (length said.programs) then Ok (with_statement said n (statement.Process job program word)) else Err cause.Unknown
 process_said n said _ _ _ = Err cause.Syntax
 
 -- `limit N`: a number, and at most the largest limit of a trace; the last one counts
-abbrev pub limit_said : Said → Option ℕ → Result Said Cause
+unfoldable pub limit_said : Said → Option ℕ → Result Said Cause
 limit_said said (Some limit) = if nat_le limit MOST_ITEMS then Ok (record said { limit = limit }) else Err cause.Limit
 limit_said said None = Err cause.Syntax
+
+-- `program raw hex`
+unfoldable pub is_header : List ℕ → List ℕ → List ℕ → Bool
+is_header name mark form = is_word name (codes "program") && (is_word mark (codes "raw") && is_word form (codes "hex"))
 
 -- the words of line n, which stands among the statements
 unfoldable pub statement_said : ℕ → Said → List (List ℕ) → Result Place Cause
 statement_said n said [] = Ok (at said Statements)
 statement_said n said (name ∷ []) = if is_word name (codes "--") then Ok (at said Schedule) else Err cause.Syntax
 statement_said n said (name ∷ most ∷ []) = if is_word name (codes "limit") then onto Statements (limit_said said (number_of most)) else Err cause.Syntax
-statement_said n said (name ∷ mark ∷ form ∷ []) =
-    if is_word name (codes "program") && (is_word mark (codes "raw") && is_word form (codes "hex")) then Ok (at said (Block n [])) else Err cause.Syntax
+statement_said n said (name ∷ mark ∷ form ∷ []) = if is_header name mark form then Ok (at said (Block n [])) else Err cause.Syntax
 statement_said n said (name ∷ job ∷ program ∷ word ∷ []) =
     if is_word name (codes "process") then onto Statements (process_said n said (number_of job) (number_of program) (number_of word)) else Err cause.Syntax
 statement_said n said _ = Err cause.Syntax
@@ -98,14 +101,15 @@ abbrev pub onto_block : Said → ℕ → Result (List ℕ) Cause → Result Plac
 onto_block said opened (Ok digits) = Ok (at said (Block opened digits))
 onto_block said opened (Err c) = Err c
 
-abbrev pub is_end : List (List ℕ) → Bool
+-- the one word `end`
+unfoldable pub is_end : List (List ℕ) → Bool
 is_end (name ∷ []) = is_word name (codes "end")
 is_end _ = false
 
--- a line of a block: the one word `end`, or digits
-unfoldable pub block_said : Said → ℕ → List ℕ → List ℕ → Result Place Cause
-block_said said opened digits line =
-    if is_end (words_of line) then onto Statements (program_said said digits) else onto_block said opened (digits_said digits (digits_of line))
+-- a line of a block, and its words: the one word `end`, or digits
+unfoldable pub block_said : Said → ℕ → List ℕ → List ℕ → List (List ℕ) → Result Place Cause
+block_said said opened digits line words =
+    if is_end words then onto Statements (program_said said digits) else onto_block said opened (digits_said digits (digits_of line))
 
 -- ---- the schedule
 
@@ -117,26 +121,27 @@ abbrev pub with_turns : Said → ℕ → ℕ → Said
 with_turns said pid count = record said { schedule = said.schedule ++ ((pid, count) ∷ []) }
 
 -- `PID COUNT`: two numbers, and not too many turns
-abbrev pub pair_said : Said → Option ℕ → Option ℕ → Result Said Cause
+unfoldable pub pair_said : Said → Option ℕ → Option ℕ → Result Said Cause
 pair_said said (Some pid) (Some count) = if nat_le count MOST_TURNS then Ok (with_turns said pid count) else Err cause.Syntax
 pair_said said _ _ = Err cause.Syntax
 
 -- the words of a line after the line `--`
-unfoldable pub turns_said : Said → List (List ℕ) → Result Place Cause
-turns_said said [] = Ok (at said Schedule)
-turns_said said (pid ∷ count ∷ []) = onto Schedule (pair_said said (number_of pid) (number_of count))
+unfoldable pub turns_said : Said → List (List ℕ) → Result Said Cause
+turns_said said [] = Ok said
+turns_said said (pid ∷ count ∷ []) = pair_said said (number_of pid) (number_of count)
 turns_said said _ = Err cause.Syntax
 
 -- ---- one line, and all lines
 
-abbrev pub part_said : ℕ → Said → Part → List ℕ → Result Place Cause
-part_said n said Statements line = statement_said n said (words_of line)
-part_said n said (Block opened digits) line = block_said said opened digits line
-part_said n said Schedule line = turns_said said (words_of line)
+-- a line and its words, by the part that the line belongs to
+abbrev pub part_said : ℕ → Said → Part → List ℕ → List (List ℕ) → Result Place Cause
+part_said n said Statements line words = statement_said n said words
+part_said n said (Block opened digits) line words = block_said said opened digits line words
+part_said n said Schedule line words = onto Schedule (turns_said said words)
 
 -- line n, where it stands: a byte outside ASCII is a fault in a comment too, and a comment says nothing
 unfoldable pub line_said : ℕ → Place → List ℕ → Result Place Cause
-line_said n place line = if is_ascii line then (if is_comment line then Ok place else part_said n place.said place.part line) else Err cause.Syntax
+line_said n place line = if is_ascii line then (if is_comment line then Ok place else part_said n place.said place.part line (words_of line)) else Err cause.Syntax
 
 -- the line that a fault of line n is told of: in a block the one that opens it
 abbrev pub told_line : ℕ → Part → ℕ
@@ -151,14 +156,14 @@ pub record Reading : Type 0 where
 abbrev pub refused : Said → ℕ → Cause → Reading
 refused said line c = record { said = said; fault = Some (record { line = line; cause = c }) }
 
--- after the last line: a block that no line ends is at fault
-abbrev pub ended : Said → Part → Reading
-ended said (Block opened digits) = refused said opened cause.Syntax
-ended said _ = record { said = said; fault = None }
+-- after the last line: a block that no line ends
+abbrev pub fault_at_end : Part → Option LineFault
+fault_at_end (Block opened digits) = Some (record { line = opened; cause = cause.Syntax })
+fault_at_end _ = None
 
 -- the lines from number n on, from where they stand
 unfoldable pub reading_from : ℕ → Place → List (List ℕ) → Reading
-reading_from n place [] = ended place.said place.part
+reading_from n place [] = record { said = place.said; fault = fault_at_end place.part }
 reading_from n place (line ∷ lines) = elim (line_said n place line) as (λ _. Reading) [
   | Ok next ↦ reading_from (n + 1) next lines
   | Err c ↦ refused place.said (told_line n place.part) c

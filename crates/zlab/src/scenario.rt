@@ -1,12 +1,22 @@
 //! Reading a scenario with its schedule.
+ghost use Rattle.std.specs.Prelude.{◌≡◌, IfOk, IfErr};
+ghost use Rattle.zlab.specs.Scenario.{reading_of};
+ghost use Rattle.zlab.specs.Reading.{IsScenario};
+ghost use Rattle.zlab.specs.declared.fault.EngineFault.TheVariants.{NoMemory};
 
+mod block;
 mod digits;
+mod draft;
+mod fault;
 mod numbers;
+mod part;
 mod reader;
+mod schedule;
+mod statements;
 mod words;
 
 use crate::fault::{EngineFault, LineFault};
-use reader::{Fault, Reader};
+use reader::Reader;
 use std::alloc::Global;
 use zl_calls::Library;
 use zl_code::Boot;
@@ -33,16 +43,13 @@ pub struct Reading {
 }
 
 /// Reads the scenario and the schedule up to the first fault. `NoMemory` is the only error.
-pub fn read_scenario(alloc: Global, text: &[u8]) -> Result<Reading, EngineFault> {
+pub fn read_scenario(alloc: Global, text: &[u8]) -> Result<Reading, EngineFault>
+    ensures scenario { IfOk result (λ reading. IsScenario (reading_of text.now).said reading.scenario) }
+    ensures fault { IfOk result (λ reading. reading.fault ≡ (reading_of text.now).fault) }
+    ensures err { IfErr result (λ fault. fault ≡ NoMemory) }
+{
     let mut reader = Reader::new(alloc);
-    let fault = match reader.read_lines(alloc, text) {
-        Ok(()) => None,
-        Err(Fault::Refused(cause)) => Some(LineFault {
-            line: reader.line(),
-            cause,
-        }),
-        Err(Fault::NoMemory) => return Err(EngineFault::NoMemory),
-    };
+    let fault = reader.read_lines(alloc, text)?;
     let scenario = reader.into_scenario();
     Ok(Reading { scenario, fault })
 }

@@ -1,7 +1,6 @@
 //! The hexadecimal digits of a program, as a block spells them.
-ghost use Rattle.std.specs.Prelude.{◌≡◌, ◌<◌, ◌%◌, ◌++◌, ◌∷◌, [], length, IfSome, IfNone, OnOk, OnErr};
-ghost use Rattle.std.specs.List.{flat_map};
-ghost use Rattle.zlab.specs.Lines.{hex_digits_of_byte};
+ghost use Rattle.std.specs.Prelude.{◌≡◌, ◌<◌, ◌%◌, ◌++◌, ◌∷◌, [], length, IfSome, OnSome, IfNone, OnOk, OnErr};
+ghost use Rattle.zlab.specs.Lines.{bytes_of_digits};
 
 use std::alloc::{AllocError, Global};
 use std::marker::Model;
@@ -63,7 +62,8 @@ impl Digits {
 
     /// The bytes that the digits spell; nothing for an odd count of digits.
     pub fn bytes(&self) -> Option<&[u8]>
-        ensures even { IfSome result (λ bytes. flat_map hex_digits_of_byte bytes.now ≡ self.now) }
+        ensures even { OnSome result (length self.now % 2 ≡ 0) }
+        ensures spelled { IfSome result (λ bytes. bytes.now ≡ bytes_of_digits self.now) }
         ensures odd { IfNone result (length self.now % 2 ≡ 1) }
     {
         match self.high {

@@ -1,122 +1,94 @@
 //! The reader: one line after the other, in one pass.
-ghost use Rattle.std.specs.Prelude.{◌≡◌};
-ghost use Rattle.zlab.specs.declared.scenario.reader.Fault.TheVariants.{NoMemory};
+ghost use Rattle.std.specs.Prelude.{◌≡◌, IfOk, IfErr, map};
+ghost use Rattle.zlab.specs.Lines.{lines_of};
+ghost use Rattle.zlab.specs.Scenario.{start, told_line, fault_at_end, part_said, line_said, reading_from};
+ghost use Rattle.zlab.specs.Reading.{Leads, IsScenario};
+ghost use Rattle.zlab.specs.declared.fault.EngineFault.TheVariants.{NoMemory};
 
-use crate::fault::Cause;
+use crate::fault::{Cause, EngineFault, LineFault};
 use crate::scenario::Scenario;
+use crate::scenario::block::read_block;
 use crate::scenario::digits::Digits;
-use crate::scenario::numbers::{hex_digit, number};
+use crate::scenario::draft::Draft;
+use crate::scenario::fault::Fault;
+use crate::scenario::part::Part;
+use crate::scenario::schedule::read_turns;
+use crate::scenario::statements::read_statement;
 use crate::scenario::words::{is_ascii, is_comment, split_words};
-use std::alloc::{AllocError, AllocFailed, Global};
-use zl_calls::{Library, Program};
-use zl_code::{Boot, DecodeFault, Image, Statement, decode};
-use zl_rights::Pid;
+use std::alloc::Global;
+use std::marker::Model;
 
-/// The most programs of a scenario.
-const MOST_PROGRAMS: usize = 256;
-
-/// The most turns of a line of a schedule.
-const MOST_TURNS: u64 = 1_000_000;
-
-/// The limit of the trace where a scenario names none.
-const USUAL_LIMIT: u64 = 1_000;
-
-/// Why reading stops.
-#[derive(Clone, Copy, PartialEq, Eq, Debug)]
-pub enum Fault {
-    /// The line that the reader stands at is refused.
-    Refused(Cause),
-    /// Memory was refused.
-    NoMemory,
-}
-
-impl From<AllocError> for Fault {
-    ghost from_gives = { λ _ fault. fault ≡ NoMemory };
-
-    fn from(_refused: AllocError) -> Fault {
-        Fault::NoMemory
-    }
-}
-
-impl<T: Drop> From<AllocFailed<T>> for Fault {
-    ghost from_gives = { λ _ fault. fault ≡ NoMemory };
-
-    fn from(_refused: AllocFailed<T>) -> Fault {
-        Fault::NoMemory
-    }
-}
-
-/// What the next line belongs to.
-#[derive(Clone, Copy, PartialEq, Eq)]
-enum Part {
-    Statements,
-    /// The block of a program.
-    Block,
-    /// After the line `--`.
-    Schedule,
-}
-
-/// What was read so far.
+/// What was read so far, and what the next line belongs to.
 #[derive(Drop)]
 pub struct Reader {
     part: Part,
-    /// The line that a fault is told of: the last one, but of a block the one that opens it.
-    line: u64,
+    /// The digits of the block, where the next line belongs to one.
     digits: Digits,
-    scenario: Scenario,
+    draft: Draft,
+}
+
+impl Model for Reader {
+    ghost use Rattle.zlab.specs.Scenario.{Place, at};
+    ghost use Rattle.zlab.specs.Reading.{part_with};
+
+    ghost Value = { Place };
+
+    ghost view = { λ r. at r.draft (part_with r.digits r.part) };
 }
 
 impl Reader {
     /// A reader before the first line.
-    pub fn new(alloc: Global) -> Reader {
+    pub fn new(alloc: Global) -> Reader
+        ensures { result ≡ start }
+    {
         Reader {
             part: Part::Statements,
-            line: 0,
             digits: Digits::new(alloc),
-            scenario: Scenario {
-                library: Library::new(alloc),
-                boot: Boot {
-                    statements: Vec::new(alloc),
-                    limit: USUAL_LIMIT,
-                },
-                lines: Vec::new(alloc),
-                schedule: Vec::new(alloc),
-            },
+            draft: Draft::new(alloc),
         }
     }
 
-    /// The line that a fault is told of, from 1.
-    pub fn line(&self) -> u64 {
-        self.line
+    /// The scenario that was read.
+    pub fn into_scenario(self) -> Scenario
+        ensures { IsScenario self.said result }
+    {
+        self.draft.into_scenario()
     }
 
-    /// What was read.
-    pub fn into_scenario(self) -> Scenario {
-        self.scenario
-    }
-
-    /// Reads all lines of the text, up to the first fault.
-    pub fn read_lines(&mut self, alloc: Global, text: &[u8]) -> Result<(), Fault> {
-        let mut words = Vec::new(alloc);
-        for (index, line) in text.split(|byte| *byte == b'\n').enumerate() {
-            if self.part != Part::Block {
-                self.line = index as u64 + 1;
-            }
-            self.read_line(alloc, line, &mut words)?;
-        }
+    /// The line that a fault of the line of this number is told of.
+    fn told_line(&self, number: u64) -> u64
+        ensures { result ≡ told_line number self.now.part }
+    {
         match self.part {
-            Part::Block => Err(Fault::Refused(Cause::Syntax)),
-            Part::Statements | Part::Schedule => Ok(()),
+            Part::Block { opened } => opened,
+            Part::Statements | Part::Schedule => number,
         }
     }
 
-    /// Reads the line; `words` is room for its words.
+    /// The fault of a block that no line ends.
+    fn fault_at_end(&self) -> Option<LineFault>
+        ensures { result ≡ fault_at_end self.now.part }
+    {
+        match self.part {
+            Part::Block { opened } => Some(LineFault {
+                line: opened,
+                cause: Cause::Syntax,
+            }),
+            Part::Statements | Part::Schedule => None,
+        }
+    }
+
+    /// Reads the line of this number; `words` is room for its words.
+    #[tactic(auto, unfolding(crate::specs::Scenario::line_said))]
     fn read_line<'a>(
         &mut self,
         alloc: Global,
+        number: u64,
         line: &'a [u8],
         words: &mut Vec<&'a [u8]>,
-    ) -> Result<(), Fault> {
+    ) -> Result<(), Fault>
+        ensures { Leads result self.old self.new (line_said number self.old line.now) }
+    {
         if !is_ascii(line) {
             return Err(Fault::Refused(Cause::Syntax));
         }
@@ -124,108 +96,61 @@ impl Reader {
             return Ok(());
         }
         split_words(words, line)?;
-        match self.part {
-            Part::Statements => self.read_statement(words),
-            Part::Block => self.read_block(alloc, words),
-            Part::Schedule => self.read_turns(words),
-        }
+        self.read_part(alloc, number, line, words)
     }
 
-    fn read_statement(&mut self, words: &[&[u8]]) -> Result<(), Fault> {
-        match words {
-            [] => Ok(()),
-            [b"program", b"raw", b"hex"] => {
-                self.digits.clear();
-                self.part = Part::Block;
-                Ok(())
+    /// Reads a line with these words, by the part that it belongs to.
+    fn read_part(
+        &mut self,
+        alloc: Global,
+        number: u64,
+        line: &[u8],
+        words: &[&[u8]],
+    ) -> Result<(), Fault>
+        ensures { Leads result self.old self.new (part_said number self.old.said self.old.part line.now (map (λ word. word.now) words.now)) }
+    {
+        self.part = match self.part {
+            Part::Statements => {
+                read_statement(&mut self.draft, &mut self.digits, number, words)?
             }
-            [b"process", job, program, word] => self.read_process(job, program, word),
-            [b"limit", most] => self.read_limit(most),
-            [b"--"] => {
-                self.part = Part::Schedule;
-                Ok(())
+            Part::Block { opened } => {
+                read_block(
+                    &mut self.draft,
+                    &mut self.digits,
+                    alloc,
+                    opened,
+                    line,
+                    words,
+                )?
             }
-            _ => Err(Fault::Refused(Cause::Syntax)),
-        }
-    }
-
-    fn read_process(&mut self, job: &[u8], program: &[u8], word: &[u8]) -> Result<(), Fault> {
-        let (Some(job), Some(program), Some(word)) = (number(job), number(program), number(word))
-        else {
-            return Err(Fault::Refused(Cause::Syntax));
+            Part::Schedule => {
+                read_turns(&mut self.draft, words)?;
+                Part::Schedule
+            }
         };
-        if program >= self.scenario.library.len() as u64 {
-            return Err(Fault::Refused(Cause::Unknown));
-        }
-        self.scenario.lines.push(self.line)?;
-        let statement = Statement::Process { job, program, word };
-        self.scenario.boot.statements.push(statement)?;
         Ok(())
     }
 
-    fn read_limit(&mut self, most: &[u8]) -> Result<(), Fault> {
-        let limit = number(most).ok_or(Fault::Refused(Cause::Syntax))?;
-        if limit > Boot::MOST_ITEMS {
-            return Err(Fault::Refused(Cause::Limit));
+    /// Reads all lines of the text, up to the first fault, and gives that fault. `NoMemory` is the
+    /// only error.
+    pub fn read_lines(
+        &mut self,
+        alloc: Global,
+        text: &[u8],
+    ) -> Result<Option<LineFault>, EngineFault>
+        ensures ok { IfOk result (λ fault. reading_from 1 self.old (lines_of text.now) ≡ record { said = self.new.said; fault = fault }) }
+        ensures err { IfErr result (λ fault. fault ≡ NoMemory) }
+    {
+        let mut words = Vec::new(alloc);
+        for (index, line) in text.split(|byte| *byte == b'\n').enumerate() {
+            let number = index as u64 + 1;
+            let told = self.told_line(number);
+            match self.read_line(alloc, number, line, &mut words) {
+                Ok(()) => {}
+                Err(Fault::Refused(cause)) => return Ok(Some(LineFault { line: told, cause })),
+                Err(Fault::NoMemory) => return Err(EngineFault::NoMemory),
+            }
         }
-        self.scenario.boot.limit = limit;
-        Ok(())
-    }
-
-    fn read_block(&mut self, alloc: Global, words: &[&[u8]]) -> Result<(), Fault> {
-        if let [b"end"] = words {
-            return self.read_end(alloc);
-        }
-        for word in words {
-            self.read_digits(word)?;
-        }
-        Ok(())
-    }
-
-    fn read_digits(&mut self, word: &[u8]) -> Result<(), Fault> {
-        for byte in word {
-            let digit = hex_digit(*byte).ok_or(Fault::Refused(Cause::Syntax))?;
-            self.digits.push(digit)?;
-        }
-        Ok(())
-    }
-
-    fn read_end(&mut self, alloc: Global) -> Result<(), Fault> {
-        let bytes = self.digits.bytes().ok_or(Fault::Refused(Cause::Syntax))?;
-        let image = decode_program(alloc, bytes)?;
-        if self.scenario.library.len() >= MOST_PROGRAMS {
-            return Err(Fault::Refused(Cause::Limit));
-        }
-        self.scenario.library.push(Program::Raw(image))?;
-        self.part = Part::Statements;
-        Ok(())
-    }
-
-    fn read_turns(&mut self, words: &[&[u8]]) -> Result<(), Fault> {
-        match words {
-            [] => Ok(()),
-            [pid, count] => self.read_pair(pid, count),
-            _ => Err(Fault::Refused(Cause::Syntax)),
-        }
-    }
-
-    fn read_pair(&mut self, pid: &[u8], count: &[u8]) -> Result<(), Fault> {
-        let (Some(pid), Some(count)) = (number(pid), number(count)) else {
-            return Err(Fault::Refused(Cause::Syntax));
-        };
-        if count > MOST_TURNS {
-            return Err(Fault::Refused(Cause::Syntax));
-        }
-        self.scenario.schedule.push((pid, count as u32))?;
-        Ok(())
-    }
-}
-
-/// The image that the bytes spell; `Program` where they spell none.
-fn decode_program(alloc: Global, bytes: &[u8]) -> Result<Image, Fault> {
-    match decode(alloc, bytes) {
-        Ok(image) => Ok(image),
-        Err(DecodeFault::NoMemory) => Err(Fault::NoMemory),
-        Err(_) => Err(Fault::Refused(Cause::Program)),
+        Ok(self.fault_at_end())
     }
 }

@@ -1,21 +1,29 @@
 //! Lines cut into words.
-ghost use Rattle.std.specs.Prelude.{◌≡◌, ◌<◌, ◌↔◌, All, IsTrue, OnOk, map, slice_get, Some};
-ghost use Rattle.zlab.specs.Lines.{words_of};
+ghost use Rattle.std.specs.Prelude.{◌≡◌, OnOk, map};
+ghost use Rattle.zlab.specs.Lines.{is_ascii, is_comment, words_of, is_word};
 
 use std::alloc::AllocError;
 
 /// Whether each byte is an ASCII character.
 pub fn is_ascii(line: &[u8]) -> bool
-    ensures { IsTrue result ↔ All (λ byte. byte < 128) line.now }
+    ensures { result ≡ is_ascii line.now }
 {
     line.iter().all(|byte| *byte < 128)
 }
 
 /// Whether the line is a comment: its first byte is `#`.
 pub fn is_comment(line: &[u8]) -> bool
-    ensures { IsTrue result ↔ (slice_get line.now 0 ≡ Some 35) }
+    ensures { result ≡ is_comment line.now }
 {
-    line.first() == Some(&b'#')
+    line.starts_with(b"#")
+}
+
+/// Whether the word has just these bytes.
+#[tactic(auto, unfolding(crate::specs::Lines::is_word))]
+pub fn is(word: &[u8], bytes: &[u8]) -> bool
+    ensures { result ≡ is_word word.now bytes.now }
+{
+    word == bytes
 }
 
 /// Puts the words of the line into `words`, in place of what it held. Only spaces part words.

@@ -1,0 +1,90 @@
+-- Reading a text line by line.
+use Rattle.std.proofs.Common.{◌≡◌, ℕ, ◌+◌, ◌<◌, List, [], ◌∷◌, ◌++◌, length, map, take, drop, get_or, Ok, Err, refl, sym, ap, ◌∙◌, arith, append_assoc, length-append, append-nil, take-append-drop}
+use Rattle.std.proofs.lemmas.List.{map-append}
+use Rattle.std.specs.List.{enumerate_from}
+use Rattle.std.proofs.lemmas.List.{at_drop_more, take-map}
+use Rattle.std.proofs.lemmas.List.FromFn.{length-enumerate_from, get_or-enumerate_from}
+use Rattle.zlab.specs.declared.fault.Cause.{Cause}
+use Rattle.zlab.specs.Scenario.{Place, refused, told_line, line_said, reading_from, fault_at_end}
+
+-- ---- one line
+
+taken : (n : ℕ) (now new : Place) (line : List ℕ) (rest : List (List ℕ)) → line_said n now line ≡ Ok new → reading_from n now (line ∷ rest) ≡ reading_from (n + 1) new rest
+unfolding reading_from
+taken n now new line rest said = rw (said, reading_from) refl
+
+stopped : (n : ℕ) (now : Place) (line : List ℕ) (rest : List (List ℕ)) (c : Cause) → line_said n now line ≡ Err c → reading_from n now (line ∷ rest) ≡ refused now.said (told_line n now.part) c
+unfolding reading_from
+stopped n now line rest c said = rw (said, reading_from) refl
+
+over : (n : ℕ) (now : Place) → reading_from n now [] ≡ record { said = now.said; fault = fault_at_end now.part }
+unfolding reading_from
+over n now = refl
+
+-- ---- the lines that were numbered
+
+second_enumerated : {X : Type 0} (n : ℕ) (xs : List X) → map (λ p. p.1) (enumerate_from n xs) ≡ xs
+second_enumerated n [] = refl
+second_enumerated n (x ∷ xs) = ap (λ (ys : List _). x ∷ ys) (second_enumerated (n + 1) xs)
+
+second_shown : {A B : Type 0} (v : A → B) (ys : List (ℕ × A)) → map (λ p. p.1) (map {B = ℕ × B} (λ p. (p.0, v p.1)) ys) ≡ map (λ p. v p.1) ys
+second_shown v [] = refl
+second_shown v (y ∷ ys) = ap (λ (zs : List _). v y.1 ∷ zs) (second_shown v ys)
+
+-- so many lines were yielded
+pub lines_so_far : {A : Type 0} (v : A → List ℕ) (lines : List (List ℕ)) (ys : List (ℕ × A)) → map {B = ℕ × List ℕ} (λ p. (p.0, v p.1)) ys ≡ take (length ys) (enumerate_from 0 lines)
+    → map (λ p. v p.1) ys ≡ take (length ys) lines
+lines_so_far v lines ys e =
+    sym (second_shown v ys) ∙ ap (map (λ (p : ℕ × List ℕ). p.1)) e ∙ sym (take-map (λ (p : ℕ × List ℕ). p.1) (length ys) (enumerate_from 0 lines)) ∙ ap (take (length ys)) (second_enumerated 0 lines)
+
+-- all lines were yielded
+pub lines_all : {A : Type 0} (v : A → List ℕ) (lines : List (List ℕ)) (ys : List (ℕ × A)) → map {B = ℕ × List ℕ} (λ p. (p.0, v p.1)) ys ≡ enumerate_from 0 lines → map (λ p. v p.1) ys ≡ lines
+lines_all v lines ys e = sym (second_shown v ys) ∙ ap (map (λ (p : ℕ × List ℕ). p.1)) e ∙ second_enumerated 0 lines
+
+-- the line that is yielded next, with its number
+pub record IsTurn (lines : List (List ℕ)) (n index : ℕ) (line : List ℕ) : Type 0 where
+  pub number : index ≡ n
+  pub within : n < length lines
+  pub same : line ≡ get_or lines n line
+
+pub turn_by : (lines : List (List ℕ)) (n index : ℕ) (line : List ℕ) → n < length (enumerate_from 0 lines) → ◌≡◌ {A = ℕ × List ℕ} (index, line) (get_or (enumerate_from 0 lines) n (index, line)) → IsTurn lines n index line
+turn_by lines n index line below e =
+    let within : n < length lines = omega (arith, length-enumerate_from 0 lines) in
+    let both = e ∙ get_or-enumerate_from 0 lines n (index, line) within in
+    let number : index ≡ 0 + n = ap (λ (p : ℕ × List ℕ). p.0) both in
+    record { number = omega arith; within = within; same = ap (λ (p : ℕ × List ℕ). p.1) both }
+
+-- ---- all lines
+
+-- one line more was read
+pub one_more : {A : Type 0} (v : A → List ℕ) (s now new : Place) (ys : List (ℕ × A)) (x : ℕ × A) (number : ℕ)
+    → ((rest : List (List ℕ)) → reading_from 1 s (map (λ p. v p.1) ys ++ rest) ≡ reading_from (length ys + 1) now rest) → number ≡ length ys + 1 → line_said number now (v x.1) ≡ Ok new
+    → (rest : List (List ℕ)) → reading_from 1 s (map (λ p. v p.1) (ys ++ x ∷ []) ++ rest) ≡ reading_from (length (ys ++ x ∷ []) + 1) new rest
+one_more v s now new ys x number so_far is said rest =
+    let lines : map (λ p. v p.1) (ys ++ x ∷ []) ++ rest ≡ map (λ p. v p.1) ys ++ (v x.1 ∷ rest) =
+    ap (λ (l : List (List ℕ)). l ++ rest) (map-append (λ p. v p.1) ys (x ∷ [])) ∙ append_assoc (map (λ p. v p.1) ys) (v x.1 ∷ []) rest in
+    let count : length (ys ++ x ∷ []) + 1 ≡ number + 1 = omega (arith, length-append ys (x ∷ [])) in
+    ap (reading_from 1 s) lines
+    ∙ so_far (v x.1 ∷ rest)
+    ∙ ap (λ (n : ℕ). reading_from n now (v x.1 ∷ rest)) (sym is)
+    ∙ taken number now new (v x.1) rest said
+    ∙ ap (λ (n : ℕ). reading_from n new rest) (sym count)
+
+-- the next line is at fault
+pub at_fault : (done lines : List (List ℕ)) (s now : Place) (n index : ℕ) (line : List ℕ) (c : Cause)
+    → ((rest : List (List ℕ)) → reading_from 1 s (done ++ rest) ≡ reading_from (n + 1) now rest) → done ≡ take n lines → IsTurn lines n index line → line_said (index + 1) now line ≡ Err c
+    → reading_from 1 s lines ≡ refused now.said (told_line (index + 1) now.part) c
+at_fault done lines s now n index line c so_far front turn said =
+    let cut : lines ≡ done ++ drop n lines = sym (take-append-drop n lines) ∙ ap (λ (l : List (List ℕ)). l ++ drop n lines) (sym front) in
+    ap (reading_from 1 s) cut
+    ∙ so_far (drop n lines)
+    ∙ at_drop_more (reading_from (n + 1) now) lines n line turn.within
+    ∙ ap (λ (l : List ℕ). reading_from (n + 1) now (l ∷ drop (n + 1) lines)) (sym turn.same)
+    ∙ ap (λ (k : ℕ). reading_from (k + 1) now (line ∷ drop (n + 1) lines)) (sym turn.number)
+    ∙ stopped (index + 1) now line (drop (n + 1) lines) c said
+
+-- no line is left
+pub at_last : (done lines : List (List ℕ)) (s now : Place) (n : ℕ) → ((rest : List (List ℕ)) → reading_from 1 s (done ++ rest) ≡ reading_from (n + 1) now rest) → done ≡ lines
+    → reading_from 1 s lines ≡ record { said = now.said; fault = fault_at_end now.part }
+at_last done lines s now n so_far all =
+    ap (reading_from 1 s) (sym all ∙ sym (append-nil done)) ∙ so_far [] ∙ over (n + 1) now

@@ -1,0 +1,108 @@
+//! What the lines of a scenario have said so far.
+ghost use Rattle.std.specs.Prelude.{◌≡◌, IsTrue, length, OnOk};
+ghost use Rattle.zl_code.specs.Spells.{spelling, is_in_range};
+ghost use Rattle.zl_code.specs.declared.boot.Statement.TheVariants as statement;
+ghost use Rattle.zlab.specs.Scenario.{start, with_program, with_statement, with_turns};
+ghost use Rattle.zlab.specs.Reading.{IsScenario};
+
+use crate::scenario::Scenario;
+use std::alloc::{AllocError, Global};
+use std::marker::Model;
+use zl_calls::{Library, Program};
+use zl_code::{Boot, Image, Statement};
+use zl_rights::{Koid, Pid};
+
+/// The limit of the trace where a scenario names none.
+const USUAL_LIMIT: u64 = 1_000;
+
+/// What the lines have said so far.
+#[derive(Drop)]
+pub struct Draft {
+    scenario: Scenario,
+}
+
+impl Model for Draft {
+    ghost use Rattle.std.specs.Prelude.{IsTrue};
+    ghost use Rattle.std.specs.List.{list_all};
+    ghost use Rattle.zlab.specs.Scenario.{Said};
+    ghost use Rattle.zlab.specs.Reading.{said_by, is_plain};
+
+    ghost Value = { Said };
+
+    ghost view = { λ d. said_by d.scenario };
+
+    ghost invariant = { λ d. IsTrue (list_all is_plain d.scenario.library) };
+}
+
+impl Draft {
+    /// Nothing is said yet.
+    pub fn new(alloc: Global) -> Draft
+        ensures { result ≡ start.said }
+    {
+        Draft {
+            scenario: Scenario {
+                library: Library::new(alloc),
+                boot: Boot {
+                    statements: Vec::new(alloc),
+                    limit: USUAL_LIMIT,
+                },
+                lines: Vec::new(alloc),
+                schedule: Vec::new(alloc),
+            },
+        }
+    }
+
+    /// How many programs there are.
+    pub fn programs(&self) -> usize
+        ensures { result ≡ length self.now.programs }
+    {
+        self.scenario.library.len()
+    }
+
+    /// Adds a raw program with this image.
+    pub fn push_program(&mut self, image: Image) -> Result<(), AllocError>
+        requires { IsTrue (is_in_range image) }
+        ensures { OnOk result (self.new ≡ with_program self.old (spelling image)) }
+    {
+        self.scenario.library.push(Program::Raw(image))?;
+        Ok(())
+    }
+
+    /// Adds the statement of a process, which stands in this line.
+    pub fn push_process(
+        &mut self,
+        line: u64,
+        job: Koid,
+        program: u64,
+        word: u64,
+    ) -> Result<(), AllocError>
+        ensures { OnOk result (self.new ≡ with_statement self.old line (statement.Process job program word)) }
+    {
+        self.scenario.lines.push(line)?;
+        let statement = Statement::Process { job, program, word };
+        self.scenario.boot.statements.push(statement)?;
+        Ok(())
+    }
+
+    /// Sets the limit of the trace.
+    pub fn set_limit(&mut self, limit: u64)
+        ensures { self.new ≡ record self.old { limit = limit } }
+    {
+        self.scenario.boot.limit = limit;
+    }
+
+    /// Adds so many turns of the process.
+    pub fn push_turns(&mut self, pid: Pid, count: u32) -> Result<(), AllocError>
+        ensures { OnOk result (self.new ≡ with_turns self.old pid count) }
+    {
+        self.scenario.schedule.push((pid, count))?;
+        Ok(())
+    }
+
+    /// The scenario that was said.
+    pub fn into_scenario(self) -> Scenario
+        ensures { IsScenario self result }
+    {
+        self.scenario
+    }
+}

@@ -1,0 +1,31 @@
+//! Why reading stops.
+ghost use Rattle.std.specs.Prelude.{◌≡◌};
+ghost use Rattle.zlab.specs.declared.scenario.fault.Fault.TheVariants.{NoMemory};
+
+use crate::fault::Cause;
+use std::alloc::{AllocError, AllocFailed};
+
+/// Why reading stops.
+#[derive(Clone, Copy, PartialEq, Eq, Debug)]
+pub enum Fault {
+    /// The line is refused.
+    Refused(Cause),
+    /// Memory was refused.
+    NoMemory,
+}
+
+impl From<AllocError> for Fault {
+    ghost from_gives = { λ _ fault. fault ≡ NoMemory };
+
+    fn from(_refused: AllocError) -> Fault {
+        Fault::NoMemory
+    }
+}
+
+impl<T: Drop> From<AllocFailed<T>> for Fault {
+    ghost from_gives = { λ _ fault. fault ≡ NoMemory };
+
+    fn from(_refused: AllocFailed<T>) -> Fault {
+        Fault::NoMemory
+    }
+}

@@ -1,0 +1,11 @@
+//! The parts of a scenario.
+
+/// What the next line belongs to.
+#[derive(Clone, Copy, PartialEq, Eq)]
+pub enum Part {
+    Statements,
+    /// The block of a program, which this line opens.
+    Block { opened: u64 },
+    /// After the line `--`.
+    Schedule,
+}

@@ -1,0 +1,39 @@
+//! The lines of the schedule.
+ghost use Rattle.std.specs.Prelude.{map};
+ghost use Rattle.zlab.specs.Lines.{number_of};
+ghost use Rattle.zlab.specs.Scenario.{pair_said, turns_said};
+ghost use Rattle.zlab.specs.Reading.{Gives};
+
+use crate::fault::Cause;
+use crate::scenario::draft::Draft;
+use crate::scenario::fault::Fault;
+use crate::scenario::numbers::number;
+
+/// The most turns of a line.
+const MOST_TURNS: u64 = 1_000_000;
+
+/// Reads the words of a line after the line `--`.
+#[tactic(auto, unfolding(crate::specs::Scenario::turns_said))]
+pub fn read_turns(draft: &mut Draft, words: &[&[u8]]) -> Result<(), Fault>
+    ensures { Gives result draft.old draft.new (turns_said draft.old (map (λ word. word.now) words.now)) }
+{
+    match words {
+        [] => Ok(()),
+        [pid, count] => read_pair(draft, pid, count),
+        _ => Err(Fault::Refused(Cause::Syntax)),
+    }
+}
+
+#[tactic(auto, unfolding(crate::specs::Scenario::pair_said))]
+fn read_pair(draft: &mut Draft, pid: &[u8], count: &[u8]) -> Result<(), Fault>
+    ensures { Gives result draft.old draft.new (pair_said draft.old (number_of pid.now) (number_of count.now)) }
+{
+    let (Some(pid), Some(count)) = (number(pid), number(count)) else {
+        return Err(Fault::Refused(Cause::Syntax));
+    };
+    if count > MOST_TURNS {
+        return Err(Fault::Refused(Cause::Syntax));
+    }
+    draft.push_turns(pid, count as u32)?;
+    Ok(())
+}

@@ -1,0 +1,86 @@
+//! The lines that make a statement or open a part.
+ghost use Rattle.std.specs.Prelude.{◌≡◌, map};
+ghost use Rattle.zlab.specs.Lines.{number_of};
+ghost use Rattle.zlab.specs.Scenario.{is_header, process_said, limit_said, statement_said};
+ghost use Rattle.zlab.specs.Reading.{Gives, LeadsTo};
+
+use crate::fault::Cause;
+use crate::scenario::digits::Digits;
+use crate::scenario::draft::Draft;
+use crate::scenario::fault::Fault;
+use crate::scenario::numbers::number;
+use crate::scenario::part::Part;
+use crate::scenario::words::is;
+use zl_code::Boot;
+
+/// Reads the words of a line that stands among the statements, and answers what the next line
+/// belongs to. Where that is a block, `digits` is empty.
+#[tactic(auto, unfolding(crate::specs::Scenario::statement_said))]
+pub fn read_statement(
+    draft: &mut Draft,
+    digits: &mut Digits,
+    line: u64,
+    words: &[&[u8]],
+) -> Result<Part, Fault>
+    ensures { LeadsTo result digits.new draft.old draft.new (statement_said line draft.old (map (λ word. word.now) words.now)) }
+{
+    match words {
+        [] => Ok(Part::Statements),
+        [name] if is(name, b"--") => Ok(Part::Schedule),
+        [name, most] if is(name, b"limit") => {
+            read_limit(draft, most)?;
+            Ok(Part::Statements)
+        }
+        [name, mark, form] if is_header(name, mark, form) => {
+            digits.clear();
+            Ok(Part::Block { opened: line })
+        }
+        [name, job, program, word] if is(name, b"process") => {
+            read_process(draft, line, job, program, word)?;
+            Ok(Part::Statements)
+        }
+        _ => Err(Fault::Refused(Cause::Syntax)),
+    }
+}
+
+/// Whether the words open the block of a program.
+#[tactic(auto, unfolding(crate::specs::Scenario::is_header))]
+fn is_header(name: &[u8], mark: &[u8], form: &[u8]) -> bool
+    ensures { result ≡ is_header name.now mark.now form.now }
+{
+    is(name, b"program") && is(mark, b"raw") && is(form, b"hex")
+}
+
+#[tactic(auto, unfolding(crate::specs::Scenario::process_said))]
+fn read_process(
+    draft: &mut Draft,
+    line: u64,
+    job: &[u8],
+    program: &[u8],
+    word: &[u8],
+) -> Result<(), Fault>
+    ensures { Gives result draft.old draft.new (process_said line draft.old (number_of job.now) (number_of program.now) (number_of word.now)) }
+{
+    let (Some(job), Some(program), Some(word)) = (number(job), number(program), number(word)) else {
+        return Err(Fault::Refused(Cause::Syntax));
+    };
+    if program >= draft.programs() as u64 {
+        return Err(Fault::Refused(Cause::Unknown));
+    }
+    draft.push_process(line, job, program, word)?;
+    Ok(())
+}
+
+#[tactic(auto, unfolding(crate::specs::Scenario::limit_said))]
+fn read_limit(draft: &mut Draft, most: &[u8]) -> Result<(), Fault>
+    ensures { Gives result draft.old draft.new (limit_said draft.old (number_of most.now)) }
+{
+    let Some(limit) = number(most) else {
+        return Err(Fault::Refused(Cause::Syntax));
+    };
+    if limit > Boot::MOST_ITEMS {
+        return Err(Fault::Refused(Cause::Limit));
+    }
+    draft.set_limit(limit);
+    Ok(())
+}

@@ -9,7 +9,7 @@ use Rattle.zlab.specs.declared.scenario.fault.Fault.{Fault}
 use Rattle.zlab.specs.declared.scenario.fault.Fault.TheVariants as fault
 use Rattle.zlab.specs.declared.scenario.part.Part.{Part as Seen}
 use Rattle.zlab.specs.declared.scenario.part.Part.TheVariants as seen
-use Rattle.zlab.specs.Scenario.{Said, Part, Statements, Block, Schedule, Place, at}
+use Rattle.zlab.specs.Scenario.{Said, Part, Statements, Block, Schedule}
 
 -- ---- what is made
 
@@ -47,36 +47,23 @@ said_by s = record {
 
 -- ---- what is answered
 
--- The answer to lines that say this, and what the reader has read before and after it. After a
--- refusal that is as it was; of a want of memory nothing is known.
-abbrev pub Gives : Result (Unit {0}) Fault → Said → Said → Result Said Cause → Type 0
-Gives (Ok x) old new told = told ≡ Ok new
-Gives (Err (fault.Refused c)) old new told = (told ≡ Err c) × (new ≡ old)
-Gives (Err fault.NoMemory) old new told = Unit {0}
-
 -- the part that the reader is in, which in a block has these digits
 abbrev pub part_with : List ℕ → Seen → Part
 part_with digits seen.Statements = Statements
 part_with digits (seen.Block opened) = Block opened digits
 part_with digits seen.Schedule = Schedule
 
--- the same, where the answer is what the next line belongs to
-abbrev pub LeadsTo : Result Seen Fault → List ℕ → Said → Said → Result Place Cause → Type 0
-LeadsTo (Ok next) digits old new told = told ≡ Ok (at new (part_with digits next))
-LeadsTo (Err (fault.Refused c)) digits old new told = (told ≡ Err c) × (new ≡ old)
-LeadsTo (Err fault.NoMemory) digits old new told = Unit {0}
+-- the answer is what was said: what is made, or the fault; of a want of memory nothing is known
+abbrev pub Tells : {A S : Type 0} → Result A Fault → (A → S) → Result S Cause → Type 0
+Tells (Ok x) made told = told ≡ Ok (made x)
+Tells (Err (fault.Refused c)) made told = told ≡ Err c
+Tells (Err fault.NoMemory) made told = Unit {0}
 
--- the same for a line, where it stands: after a refusal what was said before it stays
-abbrev pub Leads : Result (Unit {0}) Fault → Place → Place → Result Place Cause → Type 0
-Leads (Ok x) old new told = told ≡ Ok new
-Leads (Err (fault.Refused c)) old new told = (told ≡ Err c) × (new.said ≡ old.said)
-Leads (Err fault.NoMemory) old new told = Unit {0}
-
--- the same, where the answer tells no more than that
-abbrev pub Tells : {S : Type 0} → Result (Unit {0}) Fault → S → Result S Cause → Type 0
-Tells (Ok x) new told = told ≡ Ok new
-Tells (Err (fault.Refused c)) new told = told ≡ Err c
-Tells (Err fault.NoMemory) new told = Unit {0}
+-- a refusal changes nothing
+abbrev pub Keeps : {A S : Type 0} → Result A Fault → S → S → Type 0
+Keeps (Ok x) old new = Unit {0}
+Keeps (Err (fault.Refused c)) old new = new ≡ old
+Keeps (Err fault.NoMemory) old new = Unit {0}
 
 -- the image that the bytes spell, or that they spell none
 abbrev pub Decodes : Result Image Fault → List ℕ → Type 0

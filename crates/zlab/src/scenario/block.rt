@@ -1,8 +1,8 @@
 //! The block of a program.
 ghost use Rattle.std.specs.Prelude.{◌≡◌, map};
 ghost use Rattle.zlab.specs.Lines.{digits_of};
-ghost use Rattle.zlab.specs.Scenario.{is_end, digits_said, program_said, block_said};
-ghost use Rattle.zlab.specs.Reading.{Gives, LeadsTo, Tells, Decodes};
+ghost use Rattle.zlab.specs.Scenario.{at, is_end, digits_said, program_said, block_said};
+ghost use Rattle.zlab.specs.Reading.{part_with, Tells, Keeps, Decodes};
 
 use crate::fault::Cause;
 use crate::scenario::digits::Digits;
@@ -28,7 +28,8 @@ pub fn read_block(
     line: &[u8],
     words: &[&[u8]],
 ) -> Result<Part, Fault>
-    ensures { LeadsTo result digits.new draft.old draft.new (block_said draft.old opened digits.old line.now (map (λ word. word.now) words.now)) }
+    ensures told { Tells result (λ next. at draft.new (part_with digits.new next)) (block_said draft.old opened digits.old line.now (map (λ word. word.now) words.now)) }
+    ensures kept { Keeps result draft.old draft.new }
 {
     if is_end(words) {
         read_program(draft, alloc, digits)?;
@@ -50,7 +51,7 @@ fn is_end(words: &[&[u8]]) -> bool
 
 /// Adds the digits of the line to those before it. After a fault some of them may be there.
 fn read_digits(digits: &mut Digits, line: &[u8]) -> Result<(), Fault>
-    ensures { Tells result digits.new (digits_said digits.old (digits_of line.now)) }
+    ensures { Tells result (λ _. digits.new) (digits_said digits.old (digits_of line.now)) }
 {
     for byte in line {
         if *byte != b' ' {
@@ -66,7 +67,8 @@ fn read_digits(digits: &mut Digits, line: &[u8]) -> Result<(), Fault>
 /// Adds the program that the digits of the whole block spell.
 #[tactic(auto, unfolding(crate::specs::Scenario::program_said))]
 fn read_program(draft: &mut Draft, alloc: Global, digits: &Digits) -> Result<(), Fault>
-    ensures { Gives result draft.old draft.new (program_said draft.old digits.now) }
+    ensures told { Tells result (λ _. draft.new) (program_said draft.old digits.now) }
+    ensures kept { Keeps result draft.old draft.new }
 {
     let Some(bytes) = digits.bytes() else {
         return Err(Fault::Refused(Cause::Syntax));

@@ -2,7 +2,7 @@
 ghost use Rattle.std.specs.Prelude.{◌≡◌, IfOk, IfErr, map};
 ghost use Rattle.zlab.specs.Lines.{lines_of};
 ghost use Rattle.zlab.specs.Scenario.{start, told_line, fault_at_end, part_said, line_said, reading_from};
-ghost use Rattle.zlab.specs.Reading.{Leads, IsScenario};
+ghost use Rattle.zlab.specs.Reading.{Tells, Keeps, IsScenario};
 ghost use Rattle.zlab.specs.declared.fault.EngineFault.TheVariants.{NoMemory};
 
 use crate::fault::{Cause, EngineFault, LineFault};
@@ -87,7 +87,8 @@ impl Reader {
         line: &'a [u8],
         words: &mut Vec<&'a [u8]>,
     ) -> Result<(), Fault>
-        ensures { Leads result self.old self.new (line_said number self.old line.now) }
+        ensures told { Tells result (λ _. self.new) (line_said number self.old line.now) }
+        ensures kept { Keeps result self.old.said self.new.said }
     {
         if !is_ascii(line) {
             return Err(Fault::Refused(Cause::Syntax));
@@ -107,7 +108,8 @@ impl Reader {
         line: &[u8],
         words: &[&[u8]],
     ) -> Result<(), Fault>
-        ensures { Leads result self.old self.new (part_said number self.old.said self.old.part line.now (map (λ word. word.now) words.now)) }
+        ensures told { Tells result (λ _. self.new) (part_said number self.old.said self.old.part line.now (map (λ word. word.now) words.now)) }
+        ensures kept { Keeps result self.old.said self.new.said }
     {
         self.part = match self.part {
             Part::Statements => {

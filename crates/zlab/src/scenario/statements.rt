@@ -1,8 +1,8 @@
 //! The lines that make a statement or open a part.
 ghost use Rattle.std.specs.Prelude.{◌≡◌, map};
 ghost use Rattle.zlab.specs.Lines.{number_of};
-ghost use Rattle.zlab.specs.Scenario.{is_header, process_said, limit_said, statement_said};
-ghost use Rattle.zlab.specs.Reading.{Gives, LeadsTo};
+ghost use Rattle.zlab.specs.Scenario.{at, is_header, process_said, limit_said, statement_said};
+ghost use Rattle.zlab.specs.Reading.{part_with, Tells, Keeps};
 
 use crate::fault::Cause;
 use crate::scenario::digits::Digits;
@@ -22,7 +22,8 @@ pub fn read_statement(
     line: u64,
     words: &[&[u8]],
 ) -> Result<Part, Fault>
-    ensures { LeadsTo result digits.new draft.old draft.new (statement_said line draft.old (map (λ word. word.now) words.now)) }
+    ensures told { Tells result (λ next. at draft.new (part_with digits.new next)) (statement_said line draft.old (map (λ word. word.now) words.now)) }
+    ensures kept { Keeps result draft.old draft.new }
 {
     match words {
         [] => Ok(Part::Statements),
@@ -59,7 +60,8 @@ fn read_process(
     program: &[u8],
     word: &[u8],
 ) -> Result<(), Fault>
-    ensures { Gives result draft.old draft.new (process_said line draft.old (number_of job.now) (number_of program.now) (number_of word.now)) }
+    ensures told { Tells result (λ _. draft.new) (process_said line draft.old (number_of job.now) (number_of program.now) (number_of word.now)) }
+    ensures kept { Keeps result draft.old draft.new }
 {
     let (Some(job), Some(program), Some(word)) = (number(job), number(program), number(word)) else {
         return Err(Fault::Refused(Cause::Syntax));
@@ -73,7 +75,8 @@ fn read_process(
 
 #[tactic(auto, unfolding(crate::specs::Scenario::limit_said))]
 fn read_limit(draft: &mut Draft, most: &[u8]) -> Result<(), Fault>
-    ensures { Gives result draft.old draft.new (limit_said draft.old (number_of most.now)) }
+    ensures told { Tells result (λ _. draft.new) (limit_said draft.old (number_of most.now)) }
+    ensures kept { Keeps result draft.old draft.new }
 {
     let Some(limit) = number(most) else {
         return Err(Fault::Refused(Cause::Syntax));

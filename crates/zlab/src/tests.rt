@@ -200,6 +200,64 @@ fn reads_as_far_as_the_limit(rt: HostRuntime) -> Result<(), Fail> {
     Ok(())
 }
 
+#[test]
+fn answers_each_byte_alone(rt: HostRuntime) {
+    for byte in 0..=255u8 {
+        let (verdict, text) = match byte {
+            b'\n' | b' ' | b'#' => (Verdict::Done, DONE),
+            _ => (Verdict::Refused, "refused 1 Syntax\n"),
+        };
+        is_answered(&rt, rt.alloc(), &[byte], verdict, text);
+    }
+}
+
+#[test]
+fn answers_long_texts(rt: HostRuntime) -> Result<(), Fail> {
+    let cases = [
+        // Empty lines, blank lines, words of one letter, leading zeros, and too large a number.
+        ("", "\n", "", Verdict::Done, DONE),
+        ("", " ", "", Verdict::Done, DONE),
+        ("", "a ", "", Verdict::Refused, "refused 1 Syntax\n"),
+        ("limit ", "0", "7", Verdict::Done, DONE),
+        ("limit ", "9", "", Verdict::Refused, "refused 1 Syntax\n"),
+        ("--\n9 ", "0", "1", Verdict::Done, DONE),
+        ("--\n", "9 1\n", "", Verdict::Done, DONE),
+        ("--\n", "9 1 ", "", Verdict::Refused, "refused 2 Syntax\n"),
+        // A block that no line ends, and one of far too many digits.
+        (
+            "program raw hex\n",
+            "0 \n",
+            "",
+            Verdict::Refused,
+            "refused 1 Syntax\n",
+        ),
+        (
+            "program raw hex\n",
+            "00",
+            "\nend",
+            Verdict::Refused,
+            "refused 1 Program\n",
+        ),
+        (
+            "program raw hex\n",
+            "program raw hex\n",
+            "",
+            Verdict::Refused,
+            "refused 1 Syntax\n",
+        ),
+    ];
+    for (front, middle, back, verdict, line) in cases {
+        let mut text = String::new(rt.alloc());
+        text.push_str(front)?;
+        for _ in 0..20_000 {
+            text.push_str(middle)?;
+        }
+        text.push_str(back)?;
+        is_answered(&rt, rt.alloc(), text.as_bytes(), verdict, line);
+    }
+    Ok(())
+}
+
 /// A reader that gives few bytes a call, and is interrupted after so many calls.
 #[derive(Drop)]
 struct Slow<'a> {

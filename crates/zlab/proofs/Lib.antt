@@ -4,6 +4,7 @@ pub mod HexDigits
 pub mod Decimals
 pub mod ReadyProcess
 pub mod Following
+pub mod Walking
 pub mod StoredRun
 pub mod RowsScenario
 pub mod Programs

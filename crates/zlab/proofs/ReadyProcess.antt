@@ -1,5 +1,5 @@
--- A process that is told to be ready is ready.
-use Rattle.std.proofs.Common.{◌≡◌, ℕ, Option, Some, None, IsTrue, refl}
+-- A process that is told to be ready is ready, and no other.
+use Rattle.std.proofs.Common.{◌≡◌, ℕ, false, Option, Some, None, IsTrue, refl}
 use Rattle.zl_rights.specs.Map.{get}
 use Rattle.zl_rights.specs.World.{State, Process, Created, Ready, Blocked, Ended, Gone}
 use Rattle.zl_rights.specs.Signals.{is_ready, is_process, state_passes}
@@ -20,3 +20,18 @@ ready_process (Some p) e = ready_state p.state e
 pub ready_by : (l : Lab) (pid : ℕ) → state_in l pid ≡ seen.Ready → IsTrue (is_ready_in l pid)
 unfolding is_process
 ready_by l pid e = ready_process (get l.world.processes pid) e
+
+busy_state : (s : State) → (seen_in s ≡ seen.Ready → ⊥) → is_ready s ≡ false
+busy_state Created e = refl
+busy_state Ready e = absurd (e refl)
+busy_state (Blocked awaited destinations) e = refl
+busy_state (Ended code) e = refl
+busy_state Gone e = refl
+
+busy_process : (p : Option Process) → (seen_of p ≡ seen.Ready → ⊥) → state_passes is_ready p ≡ false
+busy_process None e = refl
+busy_process (Some p) e = busy_state p.state e
+
+pub busy_by : (l : Lab) (pid : ℕ) → (state_in l pid ≡ seen.Ready → ⊥) → is_ready_in l pid ≡ false
+unfolding is_process
+busy_by l pid e = busy_process (get l.world.processes pid) e

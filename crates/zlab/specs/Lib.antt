@@ -1,5 +1,6 @@
 pub mod Text
 pub mod Follows
+pub mod System
 pub mod Input
 pub mod Output
 pub mod Lines

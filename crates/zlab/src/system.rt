@@ -1,9 +1,14 @@
 //! A world with its trace, stepped along a schedule.
-ghost use Rattle.std.specs.Prelude.{◌≡◌};
-ghost use Rattle.zl_calls.specs.World.{state_in};
+ghost use Rattle.std.specs.Prelude.{◌≡◌, IsTrue, [], replicate};
+ghost use Rattle.zl_code.specs.Steps.{pid_of};
+ghost use Rattle.zl_calls.specs.World.{is_ready_in};
+ghost use Rattle.zl_calls.specs.Steps.{StepsTo};
+ghost use Rattle.zlab.specs.Follows.{turns_of};
+ghost use Rattle.zlab.specs.System.{Turns, Walks};
 
 use crate::text::End;
 use std::alloc::Global;
+use std::marker::Model;
 use zl_calls::{Local, World};
 use zl_code::{ProcState, TraceItem};
 use zl_rights::Pid;
@@ -29,9 +34,19 @@ pub struct System {
     limit: u64,
 }
 
+impl Model for System {
+    ghost use Rattle.zlab.specs.System.{Tracked};
+
+    ghost Value = { Tracked };
+
+    ghost view = { λ s. record { lab = s.world; items = s.items.items; limit = s.limit } };
+}
+
 impl System {
     /// The system before the first step, whose trace may have so many items.
-    pub fn new(alloc: Global, world: World, limit: u64) -> System {
+    pub fn new(alloc: Global, world: World, limit: u64) -> System
+        ensures { result ≡ record { lab = world; items = []; limit = limit } }
+    {
         System {
             world,
             items: Vec::new(alloc),
@@ -40,18 +55,24 @@ impl System {
     }
 
     /// The world as it stands.
-    pub fn world(&self) -> &World {
+    pub fn world(&self) -> &World
+        ensures { result.now ≡ self.now.lab }
+    {
         &self.world
     }
 
     /// The trace.
-    pub fn items(&self) -> &[TraceItem] {
+    pub fn items(&self) -> &[TraceItem]
+        ensures { result.now ≡ self.now.items }
+    {
         self.items.as_slice()
     }
 
     /// Lets the process do one instruction.
-    pub fn step(&mut self, pid: Pid) -> Stepped {
-        if self.world.state_of(pid) != ProcState::Ready {
+    pub fn step(&mut self, pid: Pid) -> Stepped
+        ensures { Turns self.old pid result self.new }
+    {
+        if !is_ready(&self.world, pid) {
             return Stepped::NotReady;
         }
         if self.items.len() as u64 >= self.limit {
@@ -65,34 +86,46 @@ impl System {
         Stepped::Ran
     }
 
-    /// So many turns of the process; those that find it not ready are skipped. Nothing where every
-    /// turn was taken.
-    fn step_turns(&mut self, pid: Pid, count: u32) -> Option<End> {
-        for _ in 0..count {
+    /// So many turns of the process; those that find it not ready are skipped.
+    fn step_turns(&mut self, pid: Pid, count: u32) -> End
+        ensures { Walks self.old (replicate count pid) result self.new }
+    {
+        for turn in 0..count {
             match self.step(pid) {
                 Stepped::Ran => {}
-                Stepped::NotReady => return None,
-                Stepped::Limit => return Some(End::Limit),
-                Stepped::NoMemory => return Some(End::Memory),
+                Stepped::NotReady => return End::Schedule,
+                Stepped::Limit => return End::Limit,
+                Stepped::NoMemory => return End::Memory,
             }
         }
-        None
+        End::Schedule
     }
 
     /// The turns of the schedule, one pair after another, up to the end that comes first.
-    pub fn step_all(&mut self, schedule: &[(Pid, u32)]) -> End {
-        for (pid, count) in schedule {
-            if let Some(end) = self.step_turns(*pid, *count) {
-                return end;
+    pub fn step_all(&mut self, schedule: &[(Pid, u32)]) -> End
+        ensures { Walks self.old (turns_of schedule.now) result self.new }
+    {
+        for pair in schedule {
+            match self.step_turns(pair.0, pair.1) {
+                End::Schedule => {}
+                end => return end,
             }
         }
         End::Schedule
     }
 }
 
+fn is_ready(world: &World, pid: Pid) -> bool
+    ensures { result ≡ is_ready_in world.now pid }
+{
+    matches!(world.state_of(pid), ProcState::Ready)
+}
+
 /// One instruction of the ready process, and its item.
 fn act(world: &mut World, pid: Pid) -> TraceItem
-    requires { state_in world.old pid ≡ ProcState.Ready }
+    requires { IsTrue (is_ready_in world.old pid) }
+    ensures pid { pid_of result ≡ pid }
+    ensures step { StepsTo world.old result world.new }
 {
     match world.call_at(pid) {
         Some(call) => {

@@ -1,0 +1,7 @@
+use Rattle.std.proofs.Common.{replicate}
+use Rattle.zlab.specs.declared.text.End.TheVariants as end
+use Rattle.zlab.specs.System.{Walks}
+use Rattle.zlab.proofs.system.System.step_turns.Given as goal
+
+abbrev pub invariant-loop-turn : goal.invariant-loop-turn
+invariant-loop-turn l = Walks l.initial.self (replicate l.turn l.pid) end.Schedule l.self

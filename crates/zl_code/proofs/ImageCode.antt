@@ -1,12 +1,11 @@
--- The instructions of an image, one after the other.
+-- The pieces of an image, one after the other.
 use Rattle.std.proofs.Common.{◌≡◌, ℕ, zero, suc, ◌+◌, ◌<◌, Bool, true, List, [], ◌∷◌, ◌++◌, length, get_or, take, map, Option, Some, None, refl, sym, ap, ◌∙◌, arith}
 use Rattle.std.specs.List.{list_all}
 use Rattle.std.proofs.lemmas.Bool.{and_from}
 use Rattle.std.proofs.lemmas.List.{map_more, map-append, take_more}
 use Rattle.std.proofs.lemmas.List.Folds.{list_all-append}
 use Rattle.zl_code.specs.declared.image.DecodeFault.{DecodeFault}
-use Rattle.zl_code.specs.declared.instr.Instr.{Instr}
-use Rattle.zl_code.specs.Spells.{first_of, instr_bytes}
+use Rattle.zl_code.specs.Spells.{first_of}
 
 first_of-none : (fault : Option DecodeFault) (rest : List (Option DecodeFault)) → first_of (fault ∷ rest) ≡ None → (fault ≡ None) × (first_of rest ≡ None)
 first_of-none None rest h = (refl, h)
@@ -29,9 +28,9 @@ first_fault_at f (x ∷ xs) (suc i) d fault lt h here =
 pub no_fault_more : (f : List ℕ → Option DecodeFault) (pieces : List (List ℕ)) (i : ℕ) (d : List ℕ) → i < length pieces → first_of (map f (take i pieces)) ≡ None → f (get_or pieces i d) ≡ None → first_of (map f (take (i + 1) pieces)) ≡ None
 no_fault_more f pieces i d lt h here = ap first_of (map_more f pieces i d lt) ∙ first_of-append (map f (take i pieces)) (f (get_or pieces i d) ∷ []) h ∙ rw here refl
 
--- one more instruction
-pub bytes_more : (code : List Instr) (instr : Instr) (pieces : List (List ℕ)) (i : ℕ) (d : List ℕ) → i < length pieces → map instr_bytes code ≡ take i pieces → instr_bytes instr ≡ get_or pieces i d → map instr_bytes (code ++ instr ∷ []) ≡ take (i + 1) pieces
-bytes_more code instr pieces i d lt h here = map-append instr_bytes code (instr ∷ []) ∙ (λ k. h k ++ here k ∷ []) ∙ sym (take_more pieces i d lt)
+-- one more that has the bytes of its piece
+pub bytes_more : {X : Type 0} (spell : X → List ℕ) (xs : List X) (x : X) (pieces : List (List ℕ)) (i : ℕ) (d : List ℕ) → i < length pieces → map spell xs ≡ take i pieces → spell x ≡ get_or pieces i d → map spell (xs ++ x ∷ []) ≡ take (i + 1) pieces
+bytes_more spell xs x pieces i d lt h here = map-append spell xs (x ∷ []) ∙ (λ k. h k ++ here k ∷ []) ∙ sym (take_more pieces i d lt)
 
-pub list_all_push : (p : Instr → Bool) (code : List Instr) (instr : Instr) → list_all p code ≡ true → p instr ≡ true → list_all p (code ++ instr ∷ []) ≡ true
-list_all_push p code instr h here = list_all-append p code (instr ∷ []) ∙ and_from (list_all p code) (list_all p (instr ∷ [])) h (and_from (p instr) true here refl)
+pub list_all_push : {X : Type 0} (p : X → Bool) (xs : List X) (x : X) → list_all p xs ≡ true → p x ≡ true → list_all p (xs ++ x ∷ []) ≡ true
+list_all_push p xs x h here = list_all-append p xs (x ∷ []) ∙ and_from (list_all p xs) (list_all p (x ∷ [])) h (and_from (p x) true here refl)

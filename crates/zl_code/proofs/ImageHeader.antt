@@ -1,20 +1,15 @@
 -- The header: its tests, and its 20 bytes.
-use Rattle.std.proofs.Common.{◌≡◌, ℕ, zero, suc, ◌+◌, ◌*◌, ◌≤◌, Bool, true, false, cond, eqb, leb, List, [], ◌∷◌, ◌++◌, length, get_or, take, drop, replicate, Option, None, ◌==◌, not, refl, sym, ap, ◌∙◌, arith}
+use Rattle.std.proofs.Common.{◌≡◌, ℕ, zero, suc, ◌≤◌, Bool, true, false, cond, eqb, leb, List, [], ◌∷◌, ◌++◌, length, get_or, take, drop, Option, None, ◌==◌, not, refl, sym, ap, ◌∙◌, arith}
 use Rattle.std.specs.Prelude.{slice_index, nat_le, nat_lt}
-use Rattle.std.specs.List.{list_all, starts_with}
+use Rattle.std.specs.List.{starts_with}
 use Rattle.std.specs.Cmp.Lexicographic.{pointwise}
 use Rattle.std.proofs.lemmas.Bool.{and_parts, ltb-false, le-ltb, leb-true, eqb-true, eq-eqb}
-use Rattle.std.proofs.lemmas.List.{length-take, length-drop, get_or-drop}
+use Rattle.std.proofs.lemmas.List.{length-drop, get_or-drop}
 use Rattle.zl_code.specs.declared.image.DecodeFault.{DecodeFault}
 use Rattle.zl_code.specs.declared.image.DecodeFault.TheVariants as faults
-use Rattle.zl_code.specs.declared.instr.Instr.{Instr}
 use Rattle.zl_code.specs.Image.{Image}
-use Rattle.zl_code.specs.Spells.{header, header_fault, is_header_in_range, fault_if, first_of, magic, number_at, bytes_of, count_at, is_raw_at}
+use Rattle.zl_code.specs.Spells.{header, header_fault, is_header_in_range, is_needs_byte, needs_byte, fault_if, first_of, magic, number_at, bytes_of, count_at, starts_at, slots_at, length_at, is_raw_at}
 use Rattle.zl_code.proofs.ImageBytes.{IsBytes, bytes_of-number_at, parts_at}
-
--- an image that declares nothing
-abbrev pub plain : Bool → ℕ → ℕ → List Instr → Image
-plain raw memory budget code = record { raw = raw; memory = memory; budget = budget; needs = []; starts = []; slots = []; code = code }
 
 -- what bytes without a fault of the header keep
 pub record HeaderFits (bytes : List ℕ) : Type 0 where
@@ -22,7 +17,7 @@ pub record HeaderFits (bytes : List ℕ) : Type 0 where
   pub front : starts_with ◌==◌ bytes magic ≡ true
   pub version : slice_index bytes 4 ≡ 1
   pub in_range : is_header_in_range bytes ≡ true
-  pub len : length bytes ≡ 20 + 16 * count_at bytes
+  pub len : length bytes ≡ length_at bytes
 
 no_fault_if : (b : Bool) (f : DecodeFault) (rest : List (Option DecodeFault)) → first_of (fault_if b f ∷ rest) ≡ None → (b ≡ false) × (first_of rest ≡ None)
 no_fault_if true f rest h = absurd cc
@@ -39,7 +34,7 @@ header_fits bytes h =
     let b = no_fault_if (not (starts_with ◌==◌ bytes magic)) faults.Magic _ a.1 in
     let d = no_fault_if (not (slice_index bytes 4 == 1)) faults.Version _ b.1 in
     let e = no_fault_if (not (is_header_in_range bytes)) faults.BadHeader _ d.1 in
-    let f = no_fault_if (not (length bytes == 20 + 16 * count_at bytes)) faults.Length _ e.1 in
+    let f = no_fault_if (not (length bytes == length_at bytes)) faults.Length _ e.1 in
     record {
       long = ltb-false _ _ a.0;
       front = not-false _ b.0;
@@ -60,14 +55,17 @@ same_from_pointwise [] (y ∷ ys) h = absurd cc
 same_from_pointwise (x ∷ xs) [] h = absurd cc
 same_from_pointwise (x ∷ xs) (y ∷ ys) h = let p = and_parts (eqb x y) (pointwise ◌==◌ xs ys) h in λ i. eqb-true x y p.0 i ∷ same_from_pointwise xs ys p.1 i
 
-zeros : (xs : List ℕ) → list_all (λ b. b == 0) xs ≡ true → xs ≡ replicate (length xs) 0
-zeros [] h = refl
-zeros (x ∷ xs) h = let p = and_parts (eqb x 0) (list_all (λ b. b == 0) xs) h in λ i. eqb-true x 0 p.0 i ∷ zeros xs p.1 i
-
 first_two : (xs : List ℕ) → 2 ≤ length xs → take 2 xs ≡ get_or xs 0 0 ∷ get_or xs 1 0 ∷ []
 first_two [] le = absurd (omega arith)
 first_two (a ∷ []) le = absurd (omega arith)
 first_two (a ∷ b ∷ xs) le = refl
+
+first_four : (xs : List ℕ) → 4 ≤ length xs → take 4 xs ≡ get_or xs 0 0 ∷ get_or xs 1 0 ∷ get_or xs 2 0 ∷ get_or xs 3 0 ∷ []
+first_four [] le = absurd (omega arith)
+first_four (a ∷ []) le = absurd (omega arith)
+first_four (a ∷ b ∷ []) le = absurd (omega arith)
+first_four (a ∷ b ∷ c ∷ []) le = absurd (omega arith)
+first_four (a ∷ b ∷ c ∷ d ∷ xs) le = refl
 
 mark_is : (b : ℕ) → leb b 1 ≡ true → b ≡ cond (eqb b 1) 1 0
 mark_is zero h = refl
@@ -84,22 +82,51 @@ header_parts bytes =
     ∙ ap (λ (r : List ℕ). take 4 (drop 8 bytes) ++ r) (parts_at 12 4 bytes
     ∙ ap (λ (r : List ℕ). take 4 (drop 12 bytes) ++ r) (parts_at 16 4 bytes)))))
 
-pub header_spelled : (bytes : List ℕ) (code : List Instr) → IsBytes bytes → HeaderFits bytes → length code ≡ count_at bytes
-    → bytes ≡ header (plain (is_raw_at bytes) (number_at bytes 8 4) (number_at bytes 12 4) code) ++ drop 20 bytes
-header_spelled bytes code fits h count =
-    let long = h.long in
-    let front : take 4 bytes ≡ magic = sym (same_from_pointwise magic (take 4 bytes) h.front) in
-    let range = h.in_range in
-    let mark = and_parts (nat_le (slice_index bytes 5) 1) _ range in
-    let a = and_parts (nat_le (count_at bytes) 4096) _ mark.1 in
-    let b = and_parts (nat_le (number_at bytes 8 4) 65536) _ a.1 in
-    let d = and_parts (nat_lt 0 (number_at bytes 12 4)) _ b.1 in
+-- the ranges of the fields of the header
+pub record HeaderRanges (bytes : List ℕ) : Type 0 where
+  pub mark : nat_le (slice_index bytes 5) 1 ≡ true
+  pub count : nat_le (count_at bytes) 4096 ≡ true
+  pub memory : nat_le (number_at bytes 8 4) 65536 ≡ true
+  pub least : nat_lt 0 (number_at bytes 12 4) ≡ true
+  pub most : nat_le (number_at bytes 12 4) 1000000 ≡ true
+  pub needs : is_needs_byte (slice_index bytes 16) ≡ true
+  pub starts : nat_le (starts_at bytes) 7 ≡ true
+  pub slots : nat_le (slots_at bytes) 8 ≡ true
+  pub last : slice_index bytes 19 ≡ 0
+
+pub header_ranges : (bytes : List ℕ) → is_header_in_range bytes ≡ true → HeaderRanges bytes
+header_ranges bytes h =
+    let a = and_parts (nat_le (slice_index bytes 5) 1) _ h in
+    let b = and_parts (nat_le (count_at bytes) 4096) _ a.1 in
+    let c = and_parts (nat_le (number_at bytes 8 4) 65536) _ b.1 in
+    let d = and_parts (nat_lt 0 (number_at bytes 12 4)) _ c.1 in
     let e = and_parts (nat_le (number_at bytes 12 4) 1000000) _ d.1 in
-    let two : take 2 (drop 4 bytes) ≡ get_or bytes 4 0 ∷ get_or bytes 5 0 ∷ [] = first_two (drop 4 bytes) (omega (arith, length-drop 4 bytes)) ∙ (λ i. get_or-drop 4 bytes 0 0 i ∷ get_or-drop 4 bytes 1 0 i ∷ []) in
-    let marked : get_or bytes 4 0 ∷ get_or bytes 5 0 ∷ [] ≡ 1 ∷ cond (is_raw_at bytes) 1 0 ∷ [] = (λ i. h.version i ∷ mark_is (slice_index bytes 5) mark.0 i ∷ []) in
-    let instrs : take 2 (drop 6 bytes) ≡ bytes_of 2 (length code) = sym (ap (bytes_of 2) count ∙ bytes_of-number_at bytes 6 2 (omega arith) fits) in
-    let memory : take 4 (drop 8 bytes) ≡ bytes_of 4 (number_at bytes 8 4) = sym (bytes_of-number_at bytes 8 4 (omega arith) fits) in
-    let budget : take 4 (drop 12 bytes) ≡ bytes_of 4 (number_at bytes 12 4) = sym (bytes_of-number_at bytes 12 4 (omega arith) fits) in
-    let four : length (take 4 (drop 16 bytes)) ≡ 4 = omega (arith, length-take 4 (drop 16 bytes), length-drop 16 bytes) in
-    let none : take 4 (drop 16 bytes) ≡ 0 ∷ 0 ∷ 0 ∷ 0 ∷ [] = zeros (take 4 (drop 16 bytes)) e.1 ∙ ap (λ (n : ℕ). replicate n 0) four in
-    header_parts bytes ∙ (λ i. front i ++ ((two ∙ marked) i ++ (instrs i ++ (memory i ++ (budget i ++ (none i ++ drop 20 bytes))))))
+    let f = and_parts (is_needs_byte (slice_index bytes 16)) _ e.1 in
+    let g = and_parts (nat_le (starts_at bytes) 7) _ f.1 in
+    let i = and_parts (nat_le (slots_at bytes) 8) _ g.1 in
+    record { mark = a.0; count = b.0; memory = c.0; least = d.0; most = e.0; needs = f.0; starts = g.0; slots = i.0; last = eqb-true _ _ i.1 }
+
+-- the image has what the header says
+pub record HasHeader (bytes : List ℕ) (i : Image) : Type 0 where
+  pub raw : i.raw ≡ is_raw_at bytes
+  pub memory : i.memory ≡ number_at bytes 8 4
+  pub budget : i.budget ≡ number_at bytes 12 4
+  pub needs : needs_byte i.needs ≡ slice_index bytes 16
+  pub starts : length i.starts ≡ starts_at bytes
+  pub slots : length i.slots ≡ slots_at bytes
+  pub code : length i.code ≡ count_at bytes
+
+pub header_spelled : (bytes : List ℕ) (i : Image) → IsBytes bytes → HeaderFits bytes → HasHeader bytes i → bytes ≡ header i ++ drop 20 bytes
+header_spelled bytes i fits h has =
+    let long = h.long in
+    let r = header_ranges bytes h.in_range in
+    let front : take 4 bytes ≡ magic = sym (same_from_pointwise magic (take 4 bytes) h.front) in
+    let two : take 2 (drop 4 bytes) ≡ get_or bytes 4 0 ∷ get_or bytes 5 0 ∷ [] = first_two (drop 4 bytes) (omega (arith, length-drop 4 bytes)) ∙ (λ k. get_or-drop 4 bytes 0 0 k ∷ get_or-drop 4 bytes 1 0 k ∷ []) in
+    let mark : slice_index bytes 5 ≡ cond i.raw 1 0 = mark_is (slice_index bytes 5) r.mark ∙ ap (λ (b : Bool). cond b 1 0) (sym has.raw) in
+    let marked : get_or bytes 4 0 ∷ get_or bytes 5 0 ∷ [] ≡ 1 ∷ cond i.raw 1 0 ∷ [] = (λ k. h.version k ∷ mark k ∷ []) in
+    let instrs : take 2 (drop 6 bytes) ≡ bytes_of 2 (length i.code) = sym (ap (bytes_of 2) has.code ∙ bytes_of-number_at bytes 6 2 (omega arith) fits) in
+    let memory : take 4 (drop 8 bytes) ≡ bytes_of 4 i.memory = sym (ap (bytes_of 4) has.memory ∙ bytes_of-number_at bytes 8 4 (omega arith) fits) in
+    let budget : take 4 (drop 12 bytes) ≡ bytes_of 4 i.budget = sym (ap (bytes_of 4) has.budget ∙ bytes_of-number_at bytes 12 4 (omega arith) fits) in
+    let four = first_four (drop 16 bytes) (omega (arith, length-drop 16 bytes)) ∙ (λ k. get_or-drop 16 bytes 0 0 k ∷ get_or-drop 16 bytes 1 0 k ∷ get_or-drop 16 bytes 2 0 k ∷ get_or-drop 16 bytes 3 0 k ∷ []) in
+    let counts : take 4 (drop 16 bytes) ≡ needs_byte i.needs ∷ length i.starts ∷ length i.slots ∷ 0 ∷ [] = four ∙ (λ k. sym has.needs k ∷ sym has.starts k ∷ sym has.slots k ∷ r.last k ∷ []) in
+    header_parts bytes ∙ (λ k. front k ++ ((two ∙ marked) k ++ (instrs k ++ (memory k ++ (budget k ++ (counts k ++ drop 20 bytes))))))

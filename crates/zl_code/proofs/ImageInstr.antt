@@ -1,13 +1,16 @@
--- The 16 bytes of an instruction and its fields.
-use Rattle.std.proofs.Common.{◌≡◌, ℕ, zero, suc, ◌≤◌, Bool, true, false, cond, eqb, List, [], ◌∷◌, ◌++◌, length, take, drop, replicate, Option, Some, None, ◌==◌, ◌||◌, ◌&&◌, not, refl, sym, ap, subst, ◌∙◌, arith}
+-- The 16 bytes of an instruction and what is read of them.
+use Rattle.std.proofs.Common.{◌≡◌, ℕ, zero, suc, ◌≤◌, Bool, true, false, eqb, List, [], ◌∷◌, ◌++◌, length, take, drop, replicate, Option, Some, None, ◌==◌, not, refl, sym, ap, subst, ◌∙◌, arith}
 use Rattle.std.specs.Prelude.{slice_index, IfSome}
 use Rattle.std.specs.List.{list_all}
 use Rattle.std.proofs.lemmas.Bool.{and_parts, and_from, eqb-true, eq-eqb}
-use Rattle.std.proofs.lemmas.List.{take_all, length-drop}
+use Rattle.std.proofs.lemmas.List.{take_all, length-take, length-drop}
 use Rattle.zl_code.specs.declared.instr.Instr.TheVariants as instr
 use Rattle.zl_code.specs.declared.image.DecodeFault.{DecodeFault}
 use Rattle.zl_code.specs.declared.image.DecodeFault.TheVariants as faults
-use Rattle.zl_code.specs.Spells.{is_instr_in_range, are_registers, instr_fault, fault_by, fault_if, first_of, Row, row_of, row_bytes, registers_at, number_at, bytes_of, is_unused_zero}
+use Rattle.zl_code.specs.declared.layout.Ending.{Ending}
+use Rattle.zl_code.specs.declared.layout.Ending.TheVariants as ending
+use Rattle.zl_code.specs.Instructions.{Layout, layout_of}
+use Rattle.zl_code.specs.Spells.{Reading, reading_of, is_instr_in_range, are_registers, names_registers, is_ending_clear, is_unused_zero, ending_bytes, row_bytes, seven, instr_fault, fault_by, fault_if, first_of, registers_at, number_at, bytes_of}
 use Rattle.zl_code.proofs.ImageBytes.{IsBytes, bytes_of-number_at, parts_at, list_all-from_IsBytes}
 
 -- numbers of which those from the nth on are 0 are the first n and zeros
@@ -20,69 +23,99 @@ padded (suc j) zero (b ∷ bs) le h =
     rw first (ap (λ (xs : List ℕ). 0 ∷ xs) (padded j zero bs (omega arith) parts.1))
 padded (suc j) (suc n) (b ∷ bs) le h = ap (λ (xs : List ℕ). b ∷ xs) (padded (suc j) n bs (omega arith) h)
 
-used_number : (used : Bool) (v : ℕ) → (used || (v == 0)) ≡ true → cond used v 0 ≡ v
-used_number true v h = refl
-used_number false v h = sym (eqb-true v 0 h)
+-- the last eight bytes are those of their two numbers
+abbrev HasNumbers : Reading → Type 0
+HasNumbers r = bytes_of 4 r.imm ++ bytes_of 4 r.target ≡ r.places
 
--- where the fields that the row doesn't use are 0, nothing is lost
-pub row_bytes-unused : (r : Row) (registers : List ℕ) (imm target : ℕ) → length registers ≡ 7 → is_unused_zero r registers imm target ≡ true
-    → row_bytes r registers imm target ≡ r.opcode ∷ (registers ++ (bytes_of 4 imm ++ bytes_of 4 target))
-row_bytes-unused r registers imm target len h =
-    let zeros = and_parts (list_all (λ b. b == 0) (drop r.registers registers)) ((r.imm || (imm == 0)) && (r.target || (target == 0))) h in
-    let numbers = and_parts (r.imm || (imm == 0)) (r.target || (target == 0)) zeros.1 in
-    let front : take 7 (take r.registers registers ++ replicate 7 0) ≡ registers = ap (λ (k : ℕ). take k (take r.registers registers ++ replicate 7 0)) (sym len) ∙ padded 7 r.registers registers (omega arith) zeros.0 in
-    rw (front, used_number r.imm imm numbers.0, used_number r.target target numbers.1) refl
+-- where what isn't used of the last eight bytes is 0, nothing is lost
+ending_clear : (e : Ending) (r : Reading) → HasNumbers r → is_ending_clear e r ≡ true → ending_bytes e r ≡ r.places
+ending_clear ending.Nothing r same h =
+    let p = and_parts (r.imm == 0) (r.target == 0) h in
+    sym (λ i. bytes_of 4 (eqb-true r.imm 0 p.0 i) ++ bytes_of 4 (eqb-true r.target 0 p.1 i)) ∙ same
+ending_clear ending.Number r same h = sym (ap (λ (n : ℕ). bytes_of 4 r.imm ++ bytes_of 4 n) (eqb-true r.target 0 h)) ∙ same
+ending_clear ending.Room r same h = sym (ap (λ (n : ℕ). bytes_of 4 r.imm ++ bytes_of 4 n) (eqb-true r.target 0 h)) ∙ same
+ending_clear ending.Target r same h = sym (ap (λ (n : ℕ). bytes_of 4 n ++ bytes_of 4 r.target) (eqb-true r.imm 0 h)) ∙ same
+ending_clear ending.Both r same h = same
+ending_clear ending.Handles r same h = refl
 
--- the 16 bytes are those of the fields that are read from them
-pub bytes_are_fields : (bytes : List ℕ) → length bytes ≡ 16 → IsBytes bytes
-    → slice_index bytes 0 ∷ (registers_at bytes ++ (bytes_of 4 (number_at bytes 8 4) ++ bytes_of 4 (number_at bytes 12 4))) ≡ bytes
-bytes_are_fields [] len h = absurd (omega arith)
-bytes_are_fields (b ∷ bs) len h =
-    let bytes : List ℕ = b ∷ bs in
-    let imm : bytes_of 4 (number_at bytes 8 4) ≡ take 4 (drop 7 bs) = bytes_of-number_at bytes 8 4 (omega arith) h in
-    let target : bytes_of 4 (number_at bytes 12 4) ≡ drop 11 bs = bytes_of-number_at bytes 12 4 (omega arith) h ∙ take_all 4 (drop 11 bs) (omega (arith, length-drop 11 bs)) in
-    let numbers : bytes_of 4 (number_at bytes 8 4) ++ bytes_of 4 (number_at bytes 12 4) ≡ drop 7 bs = (λ i. imm i ++ target i) ∙ sym (parts_at 7 4 bs) in
-    ap (λ (rest : List ℕ). b ∷ (take 7 bs ++ rest)) numbers ∙ ap (λ (rest : List ℕ). b ∷ rest) (sym (parts_at 0 7 bs))
+-- where what the layout doesn't use is 0, nothing is lost
+row_bytes-unused : (opcode : ℕ) (l : Layout) (r : Reading) → length r.registers ≡ 7 → HasNumbers r → is_unused_zero l r ≡ true → row_bytes opcode l r ≡ opcode ∷ (r.registers ++ r.places)
+row_bytes-unused opcode l r len same h =
+    let zeros = and_parts (list_all (λ b. b == 0) (drop l.registers r.registers)) (is_ending_clear l.ending r) h in
+    let front : seven (take l.registers r.registers) ≡ r.registers = ap (λ (k : ℕ). take k (take l.registers r.registers ++ replicate 7 0)) (sym len) ∙ padded 7 l.registers r.registers (omega arith) zeros.0 in
+    let behind : ending_bytes l.ending r ≡ r.places = ending_clear l.ending r same zeros.1 in
+    λ i. opcode ∷ (front i ++ behind i)
+
+has_numbers : (bytes : List ℕ) → length bytes ≡ 16 → IsBytes bytes → HasNumbers (reading_of bytes)
+has_numbers bytes len h =
+    let imm : bytes_of 4 (number_at bytes 8 4) ≡ take 4 (drop 8 bytes) = bytes_of-number_at bytes 8 4 (omega arith) h in
+    let target : bytes_of 4 (number_at bytes 12 4) ≡ drop 12 bytes = bytes_of-number_at bytes 12 4 (omega arith) h ∙ take_all 4 (drop 12 bytes) (omega (arith, length-drop 12 bytes)) in
+    (λ i. imm i ++ target i) ∙ sym (parts_at 8 4 bytes)
+
+-- the 16 bytes are those of what is read from them
+bytes_are_read : (bytes : List ℕ) → length bytes ≡ 16 → slice_index bytes 0 ∷ (registers_at bytes ++ drop 8 bytes) ≡ bytes
+bytes_are_read [] len = absurd (omega arith)
+bytes_are_read (b ∷ bs) len = ap (λ (rest : List ℕ). b ∷ rest) (sym (parts_at 0 7 bs))
+
+seven_registers : (bytes : List ℕ) → length bytes ≡ 16 → length (registers_at bytes) ≡ 7
+seven_registers bytes len = omega (arith, length-take 7 (drop 1 bytes), length-drop 1 bytes)
+
+-- the parts of what was read of the 16 bytes
+pub record IsReadFrom (bytes : List ℕ) (r : Reading) : Type 0 where
+  pub registers : r.registers ≡ registers_at bytes
+  pub imm : r.imm ≡ number_at bytes 8 4
+  pub target : r.target ≡ number_at bytes 12 4
+  pub places : r.places ≡ drop 8 bytes
+
+as_read : (bytes : List ℕ) (r : Reading) → IsReadFrom bytes r → r ≡ reading_of bytes
+as_read bytes r e = λ i. record { registers = e.registers i; imm = e.imm i; target = e.target i; places = e.places i }
+
+-- an instruction that has the fields that were read has the bytes
+pub row_bytes-read : (bytes : List ℕ) (opcode : ℕ) (l : Layout) (r : Reading) (spelled : List ℕ) → length bytes ≡ 16 → IsBytes bytes → opcode ≡ slice_index bytes 0
+    → IsReadFrom bytes r → is_unused_zero l r ≡ true → spelled ≡ row_bytes opcode l r → spelled ≡ bytes
+row_bytes-read bytes opcode l r spelled len fits first from unused e =
+    let read = as_read bytes r from in
+    let clear : is_unused_zero l (reading_of bytes) ≡ true = sym (ap (is_unused_zero l) read) ∙ unused in
+    e ∙ (λ i. row_bytes (first i) l (read i)) ∙ row_bytes-unused (slice_index bytes 0) l (reading_of bytes) (seven_registers bytes len) (has_numbers bytes len fits) clear ∙ bytes_are_read bytes len
 
 -- ---- faults
 
-pub instr_fault-unknown : (raw : Bool) (bytes : List ℕ) → row_of (slice_index bytes 0) ≡ None → instr_fault raw bytes ≡ fault_if (not raw) faults.UnknownOp
+pub instr_fault-unknown : (raw : Bool) (bytes : List ℕ) → layout_of (slice_index bytes 0) ≡ None → instr_fault raw bytes ≡ fault_if (not raw) faults.UnknownOp
 unfolding instr_fault
-instr_fault-unknown raw bytes h = ap (fault_by raw bytes) h
+instr_fault-unknown raw bytes h = ap (fault_by raw (reading_of bytes)) h
 
-pub instr_fault-register : (raw : Bool) (bytes : List ℕ) (r : Row) → row_of (slice_index bytes 0) ≡ Some r → are_registers (registers_at bytes) ≡ false → instr_fault raw bytes ≡ Some faults.BadRegister
+-- registers that aren't there, in their fields or in the last eight bytes
+pub instr_fault-register : (raw : Bool) (bytes : List ℕ) (l : Layout) → layout_of (slice_index bytes 0) ≡ Some l → are_registers (registers_at bytes) ≡ false → instr_fault raw bytes ≡ Some faults.BadRegister
 unfolding instr_fault
-instr_fault-register raw bytes r h bad = ap (fault_by raw bytes) h ∙ rw bad refl
+instr_fault-register raw bytes l h bad = ap (fault_by raw (reading_of bytes)) h ∙ rw bad refl
 
--- the fields that a reader took from the 16 bytes
-pub record AreFieldsOf (bytes rs : List ℕ) (i t : ℕ) : Type 0 where
-  pub registers : rs ≡ registers_at bytes
-  pub imm : i ≡ number_at bytes 8 4
-  pub target : t ≡ number_at bytes 12 4
+pub instr_fault-named : (raw : Bool) (bytes : List ℕ) (l : Layout) (r : Reading) → layout_of (slice_index bytes 0) ≡ Some l → are_registers (registers_at bytes) ≡ true
+    → IsReadFrom bytes r → names_registers l.ending r ≡ false → instr_fault raw bytes ≡ Some faults.BadRegister
+unfolding instr_fault
+instr_fault-named raw bytes l r h good from bad =
+    let read = as_read bytes r from in
+    let missing : names_registers l.ending (reading_of bytes) ≡ false = sym (ap (names_registers l.ending) read) ∙ bad in
+    ap (fault_by raw (reading_of bytes)) h ∙ rw (good, missing) refl
 
 -- with registers in their range, a fault is a set field that isn't used
-pub instr_fault-known : (raw : Bool) (bytes : List ℕ) (r : Row) (registers : List ℕ) (imm target : ℕ) (unused : Bool) → row_of (slice_index bytes 0) ≡ Some r → are_registers (registers_at bytes) ≡ true
-    → AreFieldsOf bytes registers imm target → is_unused_zero r registers imm target ≡ unused → instr_fault raw bytes ≡ fault_if (not unused) faults.UnusedField
+pub instr_fault-known : (raw : Bool) (bytes : List ℕ) (l : Layout) (r : Reading) (unused : Bool) → layout_of (slice_index bytes 0) ≡ Some l → are_registers (registers_at bytes) ≡ true
+    → IsReadFrom bytes r → names_registers l.ending r ≡ true → is_unused_zero l r ≡ unused → instr_fault raw bytes ≡ fault_if (not unused) faults.UnusedField
 unfolding instr_fault
-instr_fault-known raw bytes r registers imm target unused h good read e =
-    let same : is_unused_zero r (registers_at bytes) (number_at bytes 8 4) (number_at bytes 12 4) ≡ unused = sym (λ i. is_unused_zero r (read.registers i) (read.imm i) (read.target i)) ∙ e in
-    ap (fault_by raw bytes) h ∙ rw (good, same) (only (fault_if (not unused) faults.UnusedField))
+instr_fault-known raw bytes l r unused h good from named e =
+    let read = as_read bytes r from in
+    let there : names_registers l.ending (reading_of bytes) ≡ true = sym (ap (names_registers l.ending) read) ∙ named in
+    let same : is_unused_zero l (reading_of bytes) ≡ unused = sym (ap (is_unused_zero l) read) ∙ e in
+    ap (fault_by raw (reading_of bytes)) h ∙ rw (good, there, same) (only (fault_if (not unused) faults.UnusedField))
   where
     only : (f : Option DecodeFault) → first_of (f ∷ []) ≡ f
     only None = refl
     only (Some f) = refl
-
--- an instruction that has the fields that were read has the bytes
-pub row_bytes-read : (bytes : List ℕ) (r : Row) (registers : List ℕ) (imm target : ℕ) (spelled : List ℕ) → length bytes ≡ 16 → IsBytes bytes → r.opcode ≡ slice_index bytes 0 → length registers ≡ 7
-    → AreFieldsOf bytes registers imm target → is_unused_zero r registers imm target ≡ true → spelled ≡ row_bytes r registers imm target → spelled ≡ bytes
-row_bytes-read bytes r registers imm target spelled len fits opcode seven read unused e =
-    e ∙ row_bytes-unused r registers imm target seven unused ∙ (λ i. opcode i ∷ (read.registers i ++ (bytes_of 4 (read.imm i) ++ bytes_of 4 (read.target i)))) ∙ bytes_are_fields bytes len fits
 
 pub IfSome-at : {A : Type 0} (o : Option A) (P : A → Type 0) (x : A) → o ≡ Some x → IfSome o P → P x
 IfSome-at None P x e h = absurd cc
 IfSome-at (Some y) P x e h = let same : y ≡ x = cc in subst P same h
 
 -- bytes of an unknown opcode are in range under the raw mark
-pub unknown_in_range : (raw : Bool) (bytes : List ℕ) → raw ≡ true → length bytes ≡ 16 → IsBytes bytes → row_of (slice_index bytes 0) ≡ None → is_instr_in_range raw (instr.Unknown bytes) ≡ true
+pub unknown_in_range : (raw : Bool) (bytes : List ℕ) → raw ≡ true → length bytes ≡ 16 → IsBytes bytes → layout_of (slice_index bytes 0) ≡ None → is_instr_in_range raw (instr.Unknown bytes) ≡ true
 unknown_in_range raw bytes marked len fits unknown =
     and_from _ _ marked (and_from _ _ (eq-eqb (length bytes) 16 len) (and_from _ _ (list_all-from_IsBytes bytes fits) (rw unknown refl)))

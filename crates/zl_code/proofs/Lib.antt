@@ -4,9 +4,15 @@ pub mod Stored
 pub mod RowsFaults
 pub mod RowsCalls
 pub mod RowsRuns
+pub mod RowsImages
+pub mod RowsAsked
+pub mod RowsLocal
 pub mod Stepping
 pub mod NotReused
 pub mod ImageBytes
+pub mod ImagePieces
+pub mod ImageDeclared
+pub mod ImageNeeds
 pub mod ImageInstr
 pub mod ImageWhole
 pub mod ImageCode

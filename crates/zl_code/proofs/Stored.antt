@@ -14,7 +14,7 @@ use Rattle.zl_code.specs.declared.history.Outcome.TheVariants as outcome
 use Rattle.zl_code.specs.declared.history.TraceItem.{TraceItem}
 use Rattle.zl_code.specs.declared.history.TraceItem.TheVariants as item
 use Rattle.zl_code.specs.Image.{Image, Library}
-use Rattle.zl_code.specs.Spells.{Spells}
+use Rattle.zl_code.specs.Spells.{Spells, local_parts, call_parts}
 use Rattle.zl_code.specs.Calls.{Choice, Refused, Values}
 use Rattle.zl_code.specs.Steps.{IsLegalHistory}
 use Rattle.zl_code.specs.Boot.{IsBoot, boot_fault, boot_effect, origin}
@@ -57,6 +57,7 @@ image = record {
 
 -- The 148 bytes are those of the image of eight instructions.
 bytes_spell_image : Spells bytes image
+unfolding local_parts call_parts
 bytes_spell_image = record { same = refl; in_range = refl }
 
 -- ---- its run

@@ -1,22 +1,16 @@
 -- Images, programs and libraries.
-use Rattle.std.specs.Prelude.{ℕ, Bool, List, Option, Some, None, slice_get}
-use Rattle.zl_rights.specs.declared.kind.Kind.{Kind}
+use Rattle.std.specs.Prelude.{ℕ, Bool, true, false, ◌==◌, List, [], ◌∷◌, Option, Some, None, slice_get}
+use Rattle.std.specs.List.{list_any}
 use Rattle.zl_rights.specs.declared.policy.Condition.{Condition}
+use Rattle.zl_rights.specs.declared.policy.Condition.TheVariants as condition
+use Rattle.zl_rights.specs.Numbers.{condition_number}
+use Rattle.zl_code.specs.declared.image.Start.{Start}
+use Rattle.zl_code.specs.declared.image.SlotArray.{SlotArray}
+use Rattle.zl_code.specs.declared.image.Needs.{Needs}
 use Rattle.zl_code.specs.declared.instr.Instr.{Instr}
 use Rattle.zl_code.specs.declared.instr.Instr.TheVariants as instr
 use Rattle.zl_code.specs.declared.instr.LocalInstr.{LocalInstr}
 use Rattle.zl_code.specs.declared.instr.CallInstr.{CallInstr}
-
--- a declared start handle; no kind is any kind
-pub record Start : Type 0 where
-  pub kind : Option Kind
-  pub rights : ℕ
-
--- a declared slot array; no kind is any kind
-pub record SlotArray : Type 0 where
-  pub kind : Option Kind
-  pub length : ℕ
-  pub rights : ℕ
 
 pub record Image : Type 0 where
   -- unknown opcodes may stand
@@ -24,7 +18,9 @@ pub record Image : Type 0 where
   -- bytes of data memory
   pub memory : ℕ
   pub budget : ℕ
+  -- what its processes have to be allowed to make
   pub needs : List Condition
+  -- the handles that a process starts with
   pub starts : List Start
   pub slots : List SlotArray
   pub code : List Instr
@@ -36,6 +32,19 @@ pub record Program : Type 0 where
 -- programs by their numbers
 abbrev pub Library : Type 0
 Library = List Program
+
+-- the condition is among the needs
+abbrev pub is_among : List Condition → Condition → Bool
+is_among needs c = list_any (λ x. condition_number x == condition_number c) needs
+
+abbrev pub need_if : Bool → Condition → List Condition → List Condition
+need_if true c rest = c ∷ rest
+need_if false c rest = rest
+
+-- the needs that these flags stand for, in the order of their numbers
+abbrev pub needs_value : Needs → List Condition
+needs_value n =
+    need_if n.channel condition.NewChannel (need_if n.event condition.NewEvent (need_if n.port condition.NewPort (need_if n.process condition.NewProcess [])))
 
 -- the n-th instruction, and the same if it is a local one or a call
 abbrev pub instr_at : Image → ℕ → Option Instr

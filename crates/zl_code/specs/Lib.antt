@@ -1,7 +1,10 @@
 pub mod Image
+pub mod Instructions
 pub mod Spells
+pub mod Fields
 pub mod Local
 pub mod Request
+pub mod Asked
 pub mod Tests
 pub mod Refusals
 pub mod Effects

@@ -1,19 +1,26 @@
 -- The image grammar: the bytes of an image, field by field, and the first fault of bytes that are no image's.
 use Rattle.std.specs.Prelude.{ℕ, zero, suc, ◌≡◌, ◌+◌, ◌*◌, ◌/◌, ◌%◌, Bool, true, false, ◌&&◌, ◌||◌, not, ◌==◌, nat_lt, nat_le, List, [], ◌∷◌, ◌++◌, map, take, drop, replicate, length, slice_index, Option, Some, None, is_some, if◌then◌else◌, IsTrue}
-use Rattle.std.specs.List.{flat_map, list_all, list_any, starts_with}
+use Rattle.std.specs.Option.{option_map}
+use Rattle.std.specs.List.{flat_map, list_all, starts_with}
 use Rattle.zl_rights.specs.declared.kind.Kind.{Kind}
+use Rattle.zl_rights.specs.declared.kind.Kind.TheVariants as kind
 use Rattle.zl_rights.specs.declared.policy.Condition.{Condition}
 use Rattle.zl_rights.specs.declared.policy.Condition.TheVariants as condition
-use Rattle.zl_rights.specs.Numbers.{kind_number, default_rights_of, condition_number, KNOWN_RIGHTS}
+use Rattle.zl_rights.specs.Numbers.{bits, within, kind_number, default_rights_of, condition_number, KNOWN_RIGHTS}
 use Rattle.zl_code.specs.declared.image.DecodeFault.{DecodeFault}
 use Rattle.zl_code.specs.declared.image.DecodeFault.TheVariants as fault
+use Rattle.zl_code.specs.declared.image.Start.{Start}
+use Rattle.zl_code.specs.declared.image.SlotArray.{SlotArray}
+use Rattle.zl_code.specs.declared.layout.Ending.{Ending}
+use Rattle.zl_code.specs.declared.layout.Ending.TheVariants as ending
 use Rattle.zl_code.specs.declared.instr.Instr.{Instr}
 use Rattle.zl_code.specs.declared.instr.Instr.TheVariants as instr
 use Rattle.zl_code.specs.declared.instr.LocalInstr.{LocalInstr}
 use Rattle.zl_code.specs.declared.instr.LocalInstr.TheVariants as local
 use Rattle.zl_code.specs.declared.instr.CallInstr.{CallInstr}
 use Rattle.zl_code.specs.declared.instr.CallInstr.TheVariants as call
-use Rattle.zl_code.specs.Image.{Image, Start, SlotArray}
+use Rattle.zl_code.specs.Image.{Image, is_among}
+use Rattle.zl_code.specs.Instructions.{Layout, layout_of}
 
 -- ---- numbers as bytes
 
@@ -27,55 +34,98 @@ abbrev pub bytes_of : ℕ → ℕ → List ℕ
 bytes_of zero v = []
 bytes_of (suc n) v = v % 256 ∷ bytes_of n (v / 256)
 
--- ---- the table of instructions
+-- ---- the parts of an instruction
 
--- Which fields an instruction uses: so many registers, from the first on, and whether imm and target.
-pub record Row : Type 0 where
+-- what stands in the last eight bytes: a number with a target, the room in handles, or a list of handles
+pub data Last : Type 0 where
+  Numbers : (imm target : ℕ) → Last
+  Room : (handles : ℕ) → Last
+  Places : (places : List ℕ) → Last
+
+pub record Parts : Type 0 where
   pub opcode : ℕ
-  pub registers : ℕ
-  pub imm : Bool
-  pub target : Bool
+  -- the registers that are used, from the first on
+  pub registers : List ℕ
+  pub last : Last
 
-abbrev pub row : ℕ → ℕ → Bool → Bool → Row
-row opcode registers imm target = record { opcode = opcode; registers = registers; imm = imm; target = target }
+abbrev pub parts : ℕ → List ℕ → ℕ → ℕ → Parts
+parts opcode registers imm target = record { opcode = opcode; registers = registers; last = Numbers imm target }
 
-abbrev pub rows : List Row
-rows =
-    row 1 1 true false  -- const
-    ∷ row 64 2 false false  -- close
-    ∷ row 65 3 true false  -- dup
-    ∷ row 70 2 false false  -- event_create
-    ∷ row 71 4 false false  -- signal
-    ∷ row 83 1 false false  -- process_exit
-    ∷ []
+unfoldable pub local_parts : LocalInstr → Parts
+local_parts (local.Const a imm) = parts 1 (a ∷ []) imm 0
+local_parts (local.Move a b) = parts 2 (a ∷ b ∷ []) 0 0
+local_parts (local.Add a b c) = parts 3 (a ∷ b ∷ c ∷ []) 0 0
+local_parts (local.AddNumber a b imm) = parts 4 (a ∷ b ∷ []) imm 0
+local_parts (local.Subtract a b c) = parts 5 (a ∷ b ∷ c ∷ []) 0 0
+local_parts (local.And a b c) = parts 6 (a ∷ b ∷ c ∷ []) 0 0
+local_parts (local.Or a b c) = parts 7 (a ∷ b ∷ c ∷ []) 0 0
+local_parts (local.Xor a b c) = parts 8 (a ∷ b ∷ c ∷ []) 0 0
+local_parts (local.ShiftLeft a b imm) = parts 9 (a ∷ b ∷ []) imm 0
+local_parts (local.ShiftRight a b imm) = parts 10 (a ∷ b ∷ []) imm 0
+local_parts (local.Take a b) = parts 11 (a ∷ b ∷ []) 0 0
+local_parts (local.Swap a b imm) = parts 12 (a ∷ b ∷ []) imm 0
+local_parts (local.LoadByte a b imm) = parts 13 (a ∷ b ∷ []) imm 0
+local_parts (local.LoadWord a b imm) = parts 14 (a ∷ b ∷ []) imm 0
+local_parts (local.StoreByte a b imm) = parts 15 (a ∷ b ∷ []) imm 0
+local_parts (local.StoreWord a b imm) = parts 16 (a ∷ b ∷ []) imm 0
+local_parts (local.Jump target) = parts 17 [] 0 target
+local_parts (local.JumpZero a target) = parts 18 (a ∷ []) 0 target
+local_parts (local.JumpNotZero a target) = parts 19 (a ∷ []) 0 target
+local_parts (local.JumpEqual a imm target) = parts 20 (a ∷ []) imm target
+local_parts (local.JumpNotEqual a imm target) = parts 21 (a ∷ []) imm target
+local_parts (local.JumpBelow a imm target) = parts 22 (a ∷ []) imm target
+local_parts (local.JumpNotBelow a imm target) = parts 23 (a ∷ []) imm target
+local_parts (local.JumpHas a imm target) = parts 24 (a ∷ []) imm target
+local_parts (local.JumpHasNot a imm target) = parts 25 (a ∷ []) imm target
 
-abbrev pub row_among : List Row → ℕ → Option Row
-row_among [] opcode = None
-row_among (r ∷ rs) opcode = if r.opcode == opcode then Some r else row_among rs opcode
+unfoldable pub call_parts : CallInstr → Parts
+call_parts (call.Close a b) = parts 64 (a ∷ b ∷ []) 0 0
+call_parts (call.Dup a b c imm) = parts 65 (a ∷ b ∷ c ∷ []) imm 0
+call_parts (call.Replace a b c imm) = parts 66 (a ∷ b ∷ c ∷ []) imm 0
+call_parts (call.ChanCreate a b c) = parts 67 (a ∷ b ∷ c ∷ []) 0 0
+call_parts (call.ChanWrite a b c d hs) = record { opcode = 68; registers = a ∷ b ∷ c ∷ d ∷ []; last = Places hs.places }
+call_parts (call.ChanReadEtc a b c d e f g imm) = record { opcode = 69; registers = a ∷ b ∷ c ∷ d ∷ e ∷ f ∷ g ∷ []; last = Room imm }
+call_parts (call.EventCreate a b) = parts 70 (a ∷ b ∷ []) 0 0
+call_parts (call.Signal a b c d) = parts 71 (a ∷ b ∷ c ∷ d ∷ []) 0 0
+call_parts (call.SignalPeer a b c d) = parts 72 (a ∷ b ∷ c ∷ d ∷ []) 0 0
+call_parts (call.WaitOne a b c d) = parts 73 (a ∷ b ∷ c ∷ d ∷ []) 0 0
+call_parts (call.WaitPoll a b c d) = parts 74 (a ∷ b ∷ c ∷ d ∷ []) 0 0
+call_parts (call.WaitAsync a b c d e) = parts 75 (a ∷ b ∷ c ∷ d ∷ e ∷ []) 0 0
+call_parts (call.PortCreate a b) = parts 76 (a ∷ b ∷ []) 0 0
+call_parts (call.PortQueue a b c d) = parts 77 (a ∷ b ∷ c ∷ d ∷ []) 0 0
+call_parts (call.PortWait a b c d e f) = parts 78 (a ∷ b ∷ c ∷ d ∷ e ∷ f ∷ []) 0 0
+call_parts (call.PortPoll a b c d e f) = parts 79 (a ∷ b ∷ c ∷ d ∷ e ∷ f ∷ []) 0 0
+call_parts (call.PortCancel a b c d) = parts 80 (a ∷ b ∷ c ∷ d ∷ []) 0 0
+call_parts (call.ProcessCreate a b c d) = parts 81 (a ∷ b ∷ c ∷ d ∷ []) 0 0
+call_parts (call.ProcessStart a b c d) = parts 82 (a ∷ b ∷ c ∷ d ∷ []) 0 0
+call_parts (call.ProcessExit a) = parts 83 (a ∷ []) 0 0
+call_parts (call.TaskKill a b) = parts 84 (a ∷ b ∷ []) 0 0
+call_parts (call.JobCreate a b c) = parts 85 (a ∷ b ∷ c ∷ []) 0 0
+call_parts (call.JobSetPolicy a b c d e) = parts 86 (a ∷ b ∷ c ∷ d ∷ e ∷ []) 0 0
 
--- the row of the opcode, if it is known
-unfoldable pub row_of : ℕ → Option Row
-row_of opcode = row_among rows opcode
+-- ---- the bytes of an instruction
 
--- ---- one instruction
+-- the seven registers, 0 where none is used
+abbrev pub seven : List ℕ → List ℕ
+seven registers = take 7 (registers ++ replicate 7 0)
 
 -- opcode, seven registers, imm, target
 abbrev pub fields : ℕ → List ℕ → ℕ → ℕ → List ℕ
-fields opcode registers imm target = opcode ∷ (take 7 (registers ++ replicate 7 0) ++ (bytes_of 4 imm ++ bytes_of 4 target))
+fields opcode registers imm target = opcode ∷ (seven registers ++ (bytes_of 4 imm ++ bytes_of 4 target))
 
--- the bytes of an instruction of the row, with 0 for the fields that it doesn't use
-abbrev pub row_bytes : Row → List ℕ → ℕ → ℕ → List ℕ
-row_bytes r registers imm target = fields r.opcode (take r.registers registers) (if r.imm then imm else 0) (if r.target then target else 0)
+abbrev pub last_bytes : Last → List ℕ
+last_bytes (Numbers imm target) = bytes_of 4 imm ++ bytes_of 4 target
+last_bytes (Room handles) = bytes_of 4 handles ++ bytes_of 4 0
+last_bytes (Places places) = places
+
+abbrev pub parts_bytes : Parts → List ℕ
+parts_bytes p = p.opcode ∷ (seven p.registers ++ last_bytes p.last)
 
 abbrev pub local_bytes : LocalInstr → List ℕ
-local_bytes (local.Const a imm) = fields 1 (a ∷ []) imm 0
+local_bytes i = parts_bytes (local_parts i)
 
 abbrev pub call_bytes : CallInstr → List ℕ
-call_bytes (call.Close a b) = fields 64 (a ∷ b ∷ []) 0 0
-call_bytes (call.Dup a b c imm) = fields 65 (a ∷ b ∷ c ∷ []) imm 0
-call_bytes (call.EventCreate a b) = fields 70 (a ∷ b ∷ []) 0 0
-call_bytes (call.Signal a b c d) = fields 71 (a ∷ b ∷ c ∷ d ∷ []) 0 0
-call_bytes (call.ProcessExit a) = fields 83 (a ∷ []) 0 0
+call_bytes i = parts_bytes (call_parts i)
 
 -- the 16 bytes of an instruction
 abbrev pub instr_bytes : Instr → List ℕ
@@ -83,47 +133,95 @@ instr_bytes (instr.Local i) = local_bytes i
 instr_bytes (instr.Call i) = call_bytes i
 instr_bytes (instr.Unknown bytes) = bytes
 
+-- ---- the ranges of an instruction
+
 abbrev pub are_registers : List ℕ → Bool
 are_registers rs = list_all (λ r. nat_lt r 32) rs
 
 abbrev pub is_word : ℕ → Bool
 is_word n = nat_lt n 4294967296
 
+-- room for n handles in triples of registers, from the register first on
+abbrev pub is_room : ℕ → ℕ → Bool
+is_room first n = nat_le n 8 && nat_le (first + 3 * n) 32
+
+-- each byte is a register, or ff for none
+abbrev pub are_places : List ℕ → Bool
+are_places places = list_all (λ b. nat_lt b 32 || (b == 0xff)) places
+
+-- no register stands after an ff
+abbrev pub is_packed : List ℕ → Bool
+is_packed [] = true
+is_packed (b ∷ bs) = if b == 0xff then list_all (λ x. x == 0xff) bs else is_packed bs
+
+-- the register of a place, if one stands there
+abbrev pub register_in : Option ℕ → Option ℕ
+register_in None = None
+register_in (Some b) = if nat_lt b 32 then Some b else None
+
+abbrev pub is_last_in_range : List ℕ → Last → Bool
+is_last_in_range registers (Numbers imm target) = is_word imm && is_word target
+is_last_in_range registers (Room handles) = is_room (slice_index registers 6) handles
+is_last_in_range registers (Places places) = (length places == 8) && (are_places places && is_packed places)
+
+abbrev pub are_parts_in_range : Parts → Bool
+are_parts_in_range p = is_last_in_range p.registers p.last && are_registers p.registers
+
 abbrev pub is_local_in_range : LocalInstr → Bool
-is_local_in_range (local.Const a imm) = are_registers (a ∷ []) && is_word imm
+is_local_in_range i = are_parts_in_range (local_parts i)
 
 abbrev pub is_call_in_range : CallInstr → Bool
-is_call_in_range (call.Close a b) = are_registers (a ∷ b ∷ [])
-is_call_in_range (call.Dup a b c imm) = are_registers (a ∷ b ∷ c ∷ []) && is_word imm
-is_call_in_range (call.EventCreate a b) = are_registers (a ∷ b ∷ [])
-is_call_in_range (call.Signal a b c d) = are_registers (a ∷ b ∷ c ∷ d ∷ [])
-is_call_in_range (call.ProcessExit a) = are_registers (a ∷ [])
+is_call_in_range i = are_parts_in_range (call_parts i)
 
 -- the fields of the instruction are in their ranges; an unknown opcode stands under the raw mark alone
 abbrev pub is_instr_in_range : Bool → Instr → Bool
 is_instr_in_range raw (instr.Local i) = is_local_in_range i
 is_instr_in_range raw (instr.Call i) = is_call_in_range i
 is_instr_in_range raw (instr.Unknown bytes) =
-    raw && ((length bytes == 16) && (list_all (λ b. nat_lt b 256) bytes && not (is_some (row_of (slice_index bytes 0)))))
+    raw && ((length bytes == 16) && (list_all (λ b. nat_lt b 256) bytes && not (is_some (layout_of (slice_index bytes 0)))))
 
--- ---- an image
+-- ---- declarations
 
 abbrev pub kind_byte : Option Kind → ℕ
 kind_byte None = 0
 kind_byte (Some k) = kind_number k
 
-abbrev pub start_bytes : Start → List ℕ
-start_bytes s = kind_byte s.kind ∷ 0 ∷ 0 ∷ 0 ∷ bytes_of 4 s.rights
+-- the rights that a declaration of the kind may name
+abbrev pub rights_allowed : Option Kind → ℕ
+rights_allowed None = KNOWN_RIGHTS
+rights_allowed (Some k) = default_rights_of k
 
+-- kind, three bytes 0, rights
+abbrev pub start_bytes : Start → List ℕ
+start_bytes s = kind_byte s.kind ∷ 0 ∷ 0 ∷ 0 ∷ bytes_of 4 (bits s.rights)
+
+-- kind, a byte 0, length, rights
 abbrev pub slot_bytes : SlotArray → List ℕ
-slot_bytes s = kind_byte s.kind ∷ 0 ∷ (bytes_of 2 s.length ++ bytes_of 4 s.rights)
+slot_bytes s = kind_byte s.kind ∷ 0 ∷ (bytes_of 2 s.length ++ bytes_of 4 (bits s.rights))
+
+abbrev pub is_start_in_range : Start → Bool
+is_start_in_range s = within (bits s.rights) (rights_allowed s.kind)
+
+abbrev pub is_slot_in_range : SlotArray → Bool
+is_slot_in_range s = nat_lt 0 s.length && (nat_le s.length 256 && within (bits s.rights) (rights_allowed s.kind))
 
 abbrev pub bit_if : List Condition → Condition → ℕ → ℕ
-bit_if needs c bit = if list_any (λ x. condition_number x == condition_number c) needs then bit else 0
+bit_if needs c bit = if is_among needs c then bit else 0
 
 abbrev pub needs_byte : List Condition → ℕ
 needs_byte needs =
     bit_if needs condition.NewChannel 1 + (bit_if needs condition.NewEvent 2 + (bit_if needs condition.NewPort 8 + bit_if needs condition.NewProcess 16))
+
+-- the numbers are above n, and each is above the one before
+abbrev pub ascend_from : ℕ → List ℕ → Bool
+ascend_from n [] = true
+ascend_from n (x ∷ xs) = nat_lt n x && ascend_from x xs
+
+-- needs are conditions of making an object of one kind, in the order of their numbers, each once
+abbrev pub are_needs : List Condition → Bool
+are_needs needs = ascend_from 2 (map condition_number needs)
+
+-- ---- an image
 
 -- 5a 4c 41 42
 abbrev pub magic : List ℕ
@@ -143,22 +241,19 @@ header i =
 abbrev pub spelling : Image → List ℕ
 spelling i = header i ++ (flat_map start_bytes i.starts ++ (flat_map slot_bytes i.slots ++ flat_map instr_bytes i.code))
 
--- the rights that a declaration of the kind may name
-abbrev pub rights_allowed : Option Kind → ℕ
-rights_allowed None = KNOWN_RIGHTS
-rights_allowed (Some k) = default_rights_of k
-
--- Each field is in its range. Declarations of needs, start handles and slot arrays aren't taken yet.
+-- each field is in its range
 abbrev pub is_in_range : Image → Bool
 is_in_range i =
     nat_le (length i.code) 4096
     && (nat_le i.memory 65536
     && (nat_lt 0 i.budget
     && (nat_le i.budget 1000000
-    && ((length i.needs == 0)
-    && ((length i.starts == 0)
-    && ((length i.slots == 0)
-    && list_all (is_instr_in_range i.raw) i.code))))))
+    && (are_needs i.needs
+    && (nat_le (length i.starts) 7
+    && (nat_le (length i.slots) 8
+    && (list_all is_start_in_range i.starts
+    && (list_all is_slot_in_range i.slots
+    && list_all (is_instr_in_range i.raw) i.code))))))))
 
 -- the bytes are those of the image
 pub record Spells (bytes : List ℕ) (i : Image) : Type 0 where
@@ -181,13 +276,23 @@ first_of (Some f ∷ rest) = Some f
 abbrev pub number_at : List ℕ → ℕ → ℕ → ℕ
 number_at bytes offset n = number_of (take n (drop offset bytes))
 
--- how many instructions the header says that there are
+-- how many instructions, start handles and slot arrays the header says that there are
 abbrev pub count_at : List ℕ → ℕ
 count_at bytes = number_at bytes 6 2
+
+abbrev pub starts_at : List ℕ → ℕ
+starts_at bytes = slice_index bytes 17
+
+abbrev pub slots_at : List ℕ → ℕ
+slots_at bytes = slice_index bytes 18
 
 -- whether the bytes have the raw mark
 abbrev pub is_raw_at : List ℕ → Bool
 is_raw_at bytes = slice_index bytes 5 == 1
+
+-- no bit but 0, 1, 3 and 4
+abbrev pub is_needs_byte : ℕ → Bool
+is_needs_byte b = nat_lt b 32 && (b / 4 % 2 == 0)
 
 -- the fields of the header from offset 5 on are in their ranges
 abbrev pub is_header_in_range : List ℕ → Bool
@@ -197,32 +302,14 @@ is_header_in_range bytes =
     && (nat_le (number_at bytes 8 4) 65536
     && (nat_lt 0 (number_at bytes 12 4)
     && (nat_le (number_at bytes 12 4) 1000000
-    && list_all (λ b. b == 0) (take 4 (drop 16 bytes))))))
+    && (is_needs_byte (slice_index bytes 16)
+    && (nat_le (starts_at bytes) 7
+    && (nat_le (slots_at bytes) 8
+    && (slice_index bytes 19 == 0))))))))
 
--- the n pieces of 16 bytes
-unfoldable pub pieces : ℕ → List ℕ → List (List ℕ)
-pieces zero bytes = []
-pieces (suc n) bytes = take 16 bytes ∷ pieces n (drop 16 bytes)
-
--- the seven registers in the 16 bytes of an instruction
-abbrev pub registers_at : List ℕ → List ℕ
-registers_at bytes = take 7 (drop 1 bytes)
-
--- of seven registers, imm and target, those that the row doesn't use are 0
-abbrev pub is_unused_zero : Row → List ℕ → ℕ → ℕ → Bool
-is_unused_zero r registers imm target =
-    list_all (λ b. b == 0) (drop r.registers registers) && ((r.imm || (imm == 0)) && (r.target || (target == 0)))
-
-abbrev pub fault_by : Bool → List ℕ → Option Row → Option DecodeFault
-fault_by raw bytes None = fault_if (not raw) fault.UnknownOp
-fault_by raw bytes (Some r) = first_of (
-    fault_if (not (are_registers (registers_at bytes))) fault.BadRegister
-    ∷ fault_if (not (is_unused_zero r (registers_at bytes) (number_at bytes 8 4) (number_at bytes 12 4))) fault.UnusedField
-    ∷ [])
-
--- the fault of the 16 bytes of an instruction
-unfoldable pub instr_fault : Bool → List ℕ → Option DecodeFault
-instr_fault raw bytes = fault_by raw bytes (row_of (slice_index bytes 0))
+-- how many bytes the header says that there are
+abbrev pub length_at : List ℕ → ℕ
+length_at bytes = 20 + 8 * starts_at bytes + 8 * slots_at bytes + 16 * count_at bytes
 
 -- the first fault of the header, or a length that isn't what the header says
 unfoldable pub header_fault : List ℕ → Option DecodeFault
@@ -231,9 +318,118 @@ header_fault bytes = first_of (
     ∷ fault_if (not (starts_with ◌==◌ bytes magic)) fault.Magic
     ∷ fault_if (not (slice_index bytes 4 == 1)) fault.Version
     ∷ fault_if (not (is_header_in_range bytes)) fault.BadHeader
-    ∷ fault_if (not (length bytes == 20 + 16 * count_at bytes)) fault.Length
+    ∷ fault_if (not (length bytes == length_at bytes)) fault.Length
     ∷ [])
+
+-- ---- the fault of a declaration
+
+abbrev pub kind_among : List Kind → ℕ → Option Kind
+kind_among [] n = None
+kind_among (k ∷ ks) n = if kind_number k == n then Some k else kind_among ks n
+
+-- the kind of the byte, where 0 is any, or nothing where the byte is no kind's
+abbrev pub kind_at : ℕ → Option (Option Kind)
+kind_at b = if b == 0 then Some None else option_map Some (kind_among (kind.Process ∷ kind.Channel ∷ kind.Event ∷ kind.Port ∷ kind.Job ∷ []) b)
+
+abbrev pub allows : Option (Option Kind) → ℕ → Bool
+allows None rights = false
+allows (Some k) rights = within rights (rights_allowed k)
+
+-- a kind in the first of the 8 bytes, and in the last four rights that it allows
+abbrev pub has_rights : List ℕ → Bool
+has_rights bytes = allows (kind_at (slice_index bytes 0)) (number_at bytes 4 4)
+
+-- the fault of the 8 bytes of a start handle
+unfoldable pub start_fault : List ℕ → Option DecodeFault
+start_fault bytes = fault_if (not (list_all (λ b. b == 0) (take 3 (drop 1 bytes)) && has_rights bytes)) fault.BadHeader
+
+-- a byte 0, and behind it the length of a slot array
+abbrev pub has_length : List ℕ → Bool
+has_length bytes = (slice_index bytes 1 == 0) && (nat_lt 0 (number_at bytes 2 2) && nat_le (number_at bytes 2 2) 256)
+
+-- the fault of the 8 bytes of a slot array
+unfoldable pub slot_fault : List ℕ → Option DecodeFault
+slot_fault bytes = fault_if (not (has_length bytes && has_rights bytes)) fault.BadHeader
+
+-- ---- the fault of an instruction
+
+-- the seven registers in the 16 bytes of an instruction
+abbrev pub registers_at : List ℕ → List ℕ
+registers_at bytes = take 7 (drop 1 bytes)
+
+-- what is read of the 16 bytes of an instruction behind its opcode
+pub record Reading : Type 0 where
+  pub registers : List ℕ
+  pub imm : ℕ
+  pub target : ℕ
+  pub places : List ℕ
+
+abbrev pub reading_of : List ℕ → Reading
+reading_of bytes = record { registers = registers_at bytes; imm = number_at bytes 8 4; target = number_at bytes 12 4; places = drop 8 bytes }
+
+-- each register that the last eight bytes name is there
+abbrev pub names_registers : Ending → Reading → Bool
+names_registers ending.Room r = is_room (slice_index r.registers 6) r.imm
+names_registers ending.Handles r = are_places r.places
+names_registers _ r = true
+
+-- what isn't used of the last eight bytes is 0
+abbrev pub is_ending_clear : Ending → Reading → Bool
+is_ending_clear ending.Nothing r = (r.imm == 0) && (r.target == 0)
+is_ending_clear ending.Number r = r.target == 0
+is_ending_clear ending.Room r = r.target == 0
+is_ending_clear ending.Target r = r.imm == 0
+is_ending_clear ending.Both r = true
+is_ending_clear ending.Handles r = is_packed r.places
+
+-- what the layout doesn't use is 0
+abbrev pub is_unused_zero : Layout → Reading → Bool
+is_unused_zero l r = list_all (λ b. b == 0) (drop l.registers r.registers) && is_ending_clear l.ending r
+
+abbrev pub fault_by : Bool → Reading → Option Layout → Option DecodeFault
+fault_by raw r None = fault_if (not raw) fault.UnknownOp
+fault_by raw r (Some l) = first_of (
+    fault_if (not (are_registers r.registers && names_registers l.ending r)) fault.BadRegister
+    ∷ fault_if (not (is_unused_zero l r)) fault.UnusedField
+    ∷ [])
+
+-- the fault of the 16 bytes of an instruction
+unfoldable pub instr_fault : Bool → List ℕ → Option DecodeFault
+instr_fault raw bytes = fault_by raw (reading_of bytes) (layout_of (slice_index bytes 0))
+
+-- the bytes of an instruction of the layout, with 0 for what it doesn't use
+abbrev pub ending_bytes : Ending → Reading → List ℕ
+ending_bytes ending.Nothing r = bytes_of 4 0 ++ bytes_of 4 0
+ending_bytes ending.Number r = bytes_of 4 r.imm ++ bytes_of 4 0
+ending_bytes ending.Room r = bytes_of 4 r.imm ++ bytes_of 4 0
+ending_bytes ending.Target r = bytes_of 4 0 ++ bytes_of 4 r.target
+ending_bytes ending.Both r = bytes_of 4 r.imm ++ bytes_of 4 r.target
+ending_bytes ending.Handles r = r.places
+
+abbrev pub row_bytes : ℕ → Layout → Reading → List ℕ
+row_bytes opcode l r = opcode ∷ (seven (take l.registers r.registers) ++ ending_bytes l.ending r)
+
+-- ---- the first fault of all
+
+-- the n pieces of so many bytes
+unfoldable pub pieces : ℕ → ℕ → List ℕ → List (List ℕ)
+pieces size zero bytes = []
+pieces size (suc n) bytes = take size bytes ∷ pieces size n (drop size bytes)
+
+abbrev pub start_pieces : List ℕ → List (List ℕ)
+start_pieces bytes = pieces 8 (starts_at bytes) (drop 20 bytes)
+
+abbrev pub slot_pieces : List ℕ → List (List ℕ)
+slot_pieces bytes = pieces 8 (slots_at bytes) (drop (20 + 8 * starts_at bytes) bytes)
+
+abbrev pub code_pieces : List ℕ → List (List ℕ)
+code_pieces bytes = pieces 16 (count_at bytes) (drop (20 + 8 * starts_at bytes + 8 * slots_at bytes) bytes)
 
 -- the fault that is met first, where bytes spell no image
 unfoldable pub first_fault : List ℕ → Option DecodeFault
-first_fault bytes = first_of (header_fault bytes ∷ map (instr_fault (is_raw_at bytes)) (pieces (count_at bytes) (drop 20 bytes)))
+first_fault bytes = first_of (
+    header_fault bytes
+    ∷ first_of (map start_fault (start_pieces bytes))
+    ∷ first_of (map slot_fault (slot_pieces bytes))
+    ∷ first_of (map (instr_fault (is_raw_at bytes)) (code_pieces bytes))
+    ∷ [])

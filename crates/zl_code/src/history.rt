@@ -5,9 +5,27 @@ use zl_rights::{Pid, Status};
 pub enum CallName {
     Close,
     Dup,
+    Replace,
+    ChanCreate,
+    ChanWrite,
+    ChanReadEtc,
     EventCreate,
     Signal,
+    SignalPeer,
+    WaitOne,
+    WaitPoll,
+    WaitAsync,
+    PortCreate,
+    PortQueue,
+    PortWait,
+    PortPoll,
+    PortCancel,
+    ProcessCreate,
+    ProcessStart,
     ProcessExit,
+    TaskKill,
+    JobCreate,
+    JobSetPolicy,
 }
 
 /// How a system call ends.

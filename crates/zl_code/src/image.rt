@@ -1,31 +1,65 @@
 ghost use Rattle.std.specs.Prelude.{◌≡◌, ◌≤◌, ◌<◌, ◌==◌, length, OnSome};
-ghost use Rattle.zl_code.specs.Image.{Image as ImageValue, instr_at, local_at, call_at};
+ghost use Rattle.zl_code.specs.Image.{instr_at, local_at, call_at, is_among};
 ghost use Rattle.zl_code.specs.declared.image.DecodeFault.TheVariants.{NoMemory};
 
 use crate::instr::{CallInstr, Instr, LocalInstr};
 use std::alloc::{AllocError, AllocFailed};
 use std::marker::Model;
+use zl_rights::{Condition, Kind, Rights};
 
-/// A program as it is loaded: instructions, the size of its data memory, and its budget.
+/// A program as it is loaded: instructions, the size of its data memory, its budget, and what it
+/// declares.
 #[derive(Drop)]
 pub struct Image {
     pub(crate) raw: bool,
     pub(crate) memory: u32,
     pub(crate) budget: u32,
+    pub(crate) needs: Needs,
+    pub(crate) starts: Vec<Start>,
+    pub(crate) slots: Vec<SlotArray>,
     pub(crate) code: Vec<Instr>,
 }
 
+/// What the processes of a program have to be allowed to make.
+#[derive(Clone, Copy)]
+pub(crate) struct Needs {
+    pub channel: bool,
+    pub event: bool,
+    pub port: bool,
+    pub process: bool,
+}
+
+/// A handle with which a process of the program starts.
+#[derive(Clone, Copy)]
+pub struct Start {
+    /// No kind is any kind.
+    pub kind: Option<Kind>,
+    /// Within the default rights of the kind, or within the known rights for any kind.
+    pub rights: Rights,
+}
+
+/// An array of places for handles.
+#[derive(Clone, Copy)]
+pub struct SlotArray {
+    /// No kind is any kind.
+    pub kind: Option<Kind>,
+    /// How many places there are, 1 to 256.
+    pub length: u16,
+    /// Within the default rights of the kind, or within the known rights for any kind.
+    pub rights: Rights,
+}
+
 impl Model for Image {
-    ghost use Rattle.std.specs.Prelude.{IsTrue, []};
-    ghost use Rattle.zl_code.specs.Image.{Image as ImageValue};
+    ghost use Rattle.std.specs.Prelude.{IsTrue};
+    ghost use Rattle.zl_code.specs.Image.{Image as ImageValue, needs_value};
 
     ghost Value = { ImageValue };
 
     ghost use Rattle.zl_code.specs.Spells.{is_in_range};
 
-    ghost view = { λ i. record { raw = i.raw; memory = i.memory; budget = i.budget; needs = []; starts = []; slots = []; code = i.code.items } };
+    ghost view = { λ i. record { raw = i.raw; memory = i.memory; budget = i.budget; needs = needs_value i.needs; starts = i.starts.items; slots = i.slots.items; code = i.code.items } };
 
-    ghost invariant = { λ i. IsTrue (is_in_range (record { raw = i.raw; memory = i.memory; budget = i.budget; needs = []; starts = []; slots = []; code = i.code.items })) };
+    ghost invariant = { λ i. IsTrue (is_in_range (record { raw = i.raw; memory = i.memory; budget = i.budget; needs = needs_value i.needs; starts = i.starts.items; slots = i.slots.items; code = i.code.items })) };
 }
 
 impl Image {
@@ -37,6 +71,12 @@ impl Image {
 
     /// The largest budget.
     pub const MOST_BUDGET: u32 = 1_000_000;
+
+    /// The most handles with which a process starts.
+    pub const MOST_STARTS: usize = 7;
+
+    /// The most slot arrays.
+    pub const MOST_SLOT_ARRAYS: usize = 8;
 
     /// Whether the image has the raw mark, under which unknown opcodes may stand.
     pub fn is_raw(&self) -> bool
@@ -61,6 +101,36 @@ impl Image {
         ensures most { result ≤ 1000000 }
     {
         self.budget
+    }
+
+    /// Whether the program declares that its processes have to be allowed to make objects by this
+    /// condition; it can declare `NewChannel`, `NewEvent`, `NewPort` and `NewProcess`.
+    pub fn needs(&self, condition: Condition) -> bool
+        ensures { result ≡ is_among self.now.needs condition }
+    {
+        match condition {
+            Condition::NewChannel => self.needs.channel,
+            Condition::NewEvent => self.needs.event,
+            Condition::NewPort => self.needs.port,
+            Condition::NewProcess => self.needs.process,
+            Condition::BadHandle | Condition::WrongObject | Condition::NewAny => false,
+        }
+    }
+
+    /// The handles with which a process of a checked program starts, at most 7.
+    pub fn starts(&self) -> &[Start]
+        ensures value { result.now ≡ self.now.starts }
+        ensures most { length result.now ≤ 7 }
+    {
+        &self.starts
+    }
+
+    /// The slot arrays of a process, at most 8.
+    pub fn slots(&self) -> &[SlotArray]
+        ensures value { result.now ≡ self.now.slots }
+        ensures most { length result.now ≤ 8 }
+    {
+        &self.slots
     }
 
     /// How many instructions there are, at most 4,096.
@@ -141,7 +211,7 @@ pub enum DecodeFault {
     UnusedField,
     /// A register above 31.
     BadRegister,
-    /// A field of the header is out of its range.
+    /// A field of the header or of a declaration is out of its range.
     BadHeader,
     /// Memory was refused.
     NoMemory,

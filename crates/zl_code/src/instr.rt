@@ -1,3 +1,6 @@
+ghost use Rattle.std.specs.Prelude.{◌≡◌, slice_get};
+ghost use Rattle.zl_code.specs.Spells.{register_in};
+
 use crate::register::Register;
 
 /// An instruction. The opcodes and the fields are own profile.
@@ -11,14 +14,156 @@ pub enum Instr {
     Unknown([u8; 16]),
 }
 
-/// An instruction that is done by its process alone.
+/// An instruction that is done by its process alone. Registers have 64 bits, and addresses are added
+/// without wrapping.
 #[derive(Clone, Copy)]
 pub enum LocalInstr {
     /// The register becomes the number.
-    Const { destination: Register, number: u32 },
+    Const {
+        destination: Register,
+        number: u32,
+    },
+    /// The register becomes the other.
+    Move {
+        destination: Register,
+        source: Register,
+    },
+    /// The sum modulo 2^64.
+    Add {
+        destination: Register,
+        left: Register,
+        right: Register,
+    },
+    /// The sum with a number, modulo 2^64.
+    AddNumber {
+        destination: Register,
+        left: Register,
+        number: u32,
+    },
+    /// The difference modulo 2^64.
+    Subtract {
+        destination: Register,
+        left: Register,
+        right: Register,
+    },
+    /// The bits that are in both.
+    And {
+        destination: Register,
+        left: Register,
+        right: Register,
+    },
+    /// The bits that are in one of them at least.
+    Or {
+        destination: Register,
+        left: Register,
+        right: Register,
+    },
+    /// The bits that are in just one of them.
+    Xor {
+        destination: Register,
+        left: Register,
+        right: Register,
+    },
+    /// The bits moved up; 0 from 64 places on.
+    ShiftLeft {
+        destination: Register,
+        source: Register,
+        places: u32,
+    },
+    /// The bits moved down; 0 from 64 places on.
+    ShiftRight {
+        destination: Register,
+        source: Register,
+        places: u32,
+    },
+    /// The register becomes the other, which becomes 0.
+    Take {
+        destination: Register,
+        source: Register,
+    },
+    /// Exchanges the register with a place of the slot array of this number.
+    Swap {
+        register: Register,
+        place: Register,
+        array: u32,
+    },
+    /// The register becomes the byte at the sum of base and offset.
+    LoadByte {
+        destination: Register,
+        base: Register,
+        offset: u32,
+    },
+    /// The register becomes the eight bytes from the sum of base and offset on, the least first.
+    LoadWord {
+        destination: Register,
+        base: Register,
+        offset: u32,
+    },
+    /// The low byte of the source goes to the sum of base and offset.
+    StoreByte {
+        base: Register,
+        source: Register,
+        offset: u32,
+    },
+    /// The eight bytes of the source go to the sum of base and offset, the least first.
+    StoreWord {
+        base: Register,
+        source: Register,
+        offset: u32,
+    },
+    /// The instruction of this number stands next.
+    Jump {
+        target: u32,
+    },
+    /// Jumps if the register is 0.
+    JumpZero {
+        register: Register,
+        target: u32,
+    },
+    /// Jumps if the register isn't 0.
+    JumpNotZero {
+        register: Register,
+        target: u32,
+    },
+    /// Jumps if the register is the number.
+    JumpEqual {
+        register: Register,
+        number: u32,
+        target: u32,
+    },
+    /// Jumps if the register isn't the number.
+    JumpNotEqual {
+        register: Register,
+        number: u32,
+        target: u32,
+    },
+    /// Jumps if the register is below the number.
+    JumpBelow {
+        register: Register,
+        number: u32,
+        target: u32,
+    },
+    /// Jumps if the register isn't below the number.
+    JumpNotBelow {
+        register: Register,
+        number: u32,
+        target: u32,
+    },
+    /// Jumps if all these bits are in the register.
+    JumpHas {
+        register: Register,
+        bits: u32,
+        target: u32,
+    },
+    /// Jumps if one of these bits isn't in the register.
+    JumpHasNot {
+        register: Register,
+        bits: u32,
+        target: u32,
+    },
 }
 
-/// A system call with its registers.
+/// A system call with its registers. The status register gets the answer.
 #[derive(Clone, Copy)]
 pub enum CallInstr {
     Close {
@@ -31,6 +176,36 @@ pub enum CallInstr {
         copy: Register,
         rights: u32,
     },
+    Replace {
+        status: Register,
+        handle: Register,
+        replacement: Register,
+        rights: u32,
+    },
+    ChanCreate {
+        status: Register,
+        first: Register,
+        second: Register,
+    },
+    ChanWrite {
+        status: Register,
+        channel: Register,
+        address: Register,
+        length: Register,
+        handles: HandleList,
+    },
+    /// The handles of the message go to `places` triples of registers, at most 8, from `first` on;
+    /// the last of them is at most register 31.
+    ChanReadEtc {
+        status: Register,
+        channel: Register,
+        address: Register,
+        room: Register,
+        bytes: Register,
+        handles: Register,
+        first: Register,
+        places: u32,
+    },
     EventCreate {
         status: Register,
         event: Register,
@@ -41,7 +216,116 @@ pub enum CallInstr {
         clear: Register,
         set: Register,
     },
+    SignalPeer {
+        status: Register,
+        handle: Register,
+        clear: Register,
+        set: Register,
+    },
+    WaitOne {
+        status: Register,
+        handle: Register,
+        mask: Register,
+        observed: Register,
+    },
+    WaitPoll {
+        status: Register,
+        handle: Register,
+        mask: Register,
+        observed: Register,
+    },
+    WaitAsync {
+        status: Register,
+        handle: Register,
+        port: Register,
+        key: Register,
+        mask: Register,
+    },
+    PortCreate {
+        status: Register,
+        port: Register,
+    },
+    PortQueue {
+        status: Register,
+        port: Register,
+        key: Register,
+        value: Register,
+    },
+    /// `trigger` gets the mask of the wait, or the value that was queued.
+    PortWait {
+        status: Register,
+        port: Register,
+        key: Register,
+        kind: Register,
+        trigger: Register,
+        observed: Register,
+    },
+    /// `trigger` gets the mask of the wait, or the value that was queued.
+    PortPoll {
+        status: Register,
+        port: Register,
+        key: Register,
+        kind: Register,
+        trigger: Register,
+        observed: Register,
+    },
+    PortCancel {
+        status: Register,
+        port: Register,
+        source: Register,
+        key: Register,
+    },
+    ProcessCreate {
+        status: Register,
+        job: Register,
+        program: Register,
+        process: Register,
+    },
+    ProcessStart {
+        status: Register,
+        process: Register,
+        handle: Register,
+        word: Register,
+    },
     ProcessExit {
         code: Register,
     },
+    TaskKill {
+        status: Register,
+        task: Register,
+    },
+    JobCreate {
+        status: Register,
+        job: Register,
+        child: Register,
+    },
+    JobSetPolicy {
+        status: Register,
+        job: Register,
+        mode: Register,
+        condition: Register,
+        action: Register,
+    },
+}
+
+/// The registers of the handles that `chan_write` sends, at most 8.
+#[derive(Clone, Copy)]
+pub struct HandleList {
+    // Registers from the first place on, and `HandleList::NONE` in the places behind them.
+    pub(crate) places: [u8; 8],
+}
+
+impl HandleList {
+    /// How many handles there are at most.
+    pub const MOST: usize = 8;
+
+    /// The byte of a place without a register.
+    pub(crate) const NONE: u8 = 0xff;
+
+    /// The register in this place, counted from 0; nothing behind the last one.
+    pub fn get(&self, place: usize) -> Option<Register>
+        ensures { result ≡ register_in (slice_get self.now.places place) }
+    {
+        Register::new(*self.places.get(place)?)
+    }
 }

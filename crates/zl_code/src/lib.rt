@@ -6,20 +6,24 @@
 #![tactic(auto)]
 
 mod boot;
+mod declarations;
 mod decoding;
 mod encoding;
+mod fields;
 mod history;
 mod image;
 mod instr;
+mod known;
 pub mod laws;
+mod layout;
 mod register;
 
 pub use boot::{Boot, BootCause, BootFault, Statement};
 pub use decoding::decode;
 pub use encoding::encode;
 pub use history::{CallName, Outcome, ProcState, TraceItem};
-pub use image::{DecodeFault, Image};
-pub use instr::{CallInstr, Instr, LocalInstr};
+pub use image::{DecodeFault, Image, SlotArray, Start};
+pub use instr::{CallInstr, HandleList, Instr, LocalInstr};
 pub use register::Register;
 
 #[cfg(test)]

@@ -1,6 +1,7 @@
 use super::*;
 use std::alloc::Global;
 use std::test::*;
+use zl_rights::{Condition, Kind};
 
 /// One `process_exit`.
 const SMALLEST: [u8; 36] = [
@@ -21,9 +22,27 @@ const EIGHT: [u8; 148] = [
     0x53, 0, 0, 0, 0, 0, 0, 0, 0, 0, 0, 0, 0, 0, 0, 0,
 ];
 
-/// What decoding `EIGHT` with some bytes changed and encoding it again gives.
-fn changed(alloc: Global, changes: &[(usize, u8)]) -> Result<bool, DecodeFault> {
-    let mut bytes = EIGHT;
+/// All four needs, a start handle (an event to signal and to wait for), a slot array (256 places for
+/// handles of any kind with all rights), and `swap r1, r2, 0`.
+const DECLARED: [u8; 52] = [
+    0x5a, 0x4c, 0x41, 0x42, 1, 0, 1, 0, 0, 0, 0, 0, 0x64, 0, 0, 0, 0x1b, 1, 1, 0, //
+    5, 0, 0, 0, 0, 0x50, 0, 0, //
+    0, 0, 0, 1, 0x0f, 0xf6, 3, 0, //
+    0x0c, 1, 2, 0, 0, 0, 0, 0, 0, 0, 0, 0, 0, 0, 0, 0,
+];
+
+/// `chan_write r1, r2, r3, r4` of the handles in registers 5 and 6, and `chan_read_etc r1, r2, r3,
+/// r4, r5, r6, r8` with room for 8 handles, which go to registers 8 to 31.
+const MESSAGES: [u8; 52] = [
+    0x5a, 0x4c, 0x41, 0x42, 1, 0, 2, 0, 0, 0, 0, 0, 0x64, 0, 0, 0, 0, 0, 0, 0, //
+    0x44, 1, 2, 3, 4, 0, 0, 0, 5, 6, 0xff, 0xff, 0xff, 0xff, 0xff, 0xff, //
+    0x45, 1, 2, 3, 4, 5, 6, 8, 8, 0, 0, 0, 0, 0, 0, 0,
+];
+
+/// What decoding the bytes with some of them changed and encoding the image again gives.
+fn changed_in(alloc: Global, from: &[u8], changes: &[(usize, u8)]) -> Result<bool, DecodeFault> {
+    let mut bytes = Vec::with_capacity(alloc, from.len())?;
+    bytes.extend_from_slice(from)?;
     for (offset, value) in changes {
         if let Some(byte) = bytes.get_mut(*offset) {
             *byte = *value;
@@ -31,6 +50,10 @@ fn changed(alloc: Global, changes: &[(usize, u8)]) -> Result<bool, DecodeFault> 
     }
     let image = decode(alloc, &bytes)?;
     Ok(encode(alloc, &image)?.as_slice() == bytes.as_slice())
+}
+
+fn changed(alloc: Global, changes: &[(usize, u8)]) -> Result<bool, DecodeFault> {
+    changed_in(alloc, &EIGHT, changes)
 }
 
 #[test]
@@ -60,9 +83,10 @@ fn faults_in_their_order(rt: HostRuntime) {
         (&[(8, 1), (10, 1)][..], DecodeFault::BadHeader),
         (&[(12, 0)][..], DecodeFault::BadHeader),
         (&[(14, 16)][..], DecodeFault::BadHeader),
-        (&[(16, 1)][..], DecodeFault::BadHeader),
-        (&[(17, 1)][..], DecodeFault::BadHeader),
-        (&[(18, 1)][..], DecodeFault::BadHeader),
+        (&[(16, 4)][..], DecodeFault::BadHeader),
+        (&[(16, 32)][..], DecodeFault::BadHeader),
+        (&[(17, 8)][..], DecodeFault::BadHeader),
+        (&[(18, 9)][..], DecodeFault::BadHeader),
         (&[(19, 1)][..], DecodeFault::BadHeader),
         (&[(6, 7), (21, 32)][..], DecodeFault::Length),
         (&[(6, 9), (21, 32)][..], DecodeFault::Length),
@@ -76,6 +100,111 @@ fn faults_in_their_order(rt: HostRuntime) {
     ] {
         assert!(rt; matches!(changed(rt.alloc(), changes), Err(fault) if fault == want));
     }
+}
+
+#[test]
+fn declarations(rt: HostRuntime) -> Result<(), Fail> {
+    let image = decode(rt.alloc(), &DECLARED)
+        .ok()
+        .ok_or("the bytes are an image")?;
+    assert!(rt; image.needs(Condition::NewPort));
+    assert!(rt; !image.needs(Condition::NewAny));
+    assert_eq!(rt; image.starts().len(), 1);
+    assert!(rt;
+        image
+            .starts()
+            .iter()
+            .all(|start| start.kind == Some(Kind::Event))
+    );
+    assert_eq!(rt; image.slots().len(), 1);
+    assert!(rt;
+        image
+            .slots()
+            .iter()
+            .all(|array| array.kind.is_none() && array.length == 256)
+    );
+    let bytes = encode(rt.alloc(), &image).ok().ok_or("memory was refused")?;
+    assert_eq!(rt; bytes.as_slice(), DECLARED.as_slice());
+    Ok(())
+}
+
+#[test]
+fn faults_of_declarations(rt: HostRuntime) {
+    for (changes, want) in [
+        (&[(17, 0)][..], DecodeFault::Length),
+        (&[(18, 2)][..], DecodeFault::Length),
+        (&[(21, 1), (6, 2)][..], DecodeFault::Length),
+        (&[(20, 2)][..], DecodeFault::BadHeader),
+        (&[(23, 1)][..], DecodeFault::BadHeader),
+        (&[(24, 4)][..], DecodeFault::BadHeader),
+        (&[(28, 16)][..], DecodeFault::BadHeader),
+        (&[(28, 5)][..], DecodeFault::BadHeader),
+        (&[(29, 1)][..], DecodeFault::BadHeader),
+        (&[(31, 0)][..], DecodeFault::BadHeader),
+        (&[(30, 1)][..], DecodeFault::BadHeader),
+        (&[(34, 7)][..], DecodeFault::BadHeader),
+        (&[(34, 7), (36, 99)][..], DecodeFault::BadHeader),
+        (&[(36, 99)][..], DecodeFault::UnknownOp),
+    ] {
+        assert!(rt;
+            matches!(changed_in(rt.alloc(), &DECLARED, changes), Err(fault) if fault == want)
+        );
+    }
+}
+
+#[test]
+fn registers_of_messages(rt: HostRuntime) {
+    for changes in [
+        &[][..],
+        &[(28, 0xff), (29, 0xff)][..],
+        &[(30, 31)][..],
+        &[(43, 31), (44, 0)][..],
+    ] {
+        assert!(rt; matches!(changed_in(rt.alloc(), &MESSAGES, changes), Ok(true)));
+    }
+    for (changes, want) in [
+        (&[(29, 32)][..], DecodeFault::BadRegister),
+        (&[(31, 0xfe)][..], DecodeFault::BadRegister),
+        (&[(31, 7)][..], DecodeFault::UnusedField),
+        (&[(28, 0xff)][..], DecodeFault::UnusedField),
+        (&[(25, 1)][..], DecodeFault::UnusedField),
+        (&[(43, 9)][..], DecodeFault::BadRegister),
+        (&[(43, 0), (44, 9)][..], DecodeFault::BadRegister),
+        (&[(44, 0), (45, 1)][..], DecodeFault::BadRegister),
+        (&[(48, 1)][..], DecodeFault::UnusedField),
+    ] {
+        assert!(rt;
+            matches!(changed_in(rt.alloc(), &MESSAGES, changes), Err(fault) if fault == want)
+        );
+    }
+}
+
+#[test]
+fn largest_image(rt: HostRuntime) -> Result<(), Fail> {
+    let mut bytes = Vec::new(rt.alloc());
+    bytes.extend_from_slice(&DECLARED[..20])?;
+    for _ in 0..7 {
+        bytes.extend_from_slice(&DECLARED[20..28])?;
+    }
+    for _ in 0..8 {
+        bytes.extend_from_slice(&DECLARED[28..36])?;
+    }
+    for _ in 0..4096 {
+        bytes.extend_from_slice(&DECLARED[36..])?;
+    }
+    for (offset, value) in [(6, 0), (7, 16), (17, 7), (18, 8)] {
+        if let Some(byte) = bytes.get_mut(offset) {
+            *byte = value;
+        }
+    }
+    assert_eq!(rt; bytes.len(), 65_676);
+    let image = decode(rt.alloc(), &bytes)
+        .ok()
+        .ok_or("the bytes are an image")?;
+    assert_eq!(rt; image.len(), 4096);
+    let back = encode(rt.alloc(), &image).ok().ok_or("memory was refused")?;
+    assert_eq!(rt; back.as_slice(), bytes.as_slice());
+    Ok(())
 }
 
 #[test]
@@ -111,10 +240,10 @@ fn each_byte_changed(rt: HostRuntime) -> Result<(), Fail> {
         }
     }
     // Each offset's own value; the raw mark; the memory 0 to 65,536; the budget 1 to 1,000,000 (254
-    // low bytes, 255 and 15 more); five more opcodes; 31 more registers.
+    // low bytes, 255 and 15 more); the needs; 47 more opcodes; 31 more registers.
     assert_eq!(rt;
         images,
-        36 + 1 + (255 + 255 + 1) + (254 + 255 + 15) + 5 + 31
+        36 + 1 + (255 + 255 + 1) + (254 + 255 + 15) + 15 + 47 + 31
     );
     Ok(())
 }

@@ -1,8 +1,8 @@
 use Rattle.std.proofs.Common.{inr}
 use Rattle.std.proofs.lemmas.Result.{err_from_is_err_and}
-use Rattle.zl_code.specs.Spells.{is_instr_in_range, instr_fault}
+use Rattle.zl_code.specs.Spells.{instr_bytes, is_instr_in_range, instr_fault}
 use Rattle.zl_code.proofs.ImageCode.{first_fault_at, no_fault_more, bytes_more, list_all_push}
-use Rattle.zl_code.proofs.decoding.code_of.Goals as goal
+use Rattle.zl_code.proofs.known.code_of.Goals as goal
 
 pub returns-in_err-instr-clause-fault : goal.returns-in_err-instr-clause-fault
 returns-in_err-instr-clause-fault c =
@@ -14,7 +14,7 @@ loop-piece-preserved c =
     let h = c.loop-piece.invariant in
     let e = c.in_ok-instr.ensures in
     rw c.in_ok-extend_from_slice.ensures.items (record {
-      bytes = bytes_more _ _ c.args.pieces.now c.loop-piece.piece-index _ c.loop-piece-test.true h.bytes e.bytes;
+      bytes = bytes_more instr_bytes _ _ c.args.pieces.now c.loop-piece.piece-index _ c.loop-piece-test.true h.bytes e.bytes;
       in_range = list_all_push (is_instr_in_range c.args.raw) c.loop-piece.code.items c.in_ok-instr.instr h.in_range e.in_range;
       none = no_fault_more (instr_fault c.args.raw) c.args.pieces.now c.loop-piece.piece-index _ c.loop-piece-test.true h.none e.fault;
     })

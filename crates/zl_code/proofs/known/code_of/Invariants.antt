@@ -1,7 +1,7 @@
 use Rattle.std.proofs.Common.{◌≡◌, true, None, map, take}
 use Rattle.std.specs.List.{list_all}
 use Rattle.zl_code.specs.Spells.{instr_bytes, is_instr_in_range, instr_fault, first_of}
-use Rattle.zl_code.proofs.decoding.code_of.Given as goal
+use Rattle.zl_code.proofs.known.code_of.Given as goal
 
 abbrev pub invariant-loop-piece : goal.invariant-loop-piece
 invariant-loop-piece l =

@@ -1,0 +1,157 @@
+-- The byte of the needs.
+use Rattle.std.proofs.Common.{◌≡◌, ℕ, zero, suc, ◌<◌, ◌/◌, ◌%◌, Bool, true, false, ◌==◌, ◌&&◌, ◌||◌, not, List, [], ◌∷◌, refl, ap, ◌∙◌, arith, inl, inr}
+use Rattle.std.specs.Prelude.{nat_lt, map}
+use Rattle.std.proofs.lemmas.Bool.{and_parts, eqb-true, ltb-true, cases_Bool}
+use Rattle.zl_rights.specs.declared.policy.Condition.{Condition}
+use Rattle.zl_rights.specs.declared.policy.Condition.TheVariants as condition
+use Rattle.zl_rights.specs.Numbers.{condition_number}
+use Rattle.zl_code.specs.declared.image.Needs.{Needs}
+use Rattle.zl_code.specs.Image.{need_if, needs_value}
+use Rattle.zl_code.specs.Spells.{needs_byte, is_needs_byte, are_needs, ascend_from}
+
+-- the needs whose bits are in the byte
+abbrev pub needs_at : ℕ → List Condition
+needs_at b =
+    need_if (b % 2 == 1) condition.NewChannel (need_if (b / 2 % 2 == 1) condition.NewEvent (need_if (b / 8 % 2 == 1) condition.NewPort (need_if (b / 16 % 2 == 1) condition.NewProcess [])))
+
+-- the test holds for each number below n
+all_below : (ℕ → Bool) → ℕ → Bool
+all_below test zero = true
+all_below test (suc n) = test n && all_below test n
+
+below : (test : ℕ → Bool) (n b : ℕ) → all_below test n ≡ true → b < n → test b ≡ true
+unfolding all_below
+below test zero b h lt = absurd (omega arith)
+below test (suc n) b h lt =
+    let both = and_parts (test n) (all_below test n) h in
+    elim (cases_Bool (b == n)) as (λ _. test b ≡ true) [
+      | inl here ↦ ap test (eqb-true b n here) ∙ both.0
+      | inr apart ↦ below test n b both.1 (grind arith)
+    ]
+
+again : ℕ → Bool
+again b = not (is_needs_byte b) || (needs_byte (needs_at b) == b)
+
+or_not : (a b : Bool) → not a || b ≡ true → a ≡ true → b ≡ true
+or_not true b h e = h
+or_not false b h e = absurd cc
+
+-- nothing of the byte is lost
+pub needs_of_byte : (b : ℕ) → is_needs_byte b ≡ true → needs_byte (needs_at b) ≡ b
+unfolding again all_below
+needs_of_byte b h =
+    let lt : b < 32 = ltb-true b 32 (and_parts (nat_lt b 32) (b / 4 % 2 == 0) h).0 in
+    eqb-true _ _ (or_not _ _ (below again 32 b refl lt) h)
+
+-- the needs of four flags are in order
+pub are_needs-value : (n : Needs) → are_needs (needs_value n) ≡ true
+are_needs-value n = by n.channel n.event n.port n.process
+  where
+    by : (c e p q : Bool) → are_needs (need_if c condition.NewChannel (need_if e condition.NewEvent (need_if p condition.NewPort (need_if q condition.NewProcess [])))) ≡ true
+    by true true true true = refl
+    by true true true false = refl
+    by true true false true = refl
+    by true true false false = refl
+    by true false true true = refl
+    by true false true false = refl
+    by true false false true = refl
+    by true false false false = refl
+    by false true true true = refl
+    by false true true false = refl
+    by false true false true = refl
+    by false true false false = refl
+    by false false true true = refl
+    by false false true false = refl
+    by false false false true = refl
+    by false false false false = refl
+
+-- ---- needs in order are those of their byte
+
+abbrev InOrder : ℕ → List Condition → Type 0
+InOrder n needs = ascend_from n (map condition_number needs) ≡ true
+
+after_process : (needs : List Condition) → InOrder 7 needs → needs ≡ []
+after_process [] h = refl
+after_process (condition.BadHandle ∷ needs) h = absurd cc
+after_process (condition.WrongObject ∷ needs) h = absurd cc
+after_process (condition.NewAny ∷ needs) h = absurd cc
+after_process (condition.NewChannel ∷ needs) h = absurd cc
+after_process (condition.NewEvent ∷ needs) h = absurd cc
+after_process (condition.NewPort ∷ needs) h = absurd cc
+after_process (condition.NewProcess ∷ needs) h = absurd cc
+
+after_port : (needs : List Condition) → InOrder 6 needs → (q : Bool) × (needs ≡ need_if q condition.NewProcess [])
+after_port [] h = (false, refl)
+after_port (condition.BadHandle ∷ needs) h = absurd cc
+after_port (condition.WrongObject ∷ needs) h = absurd cc
+after_port (condition.NewAny ∷ needs) h = absurd cc
+after_port (condition.NewChannel ∷ needs) h = absurd cc
+after_port (condition.NewEvent ∷ needs) h = absurd cc
+after_port (condition.NewPort ∷ needs) h = absurd cc
+after_port (condition.NewProcess ∷ needs) h = (true, ap (λ (r : List Condition). condition.NewProcess ∷ r) (after_process needs h))
+
+after_event : (needs : List Condition) → InOrder 4 needs → (p : Bool) × (q : Bool) × (needs ≡ need_if p condition.NewPort (need_if q condition.NewProcess []))
+after_event [] h = (false, false, refl)
+after_event (condition.BadHandle ∷ needs) h = absurd cc
+after_event (condition.WrongObject ∷ needs) h = absurd cc
+after_event (condition.NewAny ∷ needs) h = absurd cc
+after_event (condition.NewChannel ∷ needs) h = absurd cc
+after_event (condition.NewEvent ∷ needs) h = absurd cc
+after_event (condition.NewPort ∷ needs) h = let r = after_port needs h in (true, r.0, ap (λ (r : List Condition). condition.NewPort ∷ r) r.1)
+after_event (condition.NewProcess ∷ needs) h = (false, true, ap (λ (r : List Condition). condition.NewProcess ∷ r) (after_process needs h))
+
+after_channel : (needs : List Condition) → InOrder 3 needs → (e : Bool) × (p : Bool) × (q : Bool) × (needs ≡ need_if e condition.NewEvent (need_if p condition.NewPort (need_if q condition.NewProcess [])))
+after_channel [] h = (false, false, false, refl)
+after_channel (condition.BadHandle ∷ needs) h = absurd cc
+after_channel (condition.WrongObject ∷ needs) h = absurd cc
+after_channel (condition.NewAny ∷ needs) h = absurd cc
+after_channel (condition.NewChannel ∷ needs) h = absurd cc
+after_channel (condition.NewEvent ∷ needs) h = let r = after_event needs h in (true, r.0, r.1, ap (λ (r : List Condition). condition.NewEvent ∷ r) r.2)
+after_channel (condition.NewPort ∷ needs) h = let r = after_port needs h in (false, true, r.0, ap (λ (r : List Condition). condition.NewPort ∷ r) r.1)
+after_channel (condition.NewProcess ∷ needs) h = (false, false, true, ap (λ (r : List Condition). condition.NewProcess ∷ r) (after_process needs h))
+
+-- some flags have just these needs
+flagged : (needs : List Condition) → are_needs needs ≡ true → (n : Needs) × (needs ≡ needs_value n)
+flagged [] h = (record { channel = false; event = false; port = false; process = false }, refl)
+flagged (condition.BadHandle ∷ needs) h = absurd cc
+flagged (condition.WrongObject ∷ needs) h = absurd cc
+flagged (condition.NewAny ∷ needs) h = absurd cc
+flagged (condition.NewChannel ∷ needs) h =
+    let r = after_channel needs h in
+    (record { channel = true; event = r.0; port = r.1; process = r.2 }, ap (λ (r : List Condition). condition.NewChannel ∷ r) r.3)
+flagged (condition.NewEvent ∷ needs) h =
+    let r = after_event needs h in
+    (record { channel = false; event = true; port = r.0; process = r.1 }, ap (λ (r : List Condition). condition.NewEvent ∷ r) r.2)
+flagged (condition.NewPort ∷ needs) h =
+    let r = after_port needs h in
+    (record { channel = false; event = false; port = true; process = r.0 }, ap (λ (r : List Condition). condition.NewPort ∷ r) r.1)
+flagged (condition.NewProcess ∷ needs) h = (record { channel = false; event = false; port = false; process = true }, ap (λ (r : List Condition). condition.NewProcess ∷ r) (after_process needs h))
+
+-- what is kept by a byte of needs
+pub record FitsByte (needs : List Condition) : Type 0 where
+  pub valid : is_needs_byte (needs_byte needs) ≡ true
+  pub again : needs_at (needs_byte needs) ≡ needs
+
+value_fits : (n : Needs) → FitsByte (needs_value n)
+value_fits n = by n.channel n.event n.port n.process
+  where
+    by : (c e p q : Bool) → FitsByte (need_if c condition.NewChannel (need_if e condition.NewEvent (need_if p condition.NewPort (need_if q condition.NewProcess []))))
+    by true true true true = record { valid = refl; again = refl }
+    by true true true false = record { valid = refl; again = refl }
+    by true true false true = record { valid = refl; again = refl }
+    by true true false false = record { valid = refl; again = refl }
+    by true false true true = record { valid = refl; again = refl }
+    by true false true false = record { valid = refl; again = refl }
+    by true false false true = record { valid = refl; again = refl }
+    by true false false false = record { valid = refl; again = refl }
+    by false true true true = record { valid = refl; again = refl }
+    by false true true false = record { valid = refl; again = refl }
+    by false true false true = record { valid = refl; again = refl }
+    by false true false false = record { valid = refl; again = refl }
+    by false false true true = record { valid = refl; again = refl }
+    by false false true false = record { valid = refl; again = refl }
+    by false false false true = record { valid = refl; again = refl }
+    by false false false false = record { valid = refl; again = refl }
+
+pub needs_fit : (needs : List Condition) → are_needs needs ≡ true → FitsByte needs
+needs_fit needs h = let f = flagged needs h in rw f.1 (value_fits f.0)

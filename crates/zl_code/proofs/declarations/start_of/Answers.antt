@@ -1,0 +1,20 @@
+use Rattle.std.proofs.Common.{rules, true, false, sym}
+use Rattle.std.proofs.lemmas.Result.{err_from_is_err_and}
+use Rattle.zl_code.proofs.ImageDeclared.{start_bytes-read, start_fault-by, start_fault-zero}
+use Rattle.zl_code.proofs.declarations.start_of.Goals as goal
+
+pub returns-then-not-is_all_zero-clause-fault : goal.returns-then-not-is_all_zero-clause-fault
+returns-then-not-is_all_zero-clause-fault c = start_fault-zero c.args.bytes (sym c.if-not-is_all_zero.ensures)
+
+pub returns-in_err-kind-clause-fault : goal.returns-in_err-kind-clause-fault
+returns-in_err-kind-clause-fault c =
+    let p = err_from_is_err_and c.from_residual.result c.from_residual.ensures.1 in
+    rw (p.1, p.2, c.in_err-kind.ensures.err.0) (start_fault-by c.args.bytes true false (sym c.if-not-is_all_zero.ensures) c.in_err-kind.ensures.err.1)
+
+pub returns-clause-bytes : goal.returns-clause-bytes
+returns-clause-bytes c =
+    let e = c.in_ok-kind.ensures in
+    start_bytes-read c.args.bytes _ (search rules) (λ i. search rules) e.kind (sym c.if-not-is_all_zero.ensures) e.rights
+
+pub returns-clause-fault : goal.returns-clause-fault
+returns-clause-fault c = start_fault-by c.args.bytes true true (sym c.if-not-is_all_zero.ensures) c.in_ok-kind.ensures.ok

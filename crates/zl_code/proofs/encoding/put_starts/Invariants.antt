@@ -1,0 +1,7 @@
+use Rattle.std.proofs.Common.{◌≡◌, ◌++◌, take}
+use Rattle.std.specs.List.{flat_map}
+use Rattle.zl_code.specs.Spells.{start_bytes}
+use Rattle.zl_code.proofs.encoding.put_starts.Given as goal
+
+abbrev pub invariant-loop-start : goal.invariant-loop-start
+invariant-loop-start l = l.out.items ≡ l.fn.out.items ++ flat_map start_bytes (take l.start-index l.starts)

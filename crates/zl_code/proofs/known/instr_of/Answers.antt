@@ -1,0 +1,44 @@
+use Rattle.std.proofs.Common.{rules, true, false, ap, sym, refl, ◌∙◌}
+use Rattle.std.proofs.lemmas.Result.{err_from_is_err_and}
+use Rattle.zl_code.specs.Instructions.{layout_of}
+use Rattle.zl_code.proofs.ImageInstr.{IfSome-at, row_bytes-read, unknown_in_range, instr_fault-unknown, instr_fault-register, instr_fault-named, instr_fault-known}
+use Rattle.zl_code.proofs.known.instr_of.Goals as goal
+
+pub returns-in_err-fields-in-Some-clause-fault : goal.returns-in_err-fields-in-Some-clause-fault
+returns-in_err-fields-in-Some-clause-fault c =
+    let p = err_from_is_err_and c.from_residual.result c.from_residual.ensures.1 in
+    rw (p.1, p.2, c.in_err-fields-in-Some.ensures.fault.0) (instr_fault-register c.args.raw c.args.bytes _ (sym c.in-Some.ensures.layout) c.in_err-fields-in-Some.ensures.fault.1)
+
+pub returns-then-not-names_registers-clause-fault :
+    goal.returns-then-not-names_registers-clause-fault
+returns-then-not-names_registers-clause-fault c =
+    let e = c.in_ok-fields-in-Some.ensures in
+    instr_fault-named c.args.raw c.args.bytes _ _ (sym c.in-Some.ensures.layout) e.in_range (record { registers = e.registers; imm = e.imm; target = e.target; places = e.places }) (sym c.if-not-names_registers.ensures)
+
+pub returns-then-not-is_unused_zero-clause-fault :
+    goal.returns-then-not-is_unused_zero-clause-fault
+returns-then-not-is_unused_zero-clause-fault c =
+    let e = c.in_ok-fields-in-Some.ensures in
+    instr_fault-known c.args.raw c.args.bytes _ _ false (sym c.in-Some.ensures.layout) e.in_range (record { registers = e.registers; imm = e.imm; target = e.target; places = e.places }) (sym c.if-not-names_registers.ensures) (sym c.if-not-is_unused_zero.ensures)
+
+pub returns-else-not-is_unused_zero-clause-bytes :
+    goal.returns-else-not-is_unused_zero-clause-bytes
+returns-else-not-is_unused_zero-clause-bytes c =
+    let e = c.in_ok-fields-in-Some.ensures in
+    let known = IfSome-at _ _ _ (ap layout_of e.opcode ∙ sym c.in-Some.ensures.layout) c.known.ensures.bytes in
+    row_bytes-read c.args.bytes _ _ _ _ (search rules) (λ i. search rules) e.opcode (record { registers = e.registers; imm = e.imm; target = e.target; places = e.places }) (sym c.if-not-is_unused_zero.ensures) known
+
+pub returns-else-not-is_unused_zero-clause-fault :
+    goal.returns-else-not-is_unused_zero-clause-fault
+returns-else-not-is_unused_zero-clause-fault c =
+    let e = c.in_ok-fields-in-Some.ensures in
+    instr_fault-known c.args.raw c.args.bytes _ _ true (sym c.in-Some.ensures.layout) e.in_range (record { registers = e.registers; imm = e.imm; target = e.target; places = e.places }) (sym c.if-not-names_registers.ensures) (sym c.if-not-is_unused_zero.ensures)
+
+pub returns-in-None-clause-in_range : goal.returns-in-None-clause-in_range
+returns-in-None-clause-in_range c = unknown_in_range c.args.raw c.args.bytes c.if-raw.true (search rules) (λ i. search rules) (sym c.in-None.ensures.layout)
+
+pub returns-in-None-clause-fault : goal.returns-in-None-clause-fault
+returns-in-None-clause-fault c = instr_fault-unknown c.args.raw c.args.bytes (sym c.in-None.ensures.layout) ∙ rw c.if-raw.true refl
+
+pub returns-in-None-2-clause-fault : goal.returns-in-None-2-clause-fault
+returns-in-None-2-clause-fault c = instr_fault-unknown c.args.raw c.args.bytes (sym c.in-None.ensures.layout) ∙ rw c.if-raw.false refl

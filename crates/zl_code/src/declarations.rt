@@ -1,0 +1,168 @@
+//! The declarations of an image: start handles and slot arrays.
+
+ghost use Rattle.std.specs.Prelude.{map, ◌≡◌, ◌⊎◌, ◌==◌, IsTrue, IfOk, IfErr, IfSome, IfNone, OnOk, OnSome, MatchResult, true, false, Some, None, slice_index};
+ghost use Rattle.std.specs.List.{list_all};
+ghost use Rattle.zl_rights.specs.Numbers.{bits, within};
+ghost use Rattle.zl_code.specs.declared.image.DecodeFault.TheVariants as faults;
+ghost use Rattle.zl_code.specs.Spells.{number_at, kind_byte, kind_at, rights_allowed, has_rights, has_length, start_bytes, slot_bytes, is_start_in_range, is_slot_in_range, start_fault, slot_fault, first_of};
+
+use crate::encoding::DECLARATION_LEN;
+use crate::image::{DecodeFault, SlotArray, Start};
+use bitflags::Flags;
+use std::alloc::Global;
+use zl_rights::{Kind, Rights};
+
+/// The longest slot array.
+const MOST_SLOTS: u16 = 256;
+
+/// The rights that have a name.
+const KNOWN_RIGHTS: u32 = 0x3_f60f;
+
+/// The kind of the byte, where 0 is any kind.
+fn kind_of(byte: u8) -> Result<Option<Kind>, DecodeFault>
+    ensures byte { IfOk result (λ kind. kind_byte kind ≡ byte) }
+    ensures ok { IfOk result (λ kind. kind_at byte ≡ Some kind) }
+    ensures err { IfErr result (λ fault. (fault ≡ faults.BadHeader) × (kind_at byte ≡ None)) }
+{
+    match byte {
+        0 => Ok(None),
+        1 => Ok(Some(Kind::Process)),
+        4 => Ok(Some(Kind::Channel)),
+        5 => Ok(Some(Kind::Event)),
+        6 => Ok(Some(Kind::Port)),
+        17 => Ok(Some(Kind::Job)),
+        _ => Err(DecodeFault::BadHeader),
+    }
+}
+
+/// The rights that a declaration of the kind may name.
+fn rights_allowed(kind: Option<Kind>) -> Rights
+    ensures { bits result ≡ rights_allowed kind }
+{
+    match kind {
+        Some(kind) => kind.default_rights(),
+        None => Rights::from_bits_retain(KNOWN_RIGHTS),
+    }
+}
+
+/// The rights of this number, if the kind allows them.
+fn rights_of(kind: Option<Kind>, number: u32) -> Result<Rights, DecodeFault>
+    ensures value { IfOk result (λ rights. bits rights ≡ number) }
+    ensures ok { OnOk result (within number (rights_allowed kind) ≡ true) }
+    ensures err { IfErr result (λ fault. (fault ≡ faults.BadHeader) × (within number (rights_allowed kind) ≡ false)) }
+{
+    let rights = Rights::from_bits_retain(number);
+    if rights.within(rights_allowed(kind)) {
+        Ok(rights)
+    } else {
+        Err(DecodeFault::BadHeader)
+    }
+}
+
+/// What both declarations have: a kind in the first byte, and rights in the last four.
+#[derive(Clone, Copy)]
+struct Declared {
+    kind: Option<Kind>,
+    rights: Rights,
+}
+
+/// The kind and the rights of the eight bytes.
+#[tactic(auto, using(crate::proofs::ImageDeclared::has_rights_allowed, crate::proofs::ImageDeclared::has_rights_none))]
+fn declared_of(bytes: [u8; DECLARATION_LEN]) -> Result<Declared, DecodeFault>
+    ensures kind { IfOk result (λ declared. kind_byte declared.kind ≡ slice_index bytes 0) }
+    ensures rights { IfOk result (λ declared. bits declared.rights ≡ number_at bytes 4 4) }
+    ensures allowed { IfOk result (λ declared. within (bits declared.rights) (rights_allowed declared.kind) ≡ true) }
+    ensures ok { OnOk result (has_rights bytes ≡ true) }
+    ensures err { IfErr result (λ fault. (fault ≡ faults.BadHeader) × (has_rights bytes ≡ false)) }
+{
+    let [kind, _, _, _, r0, r1, r2, r3] = bytes;
+    let kind = kind_of(kind)?;
+    let rights = rights_of(kind, u32::from_le_bytes([r0, r1, r2, r3]))?;
+    Ok(Declared { kind, rights })
+}
+
+/// The start handle of the eight bytes.
+fn start_of(bytes: [u8; DECLARATION_LEN]) -> Result<Start, DecodeFault>
+    ensures bytes { IfOk result (λ start. start_bytes start ≡ bytes) }
+    ensures in_range { IfOk result (λ start. IsTrue (is_start_in_range start)) }
+    ensures fault { MatchResult result (λ _. start_fault bytes ≡ None) (λ fault. start_fault bytes ≡ Some fault) }
+{
+    if !is_all_zero(&bytes[1..4]) {
+        return Err(DecodeFault::BadHeader);
+    }
+    let Declared { kind, rights } = declared_of(bytes)?;
+    Ok(Start { kind, rights })
+}
+
+fn is_all_zero(bytes: &[u8]) -> bool
+    ensures { result ≡ list_all (λ byte. byte == 0) bytes.now }
+{
+    bytes.iter().all(|byte| *byte == 0)
+}
+
+/// The length in the third and the fourth byte, if it is one of a slot array and the second byte is 0.
+fn length_of(bytes: [u8; DECLARATION_LEN]) -> Option<u16>
+    ensures found { IfSome result (λ length. length ≡ number_at bytes 2 2) }
+    ensures some { OnSome result (has_length bytes ≡ true) }
+    ensures none { IfNone result (has_length bytes ≡ false) }
+{
+    let length = u16::from_le_bytes([bytes[2], bytes[3]]);
+    if bytes[1] == 0 && length > 0 && length <= MOST_SLOTS {
+        Some(length)
+    } else {
+        None
+    }
+}
+
+/// The slot array of the eight bytes.
+fn slot_of(bytes: [u8; DECLARATION_LEN]) -> Result<SlotArray, DecodeFault>
+    ensures bytes { IfOk result (λ slots. slot_bytes slots ≡ bytes) }
+    ensures in_range { IfOk result (λ slots. IsTrue (is_slot_in_range slots)) }
+    ensures fault { MatchResult result (λ _. slot_fault bytes ≡ None) (λ fault. slot_fault bytes ≡ Some fault) }
+{
+    let Some(length) = length_of(bytes) else {
+        return Err(DecodeFault::BadHeader);
+    };
+    let Declared { kind, rights } = declared_of(bytes)?;
+    Ok(SlotArray {
+        kind,
+        length,
+        rights,
+    })
+}
+
+/// The start handles of the pieces, in order.
+pub(crate) fn starts_of(
+    alloc: Global,
+    pieces: &[[u8; DECLARATION_LEN]],
+) -> Result<Vec<Start>, DecodeFault>
+    ensures bytes { IfOk result (λ starts. map start_bytes starts.items ≡ pieces.now) }
+    ensures in_range { IfOk result (λ starts. IsTrue (list_all is_start_in_range starts.items)) }
+    ensures none { OnOk result (first_of (map start_fault pieces.now) ≡ None) }
+    ensures fault { IfErr result (λ fault. (fault ≡ faults.NoMemory) ⊎ (first_of (map start_fault pieces.now) ≡ Some fault)) }
+{
+    let mut starts = Vec::with_capacity(alloc, pieces.len())?;
+    for piece in pieces {
+        let start = start_of(*piece)?;
+        starts.push(start)?;
+    }
+    Ok(starts)
+}
+
+/// The slot arrays of the pieces, in order.
+pub(crate) fn slots_of(
+    alloc: Global,
+    pieces: &[[u8; DECLARATION_LEN]],
+) -> Result<Vec<SlotArray>, DecodeFault>
+    ensures bytes { IfOk result (λ slots. map slot_bytes slots.items ≡ pieces.now) }
+    ensures in_range { IfOk result (λ slots. IsTrue (list_all is_slot_in_range slots.items)) }
+    ensures none { OnOk result (first_of (map slot_fault pieces.now) ≡ None) }
+    ensures fault { IfErr result (λ fault. (fault ≡ faults.NoMemory) ⊎ (first_of (map slot_fault pieces.now) ≡ Some fault)) }
+{
+    let mut slots = Vec::with_capacity(alloc, pieces.len())?;
+    for piece in pieces {
+        let array = slot_of(*piece)?;
+        slots.push(array)?;
+    }
+    Ok(slots)
+}

@@ -1,0 +1,139 @@
+//! The 16 bytes of an instruction, field by field.
+
+ghost use Rattle.std.specs.Prelude.{◌≡◌, ◌<◌, ◌≤◌, ◌==◌, true, false, IfOk, IfErr, OnOk, drop, slice_index};
+ghost use Rattle.std.specs.List.{list_all};
+ghost use Rattle.zl_code.specs.declared.image.DecodeFault.TheVariants as faults;
+ghost use Rattle.zl_code.specs.Instructions.{layout as layout_with};
+ghost use Rattle.zl_code.specs.Spells.{are_registers, registers_at, number_at, are_places, is_packed, is_room, names_registers, is_ending_clear, is_unused_zero};
+ghost use Rattle.zl_code.specs.Fields.{read_in};
+
+use crate::encoding::INSTR_LEN;
+use crate::image::DecodeFault;
+use crate::instr::HandleList;
+use crate::layout::{Ending, Layout};
+use crate::register::Register;
+
+/// The fields of the 16 bytes of an instruction.
+#[derive(Clone, Copy)]
+pub(crate) struct Fields {
+    pub opcode: u8,
+    pub a: Register,
+    pub b: Register,
+    pub c: Register,
+    pub d: Register,
+    pub e: Register,
+    pub f: Register,
+    pub g: Register,
+    pub imm: u32,
+    pub target: u32,
+    /// The last eight bytes again, as the places of a list of handles.
+    pub places: [u8; 8],
+}
+
+/// The register of this number.
+fn register(number: u8) -> Result<Register, DecodeFault>
+    ensures found { IfOk result (λ register. register ≡ number) }
+    ensures below { OnOk result (number < 32) }
+    ensures fault { IfErr result (λ fault. (fault ≡ faults.BadRegister) × (32 ≤ number)) }
+{
+    Register::new(number).ok_or(DecodeFault::BadRegister)
+}
+
+/// The fields of the 16 bytes.
+pub(crate) fn fields_of(bytes: [u8; INSTR_LEN]) -> Result<Fields, DecodeFault>
+    ensures opcode { IfOk result (λ fields. fields.opcode ≡ slice_index bytes 0) }
+    ensures registers { IfOk result (λ fields. (read_in fields).registers ≡ registers_at bytes) }
+    ensures imm { IfOk result (λ fields. fields.imm ≡ number_at bytes 8 4) }
+    ensures target { IfOk result (λ fields. fields.target ≡ number_at bytes 12 4) }
+    ensures places { IfOk result (λ fields. fields.places ≡ drop 8 bytes) }
+    ensures in_range { OnOk result (are_registers (registers_at bytes) ≡ true) }
+    ensures fault { IfErr result (λ fault. (fault ≡ faults.BadRegister) × (are_registers (registers_at bytes) ≡ false)) }
+{
+    let [opcode, a, b, c, d, e, f, g, i0, i1, i2, i3, t0, t1, t2, t3] = bytes;
+    Ok(Fields {
+        opcode,
+        a: register(a)?,
+        b: register(b)?,
+        c: register(c)?,
+        d: register(d)?,
+        e: register(e)?,
+        f: register(f)?,
+        g: register(g)?,
+        imm: u32::from_le_bytes([i0, i1, i2, i3]),
+        target: u32::from_le_bytes([t0, t1, t2, t3]),
+        places: [i0, i1, i2, i3, t0, t1, t2, t3],
+    })
+}
+
+/// Whether each byte is a register, or stands for none.
+fn are_places(places: &[u8]) -> bool
+    ensures { result ≡ are_places places.now }
+{
+    places.iter().all(|place| usize::from(*place) < Register::COUNT || *place == HandleList::NONE)
+}
+
+/// Whether there is room for so many triples of registers from the first on.
+fn is_room(first: Register, triples: u32) -> bool
+    ensures { result ≡ is_room first triples }
+{
+    triples <= 8 && u32::from(first.number()) + 3 * triples <= 32
+}
+
+/// Whether the registers that the last eight bytes name are there.
+pub(crate) fn names_registers(ending: Ending, fields: &Fields) -> bool
+    ensures { result ≡ names_registers ending (read_in fields.now) }
+{
+    match ending {
+        Ending::Room => is_room(fields.g, fields.imm),
+        Ending::Handles => are_places(&fields.places),
+        _ => true,
+    }
+}
+
+fn are_zero(registers: &[Register]) -> bool
+    ensures { result ≡ list_all (λ register. register == 0) registers.now }
+{
+    registers.iter().all(|register| register.number() == 0)
+}
+
+/// Whether no place has a register.
+fn are_empty(places: &[u8]) -> bool
+    ensures { result ≡ list_all (λ place. place == 0xff) places.now }
+{
+    places.iter().all(|place| *place == HandleList::NONE)
+}
+
+/// Whether no register stands behind a place without one.
+fn is_packed(places: &[u8]) -> bool
+    ensures { result ≡ is_packed places.now }
+{
+    match places {
+        [] => true,
+        [first, rest @ ..] if *first == HandleList::NONE => are_empty(rest),
+        [_, rest @ ..] => is_packed(rest),
+    }
+}
+
+/// Whether what isn't used of the last eight bytes is 0.
+fn is_ending_clear(ending: Ending, fields: &Fields) -> bool
+    ensures { result ≡ is_ending_clear ending (read_in fields.now) }
+{
+    match ending {
+        Ending::Nothing => fields.imm == 0 && fields.target == 0,
+        Ending::Number | Ending::Room => fields.target == 0,
+        Ending::Target => fields.imm == 0,
+        Ending::Both => true,
+        Ending::Handles => is_packed(&fields.places),
+    }
+}
+
+/// Whether the fields that the layout doesn't use are 0.
+pub(crate) fn is_unused_zero(layout: Layout, fields: &Fields) -> bool
+    requires { layout.registers ≤ 7 }
+    ensures { result ≡ is_unused_zero (layout_with layout.registers layout.ending) (read_in fields.now) }
+{
+    let registers: &[Register] = &[
+        fields.a, fields.b, fields.c, fields.d, fields.e, fields.f, fields.g,
+    ];
+    are_zero(&registers[layout.registers..]) && is_ending_clear(layout.ending, fields)
+}

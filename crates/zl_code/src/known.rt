@@ -1,0 +1,370 @@
+//! The instruction that 16 bytes spell: the table of instructions, from bytes.
+
+ghost use Rattle.std.specs.Prelude.{map, ◌<◌, ◌≤◌, ◌≡◌, ◌⊎◌, IsTrue, IfOk, IfErr, IfSome, OnOk, MatchResult, true, is_some, Bool, Some, None};
+ghost use Rattle.std.specs.List.{list_all};
+ghost use Rattle.zl_code.specs.declared.image.DecodeFault.TheVariants as faults;
+ghost use Rattle.zl_code.specs.Instructions.{layout_of};
+ghost use Rattle.zl_code.specs.Spells.{are_registers, names_registers, is_unused_zero, row_bytes, local_bytes, call_bytes, instr_bytes, is_local_in_range, is_call_in_range, is_instr_in_range, instr_fault, first_of};
+ghost use Rattle.zl_code.specs.Fields.{read_in};
+
+use crate::encoding::INSTR_LEN;
+use crate::fields::{Fields, fields_of, is_unused_zero, names_registers};
+use crate::image::DecodeFault;
+use crate::instr::{CallInstr, HandleList, Instr, LocalInstr};
+use crate::layout::layout_of;
+use std::alloc::Global;
+
+/// The least opcode of a system call.
+const FIRST_CALL: u8 = 64;
+
+/// The instruction of a known opcode below 64.
+#[tactic(auto, unfolding(crate::specs::Instructions::row_of, crate::specs::Spells::local_parts))]
+fn known_local(fields: Fields) -> LocalInstr
+    requires opcode { IsTrue (is_some (layout_of fields.opcode)) }
+    requires below { fields.opcode < FIRST_CALL }
+    requires registers { are_registers (read_in fields).registers ≡ true }
+    ensures bytes { IfSome (layout_of fields.opcode) (λ l. local_bytes result ≡ row_bytes fields.opcode l (read_in fields)) }
+    ensures in_range { IsTrue (is_local_in_range result) }
+{
+    let Fields {
+        opcode,
+        a,
+        b,
+        c,
+        imm,
+        target,
+        ..
+    } = fields;
+    match opcode {
+        1 => LocalInstr::Const {
+            destination: a,
+            number: imm,
+        },
+        2 => LocalInstr::Move {
+            destination: a,
+            source: b,
+        },
+        3 => LocalInstr::Add {
+            destination: a,
+            left: b,
+            right: c,
+        },
+        4 => LocalInstr::AddNumber {
+            destination: a,
+            left: b,
+            number: imm,
+        },
+        5 => LocalInstr::Subtract {
+            destination: a,
+            left: b,
+            right: c,
+        },
+        6 => LocalInstr::And {
+            destination: a,
+            left: b,
+            right: c,
+        },
+        7 => LocalInstr::Or {
+            destination: a,
+            left: b,
+            right: c,
+        },
+        8 => LocalInstr::Xor {
+            destination: a,
+            left: b,
+            right: c,
+        },
+        9 => LocalInstr::ShiftLeft {
+            destination: a,
+            source: b,
+            places: imm,
+        },
+        10 => LocalInstr::ShiftRight {
+            destination: a,
+            source: b,
+            places: imm,
+        },
+        11 => LocalInstr::Take {
+            destination: a,
+            source: b,
+        },
+        12 => LocalInstr::Swap {
+            register: a,
+            place: b,
+            array: imm,
+        },
+        13 => LocalInstr::LoadByte {
+            destination: a,
+            base: b,
+            offset: imm,
+        },
+        14 => LocalInstr::LoadWord {
+            destination: a,
+            base: b,
+            offset: imm,
+        },
+        15 => LocalInstr::StoreByte {
+            base: a,
+            source: b,
+            offset: imm,
+        },
+        16 => LocalInstr::StoreWord {
+            base: a,
+            source: b,
+            offset: imm,
+        },
+        17 => LocalInstr::Jump { target },
+        18 => LocalInstr::JumpZero {
+            register: a,
+            target,
+        },
+        19 => LocalInstr::JumpNotZero {
+            register: a,
+            target,
+        },
+        20 => LocalInstr::JumpEqual {
+            register: a,
+            number: imm,
+            target,
+        },
+        21 => LocalInstr::JumpNotEqual {
+            register: a,
+            number: imm,
+            target,
+        },
+        22 => LocalInstr::JumpBelow {
+            register: a,
+            number: imm,
+            target,
+        },
+        23 => LocalInstr::JumpNotBelow {
+            register: a,
+            number: imm,
+            target,
+        },
+        24 => LocalInstr::JumpHas {
+            register: a,
+            bits: imm,
+            target,
+        },
+        25 => LocalInstr::JumpHasNot {
+            register: a,
+            bits: imm,
+            target,
+        },
+        _ => unreachable!(),
+    }
+}
+
+/// The system call of a known opcode from 64 on.
+#[tactic(auto, unfolding(crate::specs::Instructions::row_of, crate::specs::Spells::call_parts))]
+fn known_call(fields: Fields) -> CallInstr
+    requires opcode { IsTrue (is_some (layout_of fields.opcode)) }
+    requires from { FIRST_CALL ≤ fields.opcode }
+    requires registers { are_registers (read_in fields).registers ≡ true }
+    requires last { IfSome (layout_of fields.opcode) (λ l. (names_registers l.ending (read_in fields) ≡ true) × (is_unused_zero l (read_in fields) ≡ true)) }
+    ensures bytes { IfSome (layout_of fields.opcode) (λ l. call_bytes result ≡ row_bytes fields.opcode l (read_in fields)) }
+    ensures in_range { IsTrue (is_call_in_range result) }
+{
+    let Fields {
+        opcode,
+        a,
+        b,
+        c,
+        d,
+        e,
+        f,
+        g,
+        imm,
+        places,
+        ..
+    } = fields;
+    match opcode {
+        64 => CallInstr::Close {
+            status: a,
+            handle: b,
+        },
+        65 => CallInstr::Dup {
+            status: a,
+            handle: b,
+            copy: c,
+            rights: imm,
+        },
+        66 => CallInstr::Replace {
+            status: a,
+            handle: b,
+            replacement: c,
+            rights: imm,
+        },
+        67 => CallInstr::ChanCreate {
+            status: a,
+            first: b,
+            second: c,
+        },
+        68 => CallInstr::ChanWrite {
+            status: a,
+            channel: b,
+            address: c,
+            length: d,
+            handles: HandleList { places },
+        },
+        69 => CallInstr::ChanReadEtc {
+            status: a,
+            channel: b,
+            address: c,
+            room: d,
+            bytes: e,
+            handles: f,
+            first: g,
+            places: imm,
+        },
+        70 => CallInstr::EventCreate {
+            status: a,
+            event: b,
+        },
+        71 => CallInstr::Signal {
+            status: a,
+            handle: b,
+            clear: c,
+            set: d,
+        },
+        72 => CallInstr::SignalPeer {
+            status: a,
+            handle: b,
+            clear: c,
+            set: d,
+        },
+        73 => CallInstr::WaitOne {
+            status: a,
+            handle: b,
+            mask: c,
+            observed: d,
+        },
+        74 => CallInstr::WaitPoll {
+            status: a,
+            handle: b,
+            mask: c,
+            observed: d,
+        },
+        75 => CallInstr::WaitAsync {
+            status: a,
+            handle: b,
+            port: c,
+            key: d,
+            mask: e,
+        },
+        76 => CallInstr::PortCreate { status: a, port: b },
+        77 => CallInstr::PortQueue {
+            status: a,
+            port: b,
+            key: c,
+            value: d,
+        },
+        78 => CallInstr::PortWait {
+            status: a,
+            port: b,
+            key: c,
+            kind: d,
+            trigger: e,
+            observed: f,
+        },
+        79 => CallInstr::PortPoll {
+            status: a,
+            port: b,
+            key: c,
+            kind: d,
+            trigger: e,
+            observed: f,
+        },
+        80 => CallInstr::PortCancel {
+            status: a,
+            port: b,
+            source: c,
+            key: d,
+        },
+        81 => CallInstr::ProcessCreate {
+            status: a,
+            job: b,
+            program: c,
+            process: d,
+        },
+        82 => CallInstr::ProcessStart {
+            status: a,
+            process: b,
+            handle: c,
+            word: d,
+        },
+        83 => CallInstr::ProcessExit { code: a },
+        84 => CallInstr::TaskKill { status: a, task: b },
+        85 => CallInstr::JobCreate {
+            status: a,
+            job: b,
+            child: c,
+        },
+        86 => CallInstr::JobSetPolicy {
+            status: a,
+            job: b,
+            mode: c,
+            condition: d,
+            action: e,
+        },
+        _ => unreachable!(),
+    }
+}
+
+/// The instruction of a known opcode.
+fn known(fields: Fields) -> Instr
+    requires opcode { IsTrue (is_some (layout_of fields.opcode)) }
+    requires registers { are_registers (read_in fields).registers ≡ true }
+    requires last { IfSome (layout_of fields.opcode) (λ l. (names_registers l.ending (read_in fields) ≡ true) × (is_unused_zero l (read_in fields) ≡ true)) }
+    ensures bytes { IfSome (layout_of fields.opcode) (λ l. instr_bytes result ≡ row_bytes fields.opcode l (read_in fields)) }
+    ensures in_range { (raw : Bool) → IsTrue (is_instr_in_range raw result) }
+{
+    if fields.opcode < FIRST_CALL {
+        Instr::Local(known_local(fields))
+    } else {
+        Instr::Call(known_call(fields))
+    }
+}
+
+/// The instruction of the 16 bytes.
+fn instr_of(raw: bool, bytes: [u8; INSTR_LEN]) -> Result<Instr, DecodeFault>
+    ensures bytes { IfOk result (λ instr. instr_bytes instr ≡ bytes) }
+    ensures in_range { IfOk result (λ instr. IsTrue (is_instr_in_range raw instr)) }
+    ensures fault { MatchResult result (λ _. instr_fault raw bytes ≡ None) (λ fault. instr_fault raw bytes ≡ Some fault) }
+{
+    match layout_of(bytes[0]) {
+        Some(layout) => {
+            let fields = fields_of(bytes)?;
+            if !names_registers(layout.ending, &fields) {
+                return Err(DecodeFault::BadRegister);
+            }
+            if !is_unused_zero(layout, &fields) {
+                return Err(DecodeFault::UnusedField);
+            }
+            Ok(known(fields))
+        }
+        None if raw => Ok(Instr::Unknown(bytes)),
+        None => Err(DecodeFault::UnknownOp),
+    }
+}
+
+/// The instructions of the pieces, in order.
+pub(crate) fn code_of(
+    alloc: Global,
+    raw: bool,
+    pieces: &[[u8; INSTR_LEN]],
+) -> Result<Vec<Instr>, DecodeFault>
+    ensures bytes { IfOk result (λ code. map instr_bytes code.items ≡ pieces.now) }
+    ensures in_range { IfOk result (λ code. IsTrue (list_all (is_instr_in_range raw) code.items)) }
+    ensures none { OnOk result (first_of (map (instr_fault raw) pieces.now) ≡ None) }
+    ensures fault { IfErr result (λ fault. (fault ≡ faults.NoMemory) ⊎ (first_of (map (instr_fault raw) pieces.now) ≡ Some fault)) }
+{
+    let mut code = Vec::with_capacity(alloc, pieces.len())?;
+    for piece in pieces {
+        let instr = instr_of(raw, *piece)?;
+        // Not `push`, whose error would hand the instruction back.
+        code.extend_from_slice(&[instr])?;
+    }
+    Ok(code)
+}

@@ -7,7 +7,7 @@ use Rattle.std.proofs.lemmas.List.Elements.{All-push, All-nil}
 use Rattle.zl_rights.specs.Map.{Map, get, put, has_key}
 use Rattle.zl_rights.specs.World.{Process as ProcessValue}
 use Rattle.zl_code.specs.declared.boot.Statement.TheVariants as statement
-use Rattle.zl_code.specs.Image.{Library, Program}
+use Rattle.zl_code.specs.Image.{Image, Library, Program}
 use Rattle.zl_code.specs.Effects.{with_object}
 use Rattle.zl_code.specs.Boot.{boot_effect, started_process, cpu_given, blank_cpu}
 use Rattle.zl_table.proofs.MapEdits.{sorted_put, put_key}
@@ -20,7 +20,7 @@ use Rattle.zl_calls.specs.World.{process_entry, process_value, state_value, obje
 use Rattle.zl_calls.specs.Registry.{is_job_in}
 use Rattle.zl_calls.specs.Making.{IsMaking, IsFresh, object_of, root_job, root_alone}
 use Rattle.zl_calls.specs.declared.booting.Made.{Made}
-use Rattle.zl_calls.specs.Makes.{HasNoSlots, Makes}
+use Rattle.zl_calls.specs.Makes.{Makes}
 use Rattle.zl_calls.proofs.BootFaults.{no_fault}
 use Rattle.zl_calls.proofs.Answered.{put_last}
 use Rattle.zl_calls.proofs.Labs.{has_seen}
@@ -43,13 +43,13 @@ job_is_root ps r k making there = by_key (cases_Bool (1 == k)) (rw (making.objec
 -- ---- one process more
 
 -- the process is new: it gets the next koid
-pub record IsNew (p : Process) (r : Registry) (program word memory : ℕ) : Type 0 where
+pub record IsNew (p : Process) (r : Registry) (program word : ℕ) (image : Image) : Type 0 where
   pub pid : p.pid ≡ r.next_koid
   pub program_is : p.program ≡ program
-  pub cpu : p.cpu ≡ started_cpu memory word
+  pub cpu : p.cpu ≡ started_cpu image word
   pub fresh : IsFresh p
 
-module _ (ps : List Process) (r : Registry) (making : IsMaking ps r) (p : Process) (program word memory : ℕ) (new : IsNew p r program word memory) where
+module _ (ps : List Process) (r : Registry) (making : IsMaking ps r) (p : Process) (program word : ℕ) (image : Image) (new : IsNew p r program word image) where
   abbrev n : ℕ
   n = r.next_koid
 
@@ -84,10 +84,10 @@ module _ (ps : List Process) (r : Registry) (making : IsMaking ps r) (p : Proces
       below (inl same) old = omega (arith, same)
       below (inr there) old = omega (arith, old there)
 
-  pub as_defined : (lib : Library) (g : Program) → slice_get lib program ≡ Some g → memory ≡ g.image.memory → HasNoSlots lib
+  pub as_defined : (lib : Library) (g : Program) → slice_get lib program ≡ Some g → image ≡ g.image
       → world_value (ps ++ p ∷ []) grown ≡ boot_effect lib (world_value ps r) (statement.Process 1 program word)
   unfolding boot_effect with_object
-  as_defined lib g there size free = λ i. record {
+  as_defined lib g there same = λ i. record {
     processes = (processes_are ∙ ap (λ (q : ProcessValue). put (map process_entry ps) n q) process_is) i;
     objects = objects_seen i;
     waits = [];
@@ -97,7 +97,7 @@ module _ (ps : List Process) (r : Registry) (making : IsMaking ps r) (p : Proces
   }
     where
       cpu_is : p.cpu ≡ cpu_given word (blank_cpu (slice_get lib program))
-      cpu_is = new.cpu ∙ rw (there, free.none program g there, size) refl
+      cpu_is = new.cpu ∙ ap (λ (k : Image). started_cpu k word) same ∙ rw there refl
 
       process_is : process_value p ≡ started_process lib program word
       process_is = λ i. record {
@@ -117,7 +117,7 @@ module _ (ps : List Process) (r : Registry) (making : IsMaking ps r) (p : Proces
 
 pub makes : (lib : Library) (before after : Made) (job program word : ℕ) (g : Program) (p : Process) → IsMaking before.processes.items before.objects
     → slice_get lib program ≡ Some g → is_job_in (get before.objects.objects job) ≡ true → length before.processes.items < 64 → before.objects.next_koid ≤ 1024
-    → IsNew p before.objects program word g.image.memory
+    → IsNew p before.objects program word g.image
     → after.processes.items ≡ before.processes.items ++ p ∷ [] → after.objects ≡ with_new before.objects (body.Process job true) 0
     → Makes lib (statement.Process job program word) before after
 makes lib before after job program word g p making there job_there few left new processes objects =
@@ -126,8 +126,8 @@ makes lib before after job program word g p making there job_there few left new 
     let grown : after.objects ≡ with_new before.objects (body.Process 1 true) 0 = objects ∙ ap (λ (k : ℕ). with_new before.objects (body.Process k true) 0) root in
     record {
       no_fault = no_fault lib ps before.objects job program word g there job_there few left;
-      effect = λ free. rw (processes, grown, root) (as_defined ps before.objects making p program word g.image.memory new lib g there refl free);
-      making = rw (processes, grown) (still_making ps before.objects making p program word g.image.memory new left);
+      effect = rw (processes, grown, root) (as_defined ps before.objects making p program word g.image new lib g there refl);
+      making = rw (processes, grown) (still_making ps before.objects making p program word g.image new left);
     }
 
 -- ---- the root job alone

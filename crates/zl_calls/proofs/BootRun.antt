@@ -10,12 +10,12 @@ use Rattle.zl_code.specs.Image.{Library}
 use Rattle.zl_code.specs.Boot.{boot_effect, boot_fault, Boots, FirstFault, at_statement, at_limit, MOST_ITEMS, origin}
 use Rattle.zl_calls.specs.declared.booting.Made.{Made}
 use Rattle.zl_calls.specs.Making.{IsMaking, root_alone}
-use Rattle.zl_calls.specs.Makes.{Makes, HasNoSlots, IsCauseOf, IsReached, seen}
+use Rattle.zl_calls.specs.Makes.{Makes, IsCauseOf, IsReached, seen}
 use Rattle.zl_calls.proofs.BootMaking.{starts_making}
 
 -- the statements made this
 pub record IsMadeBy (lib : Library) (done : List Statement) (made : Made) : Type 0 where
-  pub boots : HasNoSlots lib → Boots lib origin done (seen made)
+  pub boots : Boots lib origin done (seen made)
   pub making : IsMaking made.processes.items made.objects
 
 boots_more : (lib : Library) (w w2 w3 : World) (ss : List Statement) (s : Statement) → Boots lib w ss w2 → boot_fault lib w2 s ≡ None → w3 ≡ boot_effect lib w2 s → Boots lib w (ss ++ s ∷ []) w3
@@ -24,29 +24,29 @@ boots_more lib w w2 w3 (t ∷ ss) s so_far no_fault effect = (so_far.0, boots_mo
 
 pub none_made : (lib : Library) (made : Made) → made.processes.items ≡ [] → made.objects ≡ root_alone → IsMadeBy lib [] made
 none_made lib made none root = record {
-  boots = λ free. rw (none, root) refl;
+  boots = rw (none, root) refl;
   making = rw (none, root) starts_making;
 }
 
 pub one_more : (lib : Library) (ss : List Statement) (i : ℕ) (d : Statement) (before after : Made) → i < length ss → IsMadeBy lib (take i ss) before → Makes lib (get_or ss i d) before after
     → IsMadeBy lib (take (i + 1) ss) after
 one_more lib ss i d before after lt so_far makes = record {
-  boots = λ free. rw (take_more ss i d lt) (boots_more lib origin (seen before) (seen after) (take i ss) (get_or ss i d) (so_far.boots free) makes.no_fault (makes.effect free));
+  boots = rw (take_more ss i d lt) (boots_more lib origin (seen before) (seen after) (take i ss) (get_or ss i d) so_far.boots makes.no_fault makes.effect);
   making = makes.making;
 }
 
 -- ---- faults
 
 pub first_fault : (lib : Library) (ss : List Statement) (limit i : ℕ) (d : Statement) (made : Made) (c : BootCause) → i < length ss → IsMadeBy lib (take i ss) made
-    → IsCauseOf (boot_fault lib (seen made) (get_or ss i d)) c → HasNoSlots lib → c ≢ cause.NoMemory → FirstFault lib ss limit i c
-first_fault lib ss limit i d made c lt so_far causes free other = by_fault (boot_fault lib (seen made) (get_or ss i d)) refl causes
+    → IsCauseOf (boot_fault lib (seen made) (get_or ss i d)) c → c ≢ cause.NoMemory → FirstFault lib ss limit i c
+first_fault lib ss limit i d made c lt so_far causes other = by_fault (boot_fault lib (seen made) (get_or ss i d)) refl causes
   where
     by_fault : (o : Option BootCause) → boot_fault lib (seen made) (get_or ss i d) ≡ o → IsCauseOf o c → FirstFault lib ss limit i c
     by_fault None is wants = absurd (other wants)
-    by_fault (Some found) is same = at_statement (seen made) i (get_or ss i d) c (so_far.boots free) (slice_get-get_or ss i d lt) (is ∙ ap (λ (x : BootCause). Some x) (sym same))
+    by_fault (Some found) is same = at_statement (seen made) i (get_or ss i d) c so_far.boots (slice_get-get_or ss i d lt) (is ∙ ap (λ (x : BootCause). Some x) (sym same))
 
-pub limit_fault : (lib : Library) (ss : List Statement) (limit i : ℕ) (made : Made) → length ss ≤ i → IsMadeBy lib (take i ss) made → HasNoSlots lib → MOST_ITEMS < limit → FirstFault lib ss limit (length ss) cause.Limit
-limit_fault lib ss limit i made all so_far free above = at_limit (seen made) (rw take_all at (so_far.boots free)) above
+pub limit_fault : (lib : Library) (ss : List Statement) (limit i : ℕ) (made : Made) → length ss ≤ i → IsMadeBy lib (take i ss) made → MOST_ITEMS < limit → FirstFault lib ss limit (length ss) cause.Limit
+limit_fault lib ss limit i made all so_far above = at_limit (seen made) (rw take_all at so_far.boots) above
 
 -- ---- the statements before a fault
 

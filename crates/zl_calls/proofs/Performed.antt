@@ -104,3 +104,4 @@ module _ (lib : Library) (before after : List Process) (r r2 : Registry) (p p2 :
   acted_done (call.EventCreate a d) o next acts = acted_event a d o next acts
   acted_done (call.Signal a h clear set) o next acts = acted_signal a h clear set o next acts
   acted_done (call.ProcessExit a) o next acts = rw acts.ends (exit_done lib before after r r2 p p2 lab write (signed_word (reg p.cpu a)) acts.over ready (reg p.cpu a) refl next)
+  acted_done _ o next acts = absurd acts

@@ -50,6 +50,7 @@ same_pid (call.Dup a h d asked) p r o p2 r2 acts = ap (λ (q : Process). q.pid) 
 same_pid (call.EventCreate a d) p r o p2 r2 acts = ap (λ (q : Process). q.pid) acts.replied
 same_pid (call.Signal a h clear set) p r o p2 r2 acts = ap (λ (q : Process). q.pid) acts.replied
 same_pid (call.ProcessExit a) p r o p2 r2 acts = ap (λ (q : Process). q.pid) acts.over.process
+same_pid _ p r o p2 r2 acts = absurd acts
 
 -- two reads of one place
 pub same_read : (ps : List Process) (pid place : ℕ) (p q : Process) → Some place ≡ position (λ x. x.pid == pid) ps → p ≡ get_or ps place p → q ≡ get_or ps place q → p ≡ q
@@ -180,3 +181,11 @@ module _ (lib : Library) (ps : List Process) (r : Registry) (lab : IsLab ps r) (
         lab = stuck_keeps lib ps r lab pid place p found read ready p2 r2 next_p ends;
         done = stuck_done lib ps r lab pid place p found read ready p2 r2 next_p ends;
       }
+
+  -- a local instruction that can't be done, which left the Cpu as it was
+  pub cannot : IsTrue (is_ready_in (lab_value lib ps r) pid) → call_for (lab_value lib ps r) pid ≡ None → (i : LocalInstr) (c : Cpu) (p2 : Process) (r2 : Registry)
+      → next_for lib (process_value q) ≡ moves (local_effect i q.cpu) → local_effect i p.cpu ≡ None → c ≡ p.cpu → Ends STUCK (record p { cpu = c }) r p2 r2
+      → IsStepped (set ps place p2) r2 (StepsTo (lab_value lib ps r) (item.Stuck pid) (lab_value lib (set ps place p2) r2))
+  cannot ready no_call i c p2 r2 next no_effect unchanged ends =
+      let none_q : local_effect i q.cpu ≡ None = subst (λ (x : Process). local_effect i x.cpu ≡ None) (sym same) no_effect in
+      is_stuck ready no_call p2 r2 (λ _. next ∙ ap moves none_q) (subst (λ (x : Cpu). Ends STUCK (record p { cpu = x }) r p2 r2) unchanged ends)

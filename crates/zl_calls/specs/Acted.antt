@@ -50,6 +50,10 @@ pub record ActsExit (a : ℕ) (p : Process) (r : Registry) (o : Outcome) (p2 : P
   pub ends : o ≡ outcome.Ended (signed_word (reg p.cpu a))
   pub over : Ends (signed_word (reg p.cpu a)) p r p2 r2
 
+-- a call that isn't built does nothing
+abbrev NotBuilt : Process → Registry → Outcome → Process → Registry → Type 0
+NotBuilt p r o p2 r2 = ⊥
+
 -- the call leads from p and r to p2 and r2, and ends so
 abbrev pub Acted : CallInstr → Process → Registry → Outcome → Process → Registry → Type 0
 Acted (call.Close a b) = ActsClose a b
@@ -57,3 +61,4 @@ Acted (call.Dup a h d asked) = ActsDup a h d asked
 Acted (call.EventCreate a d) = ActsEventCreate a d
 Acted (call.Signal a h clear set) = ActsSignal a h clear set
 Acted (call.ProcessExit a) = ActsExit a
+Acted _ = NotBuilt

@@ -1,10 +1,10 @@
 -- What one statement of a boot does to the processes and objects made so far.
-use Rattle.std.specs.Prelude.{ℕ, ◌≡◌, List, [], take, Option, Some, None, slice_get}
+use Rattle.std.specs.Prelude.{ℕ, ◌≡◌, List, take, Option, Some, None}
 use Rattle.zl_rights.specs.World.{World}
 use Rattle.zl_code.specs.declared.boot.BootCause.{BootCause}
 use Rattle.zl_code.specs.declared.boot.BootCause.TheVariants as cause
 use Rattle.zl_code.specs.declared.boot.Statement.{Statement}
-use Rattle.zl_code.specs.Image.{Library, Program}
+use Rattle.zl_code.specs.Image.{Library}
 use Rattle.zl_code.specs.Boot.{boot_fault, boot_effect, Boots, origin}
 use Rattle.zl_calls.specs.declared.booting.Made.{Made}
 use Rattle.zl_calls.specs.World.{world_value}
@@ -14,14 +14,10 @@ use Rattle.zl_calls.specs.Making.{IsMaking}
 abbrev pub seen : Made → World
 seen made = world_value made.processes.items made.objects
 
--- no program of the library has slot arrays
-pub record HasNoSlots (lib : Library) : Type 0 where
-  pub none : (n : ℕ) (g : Program) → slice_get lib n ≡ Some g → g.image.slots ≡ []
-
 -- the statement leads from one world to the other
 pub record Makes (lib : Library) (s : Statement) (old new : Made) : Type 0 where
   pub no_fault : boot_fault lib (seen old) s ≡ None
-  pub effect : HasNoSlots lib → seen new ≡ boot_effect lib (seen old) s
+  pub effect : seen new ≡ boot_effect lib (seen old) s
   pub making : IsMaking new.processes.items new.objects
 
 -- the cause is that of the statement; where it has none it is the want of memory

@@ -5,7 +5,7 @@ ghost use Rattle.zl_rights.specs.Settle.{Settles};
 ghost use Rattle.zl_code.specs.Boot.{IsBoot, FirstFault, MOST_ITEMS, boot_fault};
 ghost use Rattle.zl_calls.specs.Lab.{IsLab};
 ghost use Rattle.zl_calls.specs.Making.{IsMaking, root_alone};
-ghost use Rattle.zl_calls.specs.Makes.{Makes, seen, IsCauseOf, HasNoSlots, IsReached};
+ghost use Rattle.zl_calls.specs.Makes.{Makes, seen, IsCauseOf, IsReached};
 
 use crate::cpu::Cpu;
 use crate::objects::{Body, Objects};
@@ -30,14 +30,12 @@ pub struct Made {
 
 /// What the statements of a boot make, in their order; `World::boot` says when which fault comes.
 pub fn booted(alloc: Global, library: &Library, boot: &Boot) -> Result<Made, BootFault>
-    ensures ok { IfOk result (λ made. HasNoSlots library.now
-        → IsBoot library.now boot.now.statements.items (seen made)) }
+    ensures ok { IfOk result (λ made. IsBoot library.now boot.now.statements.items (seen made)) }
     ensures lab { IfOk result (λ made. IsLab made.processes.items made.objects) }
     ensures limit { OnOk result (boot.now.limit ≤ MOST_ITEMS) }
-    ensures err { IfErr result (λ fault. HasNoSlots library.now → fault.cause ≢ BootCause.NoMemory
+    ensures err { IfErr result (λ fault. fault.cause ≢ BootCause.NoMemory
         → FirstFault library.now boot.now.statements.items boot.now.limit fault.statement fault.cause) }
-    ensures reached { IfErr result (λ fault. HasNoSlots library.now
-        → IsReached library.now boot.now.statements.items fault.statement) }
+    ensures reached { IfErr result (λ fault. IsReached library.now boot.now.statements.items fault.statement) }
 {
     let Ok(mut made) = Made::new(alloc) else {
         return Err(fault_at(0, BootCause::NoMemory));
@@ -108,8 +106,7 @@ impl Made {
         if self.processes.len() >= MOST_PROCESSES || self.objects.next_koid() > MOST_KOIDS {
             return Err(BootCause::Limit);
         }
-        let memory = listed.image().memory();
-        let Ok(cpu) = Cpu::new(alloc, memory, word) else {
+        let Ok(cpu) = Cpu::new(alloc, listed.image(), word) else {
             return Err(BootCause::NoMemory);
         };
         let Ok(pid) = self.objects.create(Body::Process { job, lives: true }, 0) else {

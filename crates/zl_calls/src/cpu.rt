@@ -1,40 +1,43 @@
-ghost use Rattle.std.specs.Prelude.{◌≡◌, ◌+◌, ◌<◌, ◌^◌, IfOk, slice_set};
-ghost use Rattle.zl_code.specs.Local.{reg};
+ghost use Rattle.std.specs.Prelude.{◌≡◌, ◌+◌, ◌<◌, ◌^◌, IfOk, map, replicate, slice_set};
+ghost use Rattle.zl_code.specs.Local.{reg, sets, goes_to, goes_if};
 ghost use Rattle.zl_calls.specs.Cpu.{started_cpu};
 
 use std::alloc::{AllocError, Global};
 use std::marker::Model;
-use zl_code::Register;
+use zl_code::{Image, Register, SlotArray};
 
-/// What a process computes with: program counter, registers and data memory.
+/// What a process computes with: program counter, registers, data memory and slot arrays.
 #[derive(Drop)]
 pub struct Cpu {
-    counter: usize,
-    registers: [u64; 32],
-    memory: Vec<u8>,
+    pub(crate) counter: usize,
+    pub(crate) registers: [u64; 32],
+    pub(crate) memory: Vec<u8>,
+    pub(crate) slots: Vec<Vec<u64>>,
 }
 
 impl Model for Cpu {
-    ghost use Rattle.std.specs.Prelude.{[]};
+    ghost use Rattle.std.specs.Prelude.{map};
     ghost use Rattle.zl_rights.specs.World.{Cpu as CpuValue};
 
     ghost Value = { CpuValue };
 
-    ghost view = { λ c. record { counter = c.counter; registers = c.registers; memory = c.memory.items; slots = [] } };
+    ghost view = { λ c. record { counter = c.counter; registers = c.registers; memory = c.memory.items; slots = map (λ places. places.items) c.slots.items } };
 }
 
 impl Cpu {
-    /// The Cpu of a process that starts with the word, with so many bytes of memory.
-    pub fn new(alloc: Global, memory: u32, word: u64) -> Result<Cpu, AllocError>
-        ensures { IfOk result (λ cpu. cpu ≡ started_cpu memory word) }
+    /// The Cpu of a process that runs the image and starts with the word.
+    pub fn new(alloc: Global, image: &Image, word: u64) -> Result<Cpu, AllocError>
+        ensures { IfOk result (λ cpu. cpu ≡ started_cpu image.now word) }
     {
         let mut registers = [0; 32];
         registers[1] = word;
-        let memory = vec![in alloc; 0; memory as usize]?;
+        let memory = vec![in alloc; 0; image.memory() as usize]?;
+        let slots = empty_slots(alloc, image.slots())?;
         Ok(Cpu {
             counter: 0,
             registers,
             memory,
+            slots,
         })
     }
 
@@ -66,4 +69,44 @@ impl Cpu {
     {
         self.counter += 1;
     }
+
+    /// The register becomes the value, and the next instruction is the one behind this.
+    pub fn assign(&mut self, register: Register, value: u64)
+        requires { self.old.counter < 2 ^ 32 }
+        ensures { self.new ≡ sets self.old register value }
+    {
+        self.set(register, value);
+        self.advance();
+    }
+
+    /// The next instruction is the target.
+    pub fn go_to(&mut self, target: u32)
+        ensures { self.new ≡ goes_to self.old target }
+    {
+        self.counter = target as usize;
+    }
+
+    /// The next instruction is the target where the test holds, else the one behind this.
+    pub fn go_if(&mut self, test: bool, target: u32)
+        requires { self.old.counter < 2 ^ 32 }
+        ensures { self.new ≡ goes_if self.old test target }
+    {
+        if test {
+            self.go_to(target);
+        } else {
+            self.advance();
+        }
+    }
+}
+
+// Slot arrays with 0 in each place.
+fn empty_slots(alloc: Global, arrays: &[SlotArray]) -> Result<Vec<Vec<u64>>, AllocError>
+    ensures { IfOk result (λ slots. map (λ places. places.items) slots.items ≡ map (λ array. replicate array.length 0) arrays.now) }
+{
+    let mut slots = Vec::with_capacity(alloc, arrays.len())?;
+    for array in arrays {
+        let places = vec![in alloc; 0; array.length as usize]?;
+        slots.push(places)?;
+    }
+    Ok(slots)
 }

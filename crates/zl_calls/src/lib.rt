@@ -12,6 +12,7 @@ mod cpu;
 mod objects;
 mod process;
 mod program;
+mod running;
 mod stepping;
 mod world;
 

@@ -1,9 +1,10 @@
 //! Which process stands where, what stands next for it, and what it then does.
 
-ghost use Rattle.std.specs.Prelude.{◌≡◌, ◌==◌, ◌<◌, ◌^◌, Some, None, map, MatchOption, IfSome, IfNone, OnSome};
+ghost use Rattle.std.specs.Prelude.{◌≡◌, ◌==◌, ◌<◌, ◌^◌, Some, None, map, MatchOption, IsSome, IfSome, IfNone, OnSome, is_some};
 ghost use Rattle.std.specs.List.{position};
 ghost use Rattle.std.specs.Option.{option_map};
 ghost use Rattle.zl_rights.specs.Map.{get};
+ghost use Rattle.zl_rights.specs.World.{Cpu as CpuValue};
 ghost use Rattle.zl_code.specs.Local.{local_effect};
 ghost use Rattle.zl_code.specs.Request.{name_of, site_of};
 ghost use Rattle.zl_code.specs.Steps.{next_for, moves, calls_at, IsStuck};
@@ -12,7 +13,6 @@ ghost use Rattle.zl_calls.specs.Parts.{status_of};
 ghost use Rattle.zl_calls.specs.World.{process_entry, process_value, call_in, IsPlaceOf};
 
 use crate::calls;
-use crate::cpu::Cpu;
 use crate::objects::Objects;
 use crate::process::Process;
 use crate::program::Library;
@@ -39,10 +39,12 @@ fn first_with(processes: &[Process], pid: Pid) -> Option<usize>
 pub fn next_call(library: &Library, process: &Process) -> Option<CallInstr>
     ensures named { option_map name_of result ≡ call_in (next_for library.now (process_value process.now)) }
     ensures site { IfSome result (λ call. next_for library.now (process_value process.now) ≡ calls_at (name_of call) (site_of call process.now.cpu)) }
+    ensures built { IfSome result (λ call. IsSome (site_of call process.now.cpu)) }
     ensures within { OnSome result (process.now.cpu.counter < 4096) }
 {
     let program = library.get(process.program)?;
-    program.image().call_at(process.cpu.counter())
+    let call = program.image().call_at(process.cpu.counter())?;
+    if is_built(&call) { Some(call) } else { None }
 }
 
 /// The local instruction that stands next, if one does.
@@ -55,6 +57,21 @@ pub fn next_local(library: &Library, process: &Process) -> Option<LocalInstr>
     program.image().local_at(process.cpu.counter())
 }
 
+/// Whether the call is built; one that isn't is stuck.
+#[tactic(auto, unfolding(zl_code::specs::Request::site_of))]
+fn is_built(call: &CallInstr) -> bool
+    ensures { (c : CpuValue) → is_some (site_of call.now c) ≡ result }
+{
+    matches!(
+        call,
+        CallInstr::Close { .. }
+            | CallInstr::Dup { .. }
+            | CallInstr::EventCreate { .. }
+            | CallInstr::Signal { .. }
+            | CallInstr::ProcessExit { .. }
+    )
+}
+
 /// The name of the call.
 pub fn name_of(call: CallInstr) -> CallName
     ensures { result ≡ name_of call }
@@ -62,15 +79,35 @@ pub fn name_of(call: CallInstr) -> CallName
     match call {
         CallInstr::Close { .. } => CallName::Close,
         CallInstr::Dup { .. } => CallName::Dup,
+        CallInstr::Replace { .. } => CallName::Replace,
+        CallInstr::ChanCreate { .. } => CallName::ChanCreate,
+        CallInstr::ChanWrite { .. } => CallName::ChanWrite,
+        CallInstr::ChanReadEtc { .. } => CallName::ChanReadEtc,
         CallInstr::EventCreate { .. } => CallName::EventCreate,
         CallInstr::Signal { .. } => CallName::Signal,
+        CallInstr::SignalPeer { .. } => CallName::SignalPeer,
+        CallInstr::WaitOne { .. } => CallName::WaitOne,
+        CallInstr::WaitPoll { .. } => CallName::WaitPoll,
+        CallInstr::WaitAsync { .. } => CallName::WaitAsync,
+        CallInstr::PortCreate { .. } => CallName::PortCreate,
+        CallInstr::PortQueue { .. } => CallName::PortQueue,
+        CallInstr::PortWait { .. } => CallName::PortWait,
+        CallInstr::PortPoll { .. } => CallName::PortPoll,
+        CallInstr::PortCancel { .. } => CallName::PortCancel,
+        CallInstr::ProcessCreate { .. } => CallName::ProcessCreate,
+        CallInstr::ProcessStart { .. } => CallName::ProcessStart,
         CallInstr::ProcessExit { .. } => CallName::ProcessExit,
+        CallInstr::TaskKill { .. } => CallName::TaskKill,
+        CallInstr::JobCreate { .. } => CallName::JobCreate,
+        CallInstr::JobSetPolicy { .. } => CallName::JobSetPolicy,
     }
 }
 
-/// Does the call.
+/// Does the call, which has to be built.
+#[tactic(auto, unfolding(zl_code::specs::Request::site_of))]
 pub fn act(alloc: Global, process: &mut Process, objects: &mut Objects, call: CallInstr) -> Outcome
-    requires { process.old.cpu.counter < 2 ^ 32 }
+    requires counter { process.old.cpu.counter < 2 ^ 32 }
+    requires built { IsSome (site_of call process.old.cpu) }
     ensures { Acted call process.old objects.old result process.new objects.new }
 {
     match call {
@@ -97,6 +134,7 @@ pub fn act(alloc: Global, process: &mut Process, objects: &mut Objects, call: Ca
         CallInstr::ProcessExit { code } => Outcome::Ended(calls::process_exit(
             alloc, process, objects, code,
         )),
+        _ => unreachable!(),
     }
 }
 
@@ -107,22 +145,5 @@ fn answered_by(answer: Result<HValue, Status>) -> Outcome
     match answer {
         Ok(_) => Outcome::Answered(Status::Ok),
         Err(refused) => Outcome::Answered(refused),
-    }
-}
-
-/// Does the local instruction.
-#[tactic(auto, unfolding(zl_code::specs::Local::local_effect))]
-pub fn run(cpu: &mut Cpu, local: LocalInstr)
-    requires { cpu.old.counter < 2 ^ 32 }
-    ensures { local_effect local cpu.old ≡ Some cpu.new }
-{
-    match local {
-        LocalInstr::Const {
-            destination,
-            number,
-        } => {
-            cpu.set(destination, u64::from(number));
-            cpu.advance();
-        }
     }
 }

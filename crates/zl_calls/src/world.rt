@@ -2,7 +2,7 @@ ghost use Rattle.std.specs.Prelude.{◌≡◌, ◌≢◌, ◌≤◌, IsSome, IsT
 ghost use Rattle.zl_code.specs.declared.boot.BootCause.TheVariants.{NoMemory};
 ghost use Rattle.zl_code.specs.Boot.{IsBoot, FirstFault, MOST_ITEMS};
 ghost use Rattle.zl_calls.specs.World.{call_for, state_in, is_ready_in};
-ghost use Rattle.zl_calls.specs.Makes.{HasNoSlots, IsReached};
+ghost use Rattle.zl_calls.specs.Makes.{IsReached};
 ghost use Rattle.zl_calls.specs.Steps.{Performs, StepsTo, local_item};
 
 use crate::booting::{Made, booted};
@@ -10,7 +10,8 @@ use crate::calls::end;
 use crate::objects::Objects;
 use crate::process::Process;
 use crate::program::Library;
-use crate::stepping::{act, name_of, next_call, next_local, place_of, run};
+use crate::running::run;
+use crate::stepping::{act, name_of, next_call, next_local, place_of};
 use std::alloc::Global;
 use std::marker::Model;
 use zl_code::{Boot, BootFault, CallName, Outcome, ProcState};
@@ -58,14 +59,12 @@ impl World {
     /// trace above `Boot::MOST_ITEMS` is `Limit` of a statement one past the last. `NoMemory` may
     /// come at any statement.
     pub fn boot(alloc: Global, library: Library, boot: &Boot) -> Result<World, BootFault>
-        ensures ok { IfOk result (λ world. HasNoSlots library
-            → IsBoot library boot.now.statements.items world.world) }
+        ensures ok { IfOk result (λ world. IsBoot library boot.now.statements.items world.world) }
         ensures programs { IfOk result (λ world. world.programs ≡ library) }
         ensures limit { OnOk result (boot.now.limit ≤ MOST_ITEMS) }
-        ensures err { IfErr result (λ fault. HasNoSlots library → fault.cause ≢ NoMemory
+        ensures err { IfErr result (λ fault. fault.cause ≢ NoMemory
             → FirstFault library boot.now.statements.items boot.now.limit fault.statement fault.cause) }
-        ensures reached { IfErr result (λ fault. HasNoSlots library
-            → IsReached library boot.now.statements.items fault.statement) }
+        ensures reached { IfErr result (λ fault. IsReached library boot.now.statements.items fault.statement) }
     {
         let Made { processes, objects } = booted(alloc, &library, boot)?;
         Ok(World {
@@ -139,10 +138,13 @@ impl World {
         let next = next_local(&self.library, &self.processes[place]);
         let process = &mut self.processes[place];
         match next {
-            Some(local) => {
-                run(&mut process.cpu, local);
-                Local::Ran
-            }
+            Some(local) => match run(&mut process.cpu, local) {
+                Some(()) => Local::Ran,
+                None => {
+                    end(self.alloc, process, &mut self.objects, STUCK);
+                    Local::Stuck
+                }
+            },
             None => {
                 end(self.alloc, process, &mut self.objects, STUCK);
                 Local::Stuck

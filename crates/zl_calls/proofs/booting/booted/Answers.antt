@@ -3,7 +3,7 @@ use Rattle.zl_calls.proofs.BootRun.{none_made, one_more, first_fault, limit_faul
 use Rattle.zl_calls.proofs.booting.booted.Goals as goal
 
 pub returns-in_default-clause-reached : goal.returns-in_default-clause-reached
-returns-in_default-clause-reached c = rw c.fault_at.ensures (λ free. none_reached c.args.library.now c.args.boot.now.statements.items)
+returns-in_default-clause-reached c = rw c.fault_at.ensures (none_reached c.args.library.now c.args.boot.now.statements.items)
 
 pub loop-number-init : goal.loop-number-init
 loop-number-init c = none_made c.args.library.now c.in-Ok.made (c.in-Ok.ensures {u = tt}).no_process (c.in-Ok.ensures {u = tt}).root
@@ -25,5 +25,5 @@ pub returns-then-boot-gt-MOST_ITEMS-clause-err : goal.returns-then-boot-gt-MOST_
 returns-then-boot-gt-MOST_ITEMS-clause-err c =
     let statements = c.deref-statement-items.ensures.value in
     rw (c.fault_at-then-boot-gt-MOST_ITEMS.ensures, c.len.ensures, c.args.boot.now.statements.ok.0)
-    (λ free other. limit_fault c.args.library.now c.args.boot.now.statements.items c.args.boot.now.limit c.loop-number.number c.loop-number.made
-    (rw statements at c.loop-number-test.false) c.loop-number.invariant free c.if-boot-gt-MOST_ITEMS.true)
+    (λ other. limit_fault c.args.library.now c.args.boot.now.statements.items c.args.boot.now.limit c.loop-number.number c.loop-number.made
+    (rw statements at c.loop-number-test.false) c.loop-number.invariant c.if-boot-gt-MOST_ITEMS.true)

@@ -39,7 +39,7 @@ returns-then-is_err-clause-err c =
 pub returns-clause-ok : goal.returns-clause-ok
 returns-clause-ok c =
     let created = c.in-Ok-create.ensures in
-    let cpu = c.in-Ok.ensures ∙ ap (λ (n : ℕ). started_cpu n c.args.word) (c.memory-memory.ensures.value ∙ ap (λ (image : Image). image.memory) c.image.ensures) in
+    let cpu = c.in-Ok.ensures ∙ ap (λ (image : Image). started_cpu image c.args.word) c.image.ensures in
     makes c.args.library.now c.args.self.now (record { processes = c.push.new.self; objects = c.create.new.self }) c.args.job c.args.program c.args.word
     (program_value c.in-Some.listed.now) (record { pid = c.in-Ok-create.pid; program = c.args.program; state = state.Ready; cpu = c.in-Ok.cpu; table = c.new-2.result })
     c.requires c.in-Some.ensures.found (sym c.is_job.ensures ∙ c.if-not-is_job.false) (omega (arith, c.args.self.now.processes.ok.0)) (omega arith)

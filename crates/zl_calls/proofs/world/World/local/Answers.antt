@@ -1,5 +1,5 @@
 use Rattle.zl_calls.proofs.Places.{absent_is_not_ready}
-use Rattle.zl_calls.proofs.Performing.{moves_on, is_stuck}
+use Rattle.zl_calls.proofs.Performing.{moves_on, is_stuck, cannot}
 use Rattle.zl_calls.specs.World.{world_value}
 use Rattle.zl_calls.proofs.world.World.local.Goals as goal
 

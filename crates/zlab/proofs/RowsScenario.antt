@@ -4,7 +4,8 @@ use Rattle.std.specs.Prelude.{codes}
 use Rattle.std.specs.List.{flat_map}
 use Rattle.zl_code.specs.declared.boot.Statement.{Statement}
 use Rattle.zl_code.specs.declared.boot.Statement.TheVariants as statement
-use Rattle.zl_code.specs.Spells.{first_fault, header_fault, instr_fault, row_of, pieces}
+use Rattle.zl_code.specs.Instructions.{row_of}
+use Rattle.zl_code.specs.Spells.{first_fault, header_fault, instr_fault, pieces}
 use Rattle.zl_code.proofs.Stored.{bytes}
 use Rattle.zlab.specs.declared.fault.Cause.{Cause}
 use Rattle.zlab.specs.declared.fault.Cause.TheVariants as cause

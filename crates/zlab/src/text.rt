@@ -55,9 +55,27 @@ fn name_of_call(call: CallName) -> &'static str
     match call {
         CallName::Close => "close",
         CallName::Dup => "dup",
+        CallName::Replace => "replace",
+        CallName::ChanCreate => "chan_create",
+        CallName::ChanWrite => "chan_write",
+        CallName::ChanReadEtc => "chan_read_etc",
         CallName::EventCreate => "event_create",
         CallName::Signal => "signal",
+        CallName::SignalPeer => "signal_peer",
+        CallName::WaitOne => "wait_one",
+        CallName::WaitPoll => "wait_poll",
+        CallName::WaitAsync => "wait_async",
+        CallName::PortCreate => "port_create",
+        CallName::PortQueue => "port_queue",
+        CallName::PortWait => "port_wait",
+        CallName::PortPoll => "port_poll",
+        CallName::PortCancel => "port_cancel",
+        CallName::ProcessCreate => "process_create",
+        CallName::ProcessStart => "process_start",
         CallName::ProcessExit => "process_exit",
+        CallName::TaskKill => "task_kill",
+        CallName::JobCreate => "job_create",
+        CallName::JobSetPolicy => "job_set_policy",
     }
 }
 

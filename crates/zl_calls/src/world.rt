@@ -1,4 +1,6 @@
-ghost use Rattle.std.specs.Prelude.{◌≡◌, ◌≢◌, ◌≤◌, IsSome, IsTrue, IfOk, OnOk, IfErr, None, slice_get, map};
+ghost use Rattle.std.specs.Prelude.{length, ◌<◌, ◌^◌, ◌≡◌, ◌≢◌, ◌≤◌, IsSome, IsTrue, IfOk, OnOk, IfErr, None, slice_get, map};
+ghost use Rattle.std.specs.Ordering.{nat_cmp};
+ghost use Rattle.std.specs.FinMap.Entries.{is_sorted};
 ghost use Rattle.zl_code.specs.declared.boot.BootCause.TheVariants.{NoMemory};
 ghost use Rattle.zl_code.specs.Boot.{IsBoot, FirstFault, MOST_ITEMS};
 ghost use Rattle.zl_calls.specs.World.{call_for, state_in, is_ready_in};
@@ -77,7 +79,9 @@ impl World {
 
     /// The koid of the n-th process ever made, from 0.
     pub fn process_at(&self, n: usize) -> Option<Pid>
-        ensures { result ≡ slice_get (map (λ p. p.0) self.now.world.processes) n }
+        ensures koid { result ≡ slice_get (map (λ p. p.0) self.now.world.processes) n }
+        ensures in_order { IsTrue (is_sorted nat_cmp self.now.world.processes) }
+        ensures few { length self.now.world.processes < 2 ^ 64 }
     {
         Some(self.processes.get(n)?.pid)
     }

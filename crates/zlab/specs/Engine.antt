@@ -1,0 +1,135 @@
+-- What the step engine answers to the bytes that it has read.
+use Rattle.std.specs.Prelude.{ℕ, ◌≡◌, ◌<◌, ◌≤◌, List, [], length, map, Option, Some, None, IfSome, slice_get}
+use Rattle.std.specs.Io.KnownBytes.{Appends}
+use Rattle.zl_rights.specs.World.{World}
+use Rattle.zl_code.specs.declared.boot.BootCause.{BootCause}
+use Rattle.zl_code.specs.declared.boot.BootCause.TheVariants as boot
+use Rattle.zl_code.specs.declared.history.ProcState.{ProcState}
+use Rattle.zl_code.specs.declared.history.TraceItem.{TraceItem}
+use Rattle.zl_code.specs.Boot.{IsBoot, FirstFault}
+use Rattle.zl_code.specs.Image.{Library}
+use Rattle.zl_code.specs.Steps.{IsLegalHistory}
+use Rattle.zl_calls.specs.World.{seen_in}
+use Rattle.zlab.specs.declared.engine.Booted.{Booted}
+use Rattle.zlab.specs.declared.engine.Booted.TheVariants as booted
+use Rattle.zlab.specs.declared.fault.Cause.{Cause}
+use Rattle.zlab.specs.declared.fault.Cause.TheVariants as cause
+use Rattle.zlab.specs.declared.fault.LineFault.{LineFault}
+use Rattle.zlab.specs.declared.fault.Verdict.{Verdict}
+use Rattle.zlab.specs.declared.fault.Verdict.TheVariants as verdict
+use Rattle.zlab.specs.declared.input.TheConstants.{MOST_INPUT}
+use Rattle.zlab.specs.declared.text.End.{End}
+use Rattle.zlab.specs.Follows.{turns_of, EndsBy}
+use Rattle.zlab.specs.Output.{AppendsBeginning}
+use Rattle.zlab.specs.Reading.{Lists}
+use Rattle.zlab.specs.Scenario.{Said, reading_of}
+use Rattle.zlab.specs.System.{Tracked, Walks}
+use Rattle.zlab.specs.Text.{history_text, refused_line}
+
+-- what the text says
+abbrev pub said_in : List ℕ → Said
+said_in text = (reading_of text).said
+
+-- ---- a trace
+
+-- every process ever made, by koid, with what it is in
+abbrev pub states_of : World → List (ℕ × ProcState)
+states_of w = map (λ p. (p.0, seen_in p.1.state)) w.processes
+
+-- the items are a legal history from a boot world of the scenario in the text, along its schedule, up to this end
+pub record IsRunOf (text : List ℕ) (items : List TraceItem) (w : World) (e : End) : Type 0 where
+  pub no_fault : (reading_of text).fault ≡ None
+  pub library : Library
+  pub programs : Lists (said_in text).programs library
+  pub boot : World
+  pub boots : IsBoot library (said_in text).statements boot
+  pub legal : IsLegalHistory library boot items w
+  pub ends : EndsBy library boot (turns_of (said_in text).schedule) (said_in text).limit items w e
+
+-- ---- a refusal
+
+-- the fault of a statement, as a line has it
+abbrev pub line_cause : BootCause → Option Cause
+line_cause boot.BadHandleList = Some cause.BadHandleList
+line_cause boot.NeedDenied = Some cause.NeedDenied
+line_cause boot.Limit = Some cause.Limit
+line_cause boot.NoMemory = None
+line_cause boot.Unknown = Some cause.Unknown
+line_cause boot.BadState = Some cause.BadState
+line_cause boot.Conflict = Some cause.Conflict
+
+-- The first fault of the text: too many bytes; or a statement that can't be done, before any fault of
+-- reading; or a fault of reading, where all statements before it can be done.
+pub data IsFirstFault (text : List ℕ) : LineFault → Type 0 where
+  too_long : MOST_INPUT < length text → IsFirstFault text (record { line = 0; cause = cause.Limit })
+  of_statement : (library : Library) (n : ℕ) (found : BootCause) (fault : LineFault)
+      → Lists (said_in text).programs library → FirstFault library (said_in text).statements (said_in text).limit n found
+      → slice_get (said_in text).lines n ≡ Some fault.line → line_cause found ≡ Some fault.cause → IsFirstFault text fault
+  of_reading : (library : Library) (w : World) (fault : LineFault)
+      → Lists (said_in text).programs library → IsBoot library (said_in text).statements w
+      → (reading_of text).fault ≡ Some fault → IsFirstFault text fault
+
+-- ---- the answer
+
+-- the lines are the answer to the text
+pub data IsAnswer (text : List ℕ) : Verdict → List ℕ → Type 0 where
+  trace : (items : List TraceItem) (w : World) (e : End) → IsRunOf text items w e → IsAnswer text verdict.Done (history_text items (states_of w) e)
+  refusal : (fault : LineFault) → IsFirstFault text fault → IsAnswer text verdict.Refused (refused_line fault.line fault.cause)
+
+-- the bytes of a reader, which may tell what it has left
+pub record IsTextOf (told : Option (List ℕ)) (text : List ℕ) : Type 0 where
+  pub those_told : IfSome told (λ left. left ≡ text)
+
+-- the writer got an answer to the text
+pub record Answers (text : List ℕ) (v : Verdict) (old new : Option (List ℕ)) : Type 0 where
+  pub lines : List ℕ
+  pub is_answer : IsAnswer text v lines
+  pub written : Appends old new lines
+
+-- the writer got a beginning of an answer to the text, or nothing
+pub data BeginsAnswer (text : List ℕ) (old : Option (List ℕ)) : Option (List ℕ) → Type 0 where
+  nothing : BeginsAnswer text old old
+  beginning : (v : Verdict) (lines : List ℕ) (new : Option (List ℕ)) → IsAnswer text v lines → AppendsBeginning old new lines → BeginsAnswer text old new
+
+-- the same for what a reader had
+pub record AnswersReader (told : Option (List ℕ)) (v : Verdict) (old new : Option (List ℕ)) : Type 0 where
+  pub text : List ℕ
+  pub is_text : IsTextOf told text
+  pub answers : Answers text v old new
+
+pub record BeginsReader (told old new : Option (List ℕ)) : Type 0 where
+  pub text : List ℕ
+  pub is_text : IsTextOf told text
+  pub begins : BeginsAnswer text old new
+
+-- ---- what the parts of the engine do
+
+-- the system stands before the first turn of the text's schedule
+pub record IsStart (text : List ℕ) (s : Tracked) (pairs : List (ℕ × ℕ)) : Type 0 where
+  pub no_fault : (reading_of text).fault ≡ None
+  pub programs : Lists (said_in text).programs s.lab.programs
+  pub boots : IsBoot s.lab.programs (said_in text).statements s.lab.world
+  pub items : s.items ≡ []
+  pub limit : s.limit ≡ (said_in text).limit
+  pub schedule : pairs ≡ (said_in text).schedule
+
+-- what the text leads to, before the first step
+abbrev pub Starts : List ℕ → Booted → Type 0
+Starts text (booted.Runs system schedule) = IsStart text system schedule.items
+Starts text (booted.Refused fault) = IsFirstFault text fault
+
+-- the system ran along the schedule
+pub record IsRun (s : Tracked) (schedule : List (ℕ × ℕ)) (lines : List ℕ) : Type 0 where
+  pub last : Tracked
+  pub end : End
+  pub walks : Walks s (turns_of schedule) end last
+  pub lines_are : lines ≡ history_text last.items (states_of last.lab.world) end
+
+pub record WritesRun (s : Tracked) (schedule : List (ℕ × ℕ)) (old new : Option (List ℕ)) : Type 0 where
+  pub lines : List ℕ
+  pub is_run : IsRun s schedule lines
+  pub written : Appends old new lines
+
+pub data BeginsRun (s : Tracked) (schedule : List (ℕ × ℕ)) (old : Option (List ℕ)) : Option (List ℕ) → Type 0 where
+  nothing : BeginsRun s schedule old old
+  beginning : (lines : List ℕ) (new : Option (List ℕ)) → IsRun s schedule lines → AppendsBeginning old new lines → BeginsRun s schedule old new

@@ -5,6 +5,11 @@ pub mod Decimals
 pub mod ReadyProcess
 pub mod Following
 pub mod Walking
+pub mod Told
+pub mod Booting
+pub mod RunOutput
+pub mod Legal
+pub mod Answering
 pub mod StoredRun
 pub mod RowsScenario
 pub mod Programs

@@ -1,26 +1,27 @@
 -- The text of a run, written piece by piece.
-use Rattle.std.proofs.Common.{◌≡◌, ℕ, ◌<◌, ◌≤◌, ◌^◌, List, [], ◌∷◌, ◌++◌, length, map, take, get_or, Option, Some, None, refl, sym, ap, ◌∙◌, subst, append_assoc, append-nil, IsTrue, arith, zero, suc, inl, inr, ◌==◌}
+use Rattle.std.proofs.Common.{◌≡◌, ℕ, ◌<◌, ◌≤◌, ◌^◌, List, [], ◌∷◌, ◌++◌, length, map, take, get_or, Option, Some, None, refl, sym, ap, ◌∙◌, subst, append_assoc, append-nil, IsTrue, arith, zero, suc, inl, inr, ◌⊎◌, ◌+◌, ◌==◌, true, eq-eqb}
 use Rattle.std.specs.Prelude.{slice_get}
 use Rattle.std.specs.List.{flat_map}
 use Rattle.std.specs.Option.{option_map}
-use Rattle.std.specs.Ordering.{nat_cmp}
+use Rattle.std.specs.Ordering.{nat_cmp, is_lt}
 use Rattle.std.specs.FinMap.Entries.{is_sorted, below_all}
 use Rattle.std.specs.Io.KnownBytes.{Appends}
-use Rattle.std.proofs.lemmas.Bool.{cases_Bool, eqb-true}
-use Rattle.std.proofs.lemmas.Option.{slice_get-map, slice_get_within, get_or_from_slice_get, none-some, same_Some}
+use Rattle.std.proofs.lemmas.Bool.{and_parts, cases_Bool, eqb-true}
+use Rattle.std.proofs.lemmas.Bool.Decides.{nat_tests}
+use Rattle.std.proofs.lemmas.Option.{slice_get-map, slice_get_within, get_or_from_slice_get, none-some, same_Some, slice_get_cases}
+use Rattle.std.proofs.lemmas.List.{length-map, take_all}
 use Rattle.zl_rights.specs.Map.{Map, get}
 use Rattle.zl_rights.specs.World.{World, Process}
 use Rattle.zl_code.specs.declared.history.ProcState.{ProcState}
 use Rattle.zl_code.specs.declared.history.TraceItem.{TraceItem}
-use Rattle.zl_table.proofs.MapEdits.{sorted_parts, below_parts}
 use Rattle.zl_calls.specs.World.{Lab, seen_in, seen_of, state_in}
 use Rattle.zlab.specs.declared.text.End.{End}
-use Rattle.zlab.specs.Engine.{states_of, IsRun, WritesRun, BeginsRun, nothing, beginning}
+use Rattle.zlab.specs.Engine.{states_of, IsRun, WritesRun, BeginsRun, some_lines}
 use Rattle.zlab.specs.Output.{AppendsBeginning, Gathers}
 use Rattle.zlab.specs.System.{Tracked, Walks}
 use Rattle.zlab.specs.Follows.{turns_of}
 use Rattle.zlab.specs.Text.{item_line, state_line, end_line, history_text}
-use Rattle.zlab.proofs.KnownOutput.{gathers_both, begun_after}
+use Rattle.zlab.proofs.KnownOutput.{gathers_both, begun_after, gathers_line, begun_line}
 
 -- ---- pieces
 
@@ -47,20 +48,127 @@ begins_longer a e bytes more b = record {
 
 -- ---- states
 
--- the n-th entry of a map is what stands at its key
-get_at : {X : Type 0} (m : Map X) (n : ℕ) (e : ℕ × X) → IsTrue (is_sorted nat_cmp m) → slice_get m n ≡ Some e → get m e.0 ≡ Some e.1
-unfolding get
-get_at [] n e sorted at = absurd (none-some e at)
-get_at (x ∷ m) zero e sorted at = let is : x ≡ e = same_Some x e at in rw (ap (λ (y : ℕ × _). y.0 == e.0) is, same e.0) (ap (λ (y : ℕ × _). Some y.1) is)
+module _ {X : Type 0} where
+  below_at : (k : ℕ) (m : Map X) (n : ℕ) (e : ℕ × X) → IsTrue (below_all nat_cmp k m) → slice_get m n ≡ Some e → k < e.0
+  below_at k [] n e below at = absurd (none-some e at)
+  below_at k (y ∷ m) zero e below at =
+      let first : IsTrue (is_lt (nat_cmp k y.0)) = (and_parts (is_lt (nat_cmp k y.0)) (below_all nat_cmp k m) below).0 in
+      let less : k < y.0 = grind (arith, nat_tests, first) in
+      omega (arith, less, ap (λ (z : ℕ × X). z.0) (same_Some y e at))
+  below_at k (y ∷ m) (suc n) e below at = below_at k m n e (and_parts (is_lt (nat_cmp k y.0)) (below_all nat_cmp k m) below).1 at
+
+  -- the n-th entry of a map is what stands at its key
+  get_at : (m : Map X) (n : ℕ) (e : ℕ × X) → IsTrue (is_sorted nat_cmp m) → slice_get m n ≡ Some e → get m e.0 ≡ Some e.1
+  unfolding get
+  get_at [] n e sorted at = absurd (none-some e at)
+  get_at (x ∷ m) zero e sorted at =
+      let is : x ≡ e = same_Some x e at in
+      let here : (x.0 == e.0) ≡ true = ap (λ (y : ℕ × X). y.0 == e.0) is ∙ same e.0 in
+      rw here (ap (λ (y : ℕ × X). Some y.1) is)
+    where
+      same : (j : ℕ) → (j == j) ≡ true
+      same j = eq-eqb j j refl
+  get_at (x ∷ m) (suc n) e sorted at = elim (cases_Bool (x.0 == e.0)) as (λ _. get (x ∷ m) e.0 ≡ Some e.1) [
+    | inl here ↦ absurd (omega (arith, eqb-true x.0 e.0 here, below_at x.0 m n e (and_parts (below_all nat_cmp x.0 m) (is_sorted nat_cmp m) sorted).0 at))
+    | inr apart ↦ rw apart (get_at m n e (and_parts (below_all nat_cmp x.0 m) (is_sorted nat_cmp m) sorted).1 at)
+  ]
+
+abbrev pub line_of : ℕ × ProcState → List ℕ
+line_of p = state_line p.0 p.1
+
+-- the n-th process, with what it is in
+record IsState (l : Lab) (n pid : ℕ) (st : ProcState) : Type 0 where
+  within : n < length (states_of l.world)
+  read : get_or (states_of l.world) n (pid, st) ≡ (pid, st)
+
+state_at : (l : Lab) (n pid : ℕ) (st : ProcState) → IsTrue (is_sorted nat_cmp l.world.processes) → Some pid ≡ slice_get (map (λ p. p.0) l.world.processes) n → st ≡ state_in l pid → IsState l n pid st
+state_at l n pid st sorted at is = by_entry (slice_get l.world.processes n) refl
   where
-    same : (j : ℕ) → IsTrue (j == j)
-    same j = grind (arith)
-get_at (x ∷ m) (suc n) e sorted at = elim (cases_Bool (x.0 == e.0)) as (λ _. get (x ∷ m) e.0 ≡ Some e.1) [
-  | inl here ↦ absurd (omega (arith, eqb-true x.0 e.0 here, below_at x.0 m n e (sorted_parts x m sorted).0 at))
-  | inr apart ↦ rw apart (get_at m n e (sorted_parts x m sorted).1 at)
-]
-  where
-    below_at : (k : ℕ) (m : Map _) (n : ℕ) (e : ℕ × _) → IsTrue (below_all nat_cmp k m) → slice_get m n ≡ Some e → k < e.0
-    below_at k [] n e below at = absurd (none-some e at)
-    below_at k (y ∷ m) zero e below at = omega (arith, (below_parts k y m below).0, ap (λ (z : ℕ × _). z.0) (same_Some y e at))
-    below_at k (y ∷ m) (suc n) e below at = below_at k m n e (below_parts k y m below).1 at
+    by_entry : (o : Option (ℕ × Process)) → slice_get l.world.processes n ≡ o → IsState l n pid st
+    by_entry None none = absurd (none-some pid (sym (at ∙ (slice_get-map (λ (p : ℕ × Process). p.0) l.world.processes n ∙ ap (option_map (λ (p : ℕ × Process). p.0)) none))))
+    by_entry (Some e) some =
+        let key : pid ≡ e.0 = same_Some pid e.0 (at ∙ (slice_get-map (λ (p : ℕ × Process). p.0) l.world.processes n ∙ ap (option_map (λ (p : ℕ × Process). p.0)) some)) in
+        let state : st ≡ seen_in e.1.state = is ∙ (ap (λ (k : ℕ). seen_of (get l.world.processes k)) key ∙ ap seen_of (get_at l.world.processes n e sorted some)) in
+        let there : slice_get (states_of l.world) n ≡ Some (e.0, seen_in e.1.state) = slice_get-map (λ (p : ℕ × Process). (p.0, seen_in p.1.state)) l.world.processes n ∙ ap (option_map (λ (p : ℕ × Process). (p.0, seen_in p.1.state))) some in
+        record {
+          within = slice_get_within (states_of l.world) n (e.0, seen_in e.1.state) there;
+          read = get_or_from_slice_get (states_of l.world) n (e.0, seen_in e.1.state) (pid, st) there ∙ (λ i. (sym key i, sym state i));
+        }
+
+module _ (l : Lab) (n pid : ℕ) (st : ProcState) (sorted : IsTrue (is_sorted nat_cmp l.world.processes)) (at : Some pid ≡ slice_get (map (λ p. p.0) l.world.processes) n) (is : st ≡ state_in l pid)
+    (a c e : Option (List ℕ)) (b d : List ℕ) (so_far : Gathers a b c d (flat_map line_of (take n (states_of l.world)))) where
+  here : IsState l n pid st
+  here = state_at l n pid st sorted at is
+
+  pub one_more_state : (after : List ℕ) → Gathers c d e after (state_line pid st) → Gathers a b e after (flat_map line_of (take (n + 1) (states_of l.world)))
+  one_more_state after g = gathers_line line_of (states_of l.world) n (pid, st) a c e b d after here.within so_far (subst (λ (p : ℕ × ProcState). Gathers c d e after (line_of p)) (sym here.read) g)
+
+  pub begun_state : AppendsBeginning c e (d ++ state_line pid st) → AppendsBeginning a e (b ++ flat_map line_of (states_of l.world))
+  begun_state g = begun_line line_of (states_of l.world) n (pid, st) a c e b d here.within so_far (subst (λ (p : ℕ × ProcState). AppendsBeginning c e (d ++ line_of p)) (sym here.read) g)
+
+module _ (l : Lab) (n : ℕ) (a c : Option (List ℕ)) (b d : List ℕ) (so_far : Gathers a b c d (flat_map line_of (take n (states_of l.world)))) where
+  pub all_states : length l.world.processes ≤ n → Gathers a b c d (flat_map line_of (states_of l.world))
+  all_states past = subst (λ (xs : List (ℕ × ProcState)). Gathers a b c d (flat_map line_of xs)) (take_all n (states_of l.world) (omega (arith, past, length-map {B = ℕ × ProcState} l.world.processes (λ p. (p.0, seen_in p.1.state))))) so_far
+
+  pub no_state_left : None ≡ slice_get (map (λ p. p.0) l.world.processes) n → Gathers a b c d (flat_map line_of (states_of l.world))
+  no_state_left none = all_states (by_test (slice_get_cases l.world.processes n).1)
+    where
+      by_test : ((x : ℕ × Process) × (n < length l.world.processes) × (slice_get l.world.processes n ≡ Some x) × (get_or l.world.processes n x ≡ x)) ⊎ ((length l.world.processes ≤ n) × (slice_get l.world.processes n ≡ None)) → length l.world.processes ≤ n
+      by_test (inl found) = absurd (none-some found.0.0 (none ∙ (slice_get-map (λ (p : ℕ × Process). p.0) l.world.processes n ∙ ap (option_map (λ (p : ℕ × Process). p.0)) found.2)))
+      by_test (inr past) = past.0
+
+-- ---- the whole text
+
+module _ (s last : Tracked) (pairs : List (ℕ × ℕ)) (e : End) (walks : Walks s (turns_of pairs) e last) where
+  abbrev items_text : List ℕ
+  items_text = flat_map item_line last.items
+
+  abbrev states_text : List ℕ
+  states_text = flat_map line_of (states_of last.lab.world)
+
+  abbrev whole : List ℕ
+  whole = history_text last.items (states_of last.lab.world) e
+
+  is_run : IsRun s pairs whole
+  is_run = record { last = last; end = e; walks = walks; lines_are = refl }
+
+  module _ (a b : Option (List ℕ)) where
+    -- the writer failed at an item
+    pub items_begun : AppendsBeginning a b ([] ++ items_text) → BeginsRun s pairs a b
+    unfolding history_text
+    items_begun begun = some_lines whole b is_run (begins_longer a b items_text (states_text ++ end_line e) begun)
+
+    module _ (d : List ℕ) (items : Gathers a [] b d items_text) (c : Option (List ℕ)) where
+      -- the writer failed at a state
+      pub states_begun : AppendsBeginning b c (d ++ states_text) → BeginsRun s pairs a c
+      unfolding history_text
+      states_begun begun = some_lines whole c is_run (begun_after a b c [] d items_text states_text (end_line e) items begun)
+
+      module _ (f : List ℕ) (states : Gathers b d c f states_text) where
+        both : Gathers a [] c f (items_text ++ states_text)
+        both = gathers_both a b c [] d f items_text states_text items states
+
+        -- memory was refused for the last line
+        pub end_wanting : BeginsRun s pairs a c
+        unfolding history_text
+        end_wanting = some_lines whole c is_run (subst (AppendsBeginning a c) (append_assoc items_text states_text (end_line e)) (gathered_begins a c [] f (items_text ++ states_text) (end_line e) both))
+
+        module _ (g : List ℕ) (grown : g ≡ f ++ end_line e) (z : Option (List ℕ)) where
+          -- the writer failed at the last block
+          pub end_begun : AppendsBeginning c z g → BeginsRun s pairs a z
+          unfolding history_text
+          end_begun begun = some_lines whole z is_run
+              (subst (AppendsBeginning a z) (ap (λ (x : List ℕ). (items_text ++ states_text) ++ x) (append-nil (end_line e)) ∙ append_assoc items_text states_text (end_line e))
+              (begun_after a c z [] f (items_text ++ states_text) (end_line e) [] both (subst (AppendsBeginning c z) grown begun)))
+
+          -- all is written
+          pub run_written : Gathers c g z [] [] → WritesRun s pairs a z
+          unfolding history_text
+          run_written last_block = record {
+            lines = whole;
+            is_run = is_run;
+            written = all_written a z whole (subst (λ (x : List ℕ). Gathers a [] z [] x) (append_assoc items_text states_text (end_line e)) (gathers_both a c z [] f [] (items_text ++ states_text) (end_line e) both (ended last_block)));
+          }
+            where
+              ended : Gathers c g z [] [] → Gathers c f z [] (end_line e)
+              ended last_block = record { written = last_block.written; appended = last_block.appended; gathered = sym grown ∙ (sym (append-nil g) ∙ last_block.gathered) }

@@ -1,6 +1,6 @@
 -- What a text says has a limit that a trace may have, and a line for each statement.
-use Rattle.std.proofs.Common.{◌≡◌, ℕ, ◌+◌, ◌≤◌, Bool, true, false, ◌==◌, not, List, [], ◌∷◌, ◌++◌, length, Option, Some, None, Result, Ok, Err, refl, sym, ap, ◌∙◌, arith, inl, inr, IsTrue, ⊤}
-use Rattle.std.specs.Prelude.{if◌then◌else◌, nat_le, nat_lt, codes, is_some, ◌%◌}
+use Rattle.std.proofs.Common.{◌≡◌, ℕ, ◌+◌, ◌≤◌, Bool, true, false, ◌==◌, not, List, [], ◌∷◌, ◌++◌, length, Option, Some, None, Result, Ok, Err, refl, sym, ap, ◌∙◌, arith, inl, inr, IsTrue}
+use Rattle.std.specs.Prelude.{if◌then◌else◌, nat_le, nat_lt, codes, is_some, ◌%◌, ⊤}
 use Rattle.std.proofs.lemmas.Bool.{cases_Bool}
 use Rattle.std.proofs.lemmas.Bool.Decides.{nat_tests}
 use Rattle.std.proofs.lemmas.List.{length-append}
@@ -112,11 +112,11 @@ line_told n place line told = by_tests (is_ascii line) (is_comment line)
 lines_told : (n : ℕ) (place : Place) (lines : List (List ℕ)) → IsTold place.said → IsTold (reading_from n place lines).said
 unfolding reading_from
 lines_told n place [] told = told
-lines_told n place (line ∷ lines) told = by_line (line_said n place line) refl (line_told n place line told)
+lines_told n place (line ∷ lines) told = by_line (λ next good. lines_told (n + 1) next lines good) (line_said n place line) refl (line_told n place line told)
   where
-    by_line : (r : Result Place Cause) → line_said n place line ≡ r → OkTold r → IsTold (reading_from n place (line ∷ lines)).said
-    by_line (Ok next) is good = rw (is, reading_from) (lines_told (n + 1) next lines good)
-    by_line (Err c) is good = rw (is, reading_from) told
+    by_line : ((next : Place) → IsTold next.said → IsTold (reading_from (n + 1) next lines).said) → (r : Result Place Cause) → line_said n place line ≡ r → OkTold r → IsTold (reading_from n place (line ∷ lines)).said
+    by_line later (Ok next) is good = rw (is, reading_from) (later next good)
+    by_line later (Err c) is good = rw (is, reading_from) told
 
 pub reading_told : (text : List ℕ) → IsTold (reading_of text).said
 reading_told text = lines_told 1 start (lines_of text) (record { limit = omega arith; lines = refl })

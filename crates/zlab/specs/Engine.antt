@@ -131,5 +131,5 @@ pub record WritesRun (s : Tracked) (schedule : List (ℕ × ℕ)) (old new : Opt
   pub written : Appends old new lines
 
 pub data BeginsRun (s : Tracked) (schedule : List (ℕ × ℕ)) (old : Option (List ℕ)) : Option (List ℕ) → Type 0 where
-  nothing : BeginsRun s schedule old old
-  beginning : (lines : List ℕ) (new : Option (List ℕ)) → IsRun s schedule lines → AppendsBeginning old new lines → BeginsRun s schedule old new
+  no_line : BeginsRun s schedule old old
+  some_lines : (lines : List ℕ) (new : Option (List ℕ)) → IsRun s schedule lines → AppendsBeginning old new lines → BeginsRun s schedule old new

@@ -1,6 +1,7 @@
 pub mod Text
 pub mod Follows
 pub mod System
+pub mod Engine
 pub mod Input
 pub mod Output
 pub mod Lines

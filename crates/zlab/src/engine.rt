@@ -1,4 +1,10 @@
 //! The engine: an input is read, and its answer written.
+ghost use Rattle.std.specs.Prelude.{◌≡◌, ◌≢◌, ◌⊎◌, ◌++◌, slice_index_or, Some, IfOk, IfErr, OnOk, OnErr, string_bytes};
+ghost use Rattle.std.specs.List.{flat_map};
+ghost use Rattle.std.specs.Io.KnownBytes.{Appends};
+ghost use Rattle.zlab.specs.Engine.{AnswersReader, BeginsReader, Answers, BeginsAnswer, Starts, WritesRun, BeginsRun, states_of, line_cause};
+ghost use Rattle.zlab.specs.Output.{AppendsBeginning, Gathers};
+ghost use Rattle.zlab.specs.Text.{refused_line, state_line};
 
 use crate::fault::{Cause, EngineFault, LineFault, Verdict};
 use crate::input::{Input, read_input};
@@ -9,7 +15,7 @@ use crate::text::{End, push_end, push_refusal, push_state};
 use std::alloc::Global;
 use std::io::{Read, Write};
 use zl_calls::World;
-use zl_code::{BootCause, BootFault};
+use zl_code::{BootCause, BootFault, ProcState};
 use zl_rights::Pid;
 
 /// Reads a scenario with a schedule, and writes the trace along the schedule or the line of the
@@ -18,7 +24,11 @@ pub fn step_engine<R: Read, W: Write>(
     alloc: Global,
     reader: &mut R,
     writer: &mut W,
-) -> Result<Verdict, EngineFault> {
+) -> Result<Verdict, EngineFault>
+    ensures ok { IfOk result (λ verdict. AnswersReader (R.remaining reader.old) verdict (W.contents writer.old) (W.contents writer.new)) }
+    ensures err { OnErr result ((W.contents writer.new ≡ W.contents writer.old) ⊎ BeginsReader (R.remaining reader.old) (W.contents writer.old) (W.contents writer.new)) }
+    ensures read { IfErr result (λ fault. fault ≡ EngineFault.Read → W.contents writer.new ≡ W.contents writer.old) }
+{
     match read_input(alloc, reader)? {
         Input::Text(text) => answer(alloc, writer, text.as_slice()),
         Input::TooLong => write_refusal(alloc, writer, TOO_LONG),
@@ -37,9 +47,12 @@ enum Booted {
     Refused(LineFault),
 }
 
-fn answer<W: Write>(alloc: Global, writer: &mut W, text: &[u8]) -> Result<Verdict, EngineFault> {
-    let reading = read_scenario(alloc, text)?;
-    match boot(alloc, reading)? {
+fn answer<W: Write>(alloc: Global, writer: &mut W, text: &[u8]) -> Result<Verdict, EngineFault>
+    ensures ok { IfOk result (λ verdict. Answers text.now verdict (W.contents writer.old) (W.contents writer.new)) }
+    ensures err { OnErr result (BeginsAnswer text.now (W.contents writer.old) (W.contents writer.new)) }
+    ensures fault { IfErr result (λ fault. fault ≢ EngineFault.Read) }
+{
+    match boot(alloc, text)? {
         Booted::Runs(mut system, schedule) => write_run(
             alloc,
             writer,
@@ -50,9 +63,13 @@ fn answer<W: Write>(alloc: Global, writer: &mut W, text: &[u8]) -> Result<Verdic
     }
 }
 
-/// Boots what was read. A fault of booting is in an earlier line than one of reading.
-fn boot(alloc: Global, reading: Reading) -> Result<Booted, EngineFault> {
-    let Reading { scenario, fault } = reading;
+/// Reads the text and boots what it says. A fault of booting is in an earlier line than one of
+/// reading.
+fn boot(alloc: Global, text: &[u8]) -> Result<Booted, EngineFault>
+    ensures ok { IfOk result (Starts text.now) }
+    ensures err { IfErr result (λ fault. fault ≡ EngineFault.NoMemory) }
+{
+    let Reading { scenario, fault } = read_scenario(alloc, text)?;
     let Scenario {
         library,
         boot,
@@ -69,13 +86,20 @@ fn boot(alloc: Global, reading: Reading) -> Result<Booted, EngineFault> {
 }
 
 /// The fault of the line of a statement, by the lines of all statements.
-fn fault_of_boot(lines: &[u64], refused: BootFault) -> Result<LineFault, EngineFault> {
+fn fault_of_boot(lines: &[u64], refused: BootFault) -> Result<LineFault, EngineFault>
+    ensures cause { IfOk result (λ fault. line_cause refused.cause ≡ Some fault.cause) }
+    ensures line { IfOk result (λ fault. fault.line ≡ slice_index_or lines.now refused.statement 0) }
+    ensures err { IfErr result (λ fault. (fault ≡ EngineFault.NoMemory) × (refused.cause ≡ BootCause.NoMemory)) }
+{
     let cause = cause_of_boot(refused.cause)?;
     let line = lines.get(refused.statement).copied().unwrap_or(0);
     Ok(LineFault { line, cause })
 }
 
-fn cause_of_boot(cause: BootCause) -> Result<Cause, EngineFault> {
+fn cause_of_boot(cause: BootCause) -> Result<Cause, EngineFault>
+    ensures ok { IfOk result (λ found. line_cause cause ≡ Some found) }
+    ensures err { IfErr result (λ fault. (fault ≡ EngineFault.NoMemory) × (cause ≡ BootCause.NoMemory)) }
+{
     match cause {
         BootCause::BadHandleList => Ok(Cause::BadHandleList),
         BootCause::NeedDenied => Ok(Cause::NeedDenied),
@@ -91,7 +115,12 @@ fn write_refusal<W: Write>(
     alloc: Global,
     writer: &mut W,
     fault: LineFault,
-) -> Result<Verdict, EngineFault> {
+) -> Result<Verdict, EngineFault>
+    ensures verdict { IfOk result (λ verdict. verdict ≡ Verdict.Refused) }
+    ensures ok { OnOk result (Appends (W.contents writer.old) (W.contents writer.new) (refused_line fault.line fault.cause)) }
+    ensures err { OnErr result (AppendsBeginning (W.contents writer.old) (W.contents writer.new) (refused_line fault.line fault.cause)) }
+    ensures fault { IfErr result (λ fault. fault ≢ EngineFault.Read) }
+{
     let mut block = String::new(alloc);
     push_refusal(&mut block, fault)?;
     write_block(writer, &mut block)?;
@@ -105,7 +134,12 @@ fn write_run<W: Write>(
     writer: &mut W,
     system: &mut System,
     schedule: &[(Pid, u32)],
-) -> Result<Verdict, EngineFault> {
+) -> Result<Verdict, EngineFault>
+    ensures verdict { IfOk result (λ verdict. verdict ≡ Verdict.Done) }
+    ensures ok { OnOk result (WritesRun system.old schedule.now (W.contents writer.old) (W.contents writer.new)) }
+    ensures err { OnErr result (BeginsRun system.old schedule.now (W.contents writer.old) (W.contents writer.new)) }
+    ensures fault { IfErr result (λ fault. fault ≢ EngineFault.Read) }
+{
     let mut block = empty_block(alloc)?;
     let end = system.step_all(schedule);
     write_items(writer, &mut block, system.items())?;
@@ -119,13 +153,33 @@ fn write_states<W: Write>(
     writer: &mut W,
     block: &mut String,
     world: &World,
-) -> Result<(), EngineFault> {
+) -> Result<(), EngineFault>
+    ensures ok { OnOk result (Gathers (W.contents writer.old) (string_bytes block.old) (W.contents writer.new) (string_bytes block.new)
+        (flat_map (λ p. state_line p.0 p.1) (states_of world.now.world))) }
+    ensures err { OnErr result (AppendsBeginning (W.contents writer.old) (W.contents writer.new)
+        (string_bytes block.old ++ flat_map (λ p. state_line p.0 p.1) (states_of world.now.world))) }
+    ensures fault { IfErr result (λ fault. fault ≢ EngineFault.Read) }
+{
     for n in 0..usize::MAX {
         let Some(pid) = world.process_at(n) else {
             break;
         };
-        push_state(block, pid, world.state_of(pid))?;
-        write_if_full(writer, block)?;
+        write_state(writer, block, pid, world.state_of(pid))?;
     }
     Ok(())
+}
+
+/// Adds the line of the process to the block, and writes the block where it is full.
+fn write_state<W: Write>(
+    writer: &mut W,
+    block: &mut String,
+    pid: Pid,
+    state: ProcState,
+) -> Result<(), EngineFault>
+    ensures ok { OnOk result (Gathers (W.contents writer.old) (string_bytes block.old) (W.contents writer.new) (string_bytes block.new) (state_line pid state)) }
+    ensures err { OnErr result (AppendsBeginning (W.contents writer.old) (W.contents writer.new) (string_bytes block.old ++ state_line pid state)) }
+    ensures fault { IfErr result (λ fault. fault ≢ EngineFault.Read) }
+{
+    push_state(block, pid, state)?;
+    write_if_full(writer, block)
 }

@@ -1,5 +1,5 @@
 //! Writing, in blocks.
-ghost use Rattle.std.specs.Prelude.{◌≡◌, [], ◌++◌, OnOk, OnErr, IfErr, string_bytes};
+ghost use Rattle.std.specs.Prelude.{◌≡◌, ◌≢◌, [], ◌++◌, OnOk, OnErr, IfOk, IfErr, string_bytes};
 ghost use Rattle.std.specs.List.{flat_map};
 ghost use Rattle.std.specs.Io.KnownBytes.{Appends};
 ghost use Rattle.zlab.specs.Text.{item_line};
@@ -15,7 +15,9 @@ use zl_code::TraceItem;
 const BLOCK: usize = 65_536;
 
 /// Room for a block and one line more, which has less than 256 bytes.
-pub fn empty_block(alloc: Global) -> Result<String, AllocError> {
+pub fn empty_block(alloc: Global) -> Result<String, AllocError>
+    ensures { IfOk result (λ block. string_bytes block ≡ []) }
+{
     String::with_capacity(alloc, BLOCK + 256)
 }
 
@@ -70,6 +72,7 @@ fn write_item<W: Write>(
 ) -> Result<(), EngineFault>
     ensures ok { OnOk result (Gathers (W.contents writer.old) (string_bytes block.old) (W.contents writer.new) (string_bytes block.new) (item_line item)) }
     ensures err { OnErr result (AppendsBeginning (W.contents writer.old) (W.contents writer.new) (string_bytes block.old ++ item_line item)) }
+    ensures fault { IfErr result (λ fault. fault ≢ EngineFault.Read) }
 {
     push_item(block, item)?;
     write_if_full(writer, block)
@@ -84,6 +87,7 @@ pub fn write_items<W: Write>(
     ensures ok { OnOk result (Gathers (W.contents writer.old) (string_bytes block.old) (W.contents writer.new) (string_bytes block.new)
         (flat_map item_line items.now)) }
     ensures err { OnErr result (AppendsBeginning (W.contents writer.old) (W.contents writer.new) (string_bytes block.old ++ flat_map item_line items.now)) }
+    ensures fault { IfErr result (λ fault. fault ≢ EngineFault.Read) }
 {
     for item in items {
         write_item(writer, block, *item)?;

@@ -1,0 +1,96 @@
+-- From what the parts of the engine do to the answer to a text.
+use Rattle.std.proofs.Common.{◌≡◌, ℕ, ◌-◌, ◌<◌, List, [], ◌∷◌, ◌++◌, length, Option, Some, None, Result, Ok, Err, refl, sym, ap, ◌∙◌, subst, arith}
+use Rattle.std.specs.Prelude.{IfOk, OnOk, OnErr, IfErr, ◌⊎◌}
+use Rattle.std.proofs.Common.{inl, inr}
+use Rattle.std.specs.Io.KnownBytes.{Appends}
+use Rattle.zl_rights.specs.World.{World}
+use Rattle.zl_code.specs.declared.history.TraceItem.{TraceItem}
+use Rattle.zlab.specs.declared.fault.Cause.TheVariants as cause
+use Rattle.zlab.specs.declared.fault.LineFault.{LineFault}
+use Rattle.zlab.specs.declared.fault.Verdict.{Verdict}
+use Rattle.zlab.specs.declared.fault.Verdict.TheVariants as verdict
+use Rattle.zlab.specs.declared.input.Input.{Input}
+use Rattle.zlab.specs.declared.input.Input.TheVariants as input
+use Rattle.zlab.specs.declared.text.End.{End}
+use Rattle.zlab.specs.Engine.{said_in, states_of, IsRunOf, IsFirstFault, too_long, IsAnswer, trace, refusal, IsTextOf, Answers, BeginsAnswer, nothing, beginning, AnswersReader, BeginsReader, IsStart, IsRun, WritesRun, BeginsRun, no_line, some_lines}
+use Rattle.zlab.specs.Follows.{turns_of, EndsBy}
+use Rattle.zlab.specs.Input.{IsInputOf}
+use Rattle.zlab.specs.Output.{AppendsBeginning}
+use Rattle.zlab.specs.System.{Tracked, Walks, room_of}
+use Rattle.zlab.specs.Text.{history_text, refused_line}
+use Rattle.zlab.proofs.Legal.{ends_legal}
+
+-- ---- facts of a result
+
+module _ {A E : Type 0} where
+  pub both_ok : (r : Result A E) (P R : A → Type 0) (Q : Type 0) → ((v : A) → P v → Q → R v) → IfOk r P → OnOk r Q → IfOk r R
+  both_ok (Ok v) P R Q gives p q = gives v p q
+  both_ok (Err e) P R Q gives p q = tt
+
+  pub mapped_err : (r : Result A E) (P Q : Type 0) → (P → Q) → OnErr r P → OnErr r Q
+  mapped_err (Ok v) P Q gives p = tt
+  mapped_err (Err e) P Q gives p = gives p
+
+  pub mapped_ok : (r : Result A E) (P R : A → Type 0) → ((v : A) → P v → R v) → IfOk r P → IfOk r R
+  mapped_ok (Ok v) P R gives p = gives v p
+  mapped_ok (Err e) P R gives p = tt
+
+-- ---- a run
+
+module _ (text : List ℕ) (s : Tracked) (pairs : List (ℕ × ℕ)) (start : IsStart text s pairs) where
+  run_of : (e : End) (last : Tracked) (walks : Walks s (turns_of pairs) e last) → IsRunOf text walks.more last.lab.world e
+  run_of e last walks = record {
+    no_fault = start.no_fault;
+    library = s.lab.programs;
+    programs = start.programs;
+    boot = s.lab.world;
+    boots = start.boots;
+    legal = ends_legal s.lab.programs s.lab.world (turns_of pairs) (room_of s) walks.more last.lab.world e walks.ends;
+    ends = subst (λ (turns : List (ℕ × ℕ)). EndsBy s.lab.programs s.lab.world (turns_of turns) (said_in text).limit walks.more last.lab.world e) start.schedule
+        (subst (λ (limit : ℕ). EndsBy s.lab.programs s.lab.world (turns_of pairs) limit walks.more last.lab.world e) room walks.ends);
+  }
+    where
+      room : room_of s ≡ (said_in text).limit
+      room = omega (arith, start.limit, ap length start.items)
+
+  answer_of : (lines : List ℕ) → IsRun s pairs lines → IsAnswer text verdict.Done lines
+  answer_of lines run =
+      let items : run.walks.more ≡ run.last.items = sym (run.walks.adds.items ∙ ap (λ (xs : List TraceItem). xs ++ run.walks.more) start.items) in
+      subst (IsAnswer text verdict.Done) (ap (λ (xs : List TraceItem). history_text xs (states_of run.last.lab.world) run.end) items ∙ sym run.lines_are)
+      (trace run.walks.more run.last.lab.world run.end (run_of run.end run.last run.walks))
+
+  pub run_answers : (v : Verdict) (old new : Option (List ℕ)) → v ≡ verdict.Done → WritesRun s pairs old new → Answers text v old new
+  run_answers v old new is wrote = record { lines = wrote.lines; is_answer = rw is (answer_of wrote.lines wrote.is_run); written = wrote.written }
+
+  pub run_begins : (old new : Option (List ℕ)) → BeginsRun s pairs old new → BeginsAnswer text old new
+  run_begins old _ no_line = nothing
+  run_begins old _ (some_lines lines new run begun) = beginning verdict.Done lines new (answer_of lines run) begun
+
+-- ---- a refusal
+
+module _ (text : List ℕ) (fault : LineFault) (first : IsFirstFault text fault) where
+  pub refusal_answers : (v : Verdict) (old new : Option (List ℕ)) → v ≡ verdict.Refused → Appends old new (refused_line fault.line fault.cause) → Answers text v old new
+  refusal_answers v old new is wrote = record { lines = refused_line fault.line fault.cause; is_answer = rw is (refusal fault first); written = wrote }
+
+  pub refusal_begins : (old new : Option (List ℕ)) → AppendsBeginning old new (refused_line fault.line fault.cause) → BeginsAnswer text old new
+  refusal_begins old new begun = beginning verdict.Refused (refused_line fault.line fault.cause) new (refusal fault first) begun
+
+-- ---- what a reader had
+
+abbrev TOO_LONG : LineFault
+TOO_LONG = record { line = 0; cause = cause.Limit }
+
+module _ (told : Option (List ℕ)) (read : Input) (is : IsInputOf told read) where
+  pub long_answers : (v : Verdict) (old new : Option (List ℕ)) → read ≡ input.TooLong → v ≡ verdict.Refused → Appends old new (refused_line 0 cause.Limit) → AnswersReader told v old new
+  long_answers v old new long refused wrote = record {
+    text = is.bytes;
+    is_text = record { those_told = is.those_told };
+    answers = refusal_answers is.bytes TOO_LONG (too_long (rw long at is.holds)) v old new refused wrote;
+  }
+
+  pub long_begins : (old new : Option (List ℕ)) → read ≡ input.TooLong → AppendsBeginning old new (refused_line 0 cause.Limit) → BeginsReader told old new
+  long_begins old new long begun = record {
+    text = is.bytes;
+    is_text = record { those_told = is.those_told };
+    begins = refusal_begins is.bytes TOO_LONG (too_long (rw long at is.holds)) old new begun;
+  }

@@ -15,3 +15,4 @@ pub mod RowsScenario
 pub mod Programs
 pub mod LineDigits
 pub mod ReadingOn
+pub mod InOrder

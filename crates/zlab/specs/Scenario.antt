@@ -1,5 +1,5 @@
 -- What the lines of a scenario and of its schedule say, one after another, and the first fault of each.
-use Rattle.std.specs.Prelude.{ℕ, ◌+◌, ◌%◌, Bool, false, ◌&&◌, not, ◌==◌, nat_lt, nat_le, List, [], ◌∷◌, ◌++◌, length, codes, Option, Some, None, is_some, Result, Ok, Err, if◌then◌else◌}
+use Rattle.std.specs.Prelude.{ℕ, ◌≡◌, ◌≤◌, ◌+◌, ◌%◌, Bool, false, ◌&&◌, not, ◌==◌, nat_lt, nat_le, List, [], ◌∷◌, ◌++◌, length, codes, Option, Some, None, is_some, IfSome, Result, Ok, Err, if◌then◌else◌}
 use Rattle.zl_code.specs.declared.boot.Statement.{Statement}
 use Rattle.zl_code.specs.declared.boot.Statement.TheVariants as statement
 use Rattle.zl_code.specs.Boot.{MOST_ITEMS}
@@ -172,3 +172,17 @@ reading_from n place (line ∷ lines) = elim (line_said n place line) as (λ _. 
 -- a whole text
 abbrev pub reading_of : List ℕ → Reading
 reading_of text = reading_from 1 start (lines_of text)
+
+-- ---- in which order
+
+-- the lines rise, from `low` on and below `high`
+abbrev pub Rises : ℕ → List ℕ → ℕ → Type 0
+Rises low [] high = low ≤ high
+Rises low (line ∷ lines) high = (low ≤ line) × Rises (line + 1) lines high
+
+-- each statement has a line, these lines rise, and all are before that of the fault
+pub record IsInOrder (reading : Reading) : Type 0 where
+  pub limit : reading.said.limit ≤ MOST_ITEMS
+  pub placed : length reading.said.lines ≡ length reading.said.statements
+  pub rising : (last : ℕ) × Rises 1 reading.said.lines last
+  pub before_fault : IfSome reading.fault (λ fault. Rises 1 reading.said.lines fault.line)

@@ -1,0 +1,178 @@
+-- What a text says stands in the order of its lines, and before the first fault.
+use Rattle.std.proofs.Common.{◌≡◌, ℕ, ◌+◌, ◌%◌, ◌≤◌, Bool, true, false, not, eqb, ltb, cond, is_some, List, [], ◌∷◌, ◌++◌, length, Option, Some, None, Result, Ok, Err, refl, subst, arith, length-append}
+use Rattle.std.proofs.lemmas.Bool.Decides.{nat_tests}
+use Rattle.zl_code.specs.Boot.{MOST_ITEMS}
+use Rattle.zl_code.specs.Spells.{first_fault}
+use Rattle.zlab.specs.declared.fault.Cause.{Cause}
+use Rattle.zlab.specs.declared.fault.Cause.TheVariants as cause
+use Rattle.zlab.specs.Lines.{words_of, digits_of, bytes_of_digits}
+use Rattle.zlab.specs.Scenario.{Said, Part, Statements, Block, Schedule, Place, at, start, onto, onto_block, digits_said, with_program, MOST_PROGRAMS, process_said, limit_said, statement_said, program_said, block_said, pair_said, turns_said, part_said, line_said, told_line, Reading, refused, fault_at_end, reading_from, Rises, IsInOrder}
+
+-- ---- rising lines
+
+Rises-more : (low : ℕ) (lines : List ℕ) (high more : ℕ) → Rises low lines high → high ≤ more → Rises low lines more
+Rises-more low [] high more r e = omega arith
+Rises-more low (line ∷ lines) high more r e = (r.0, Rises-more (line + 1) lines high more r.1 e)
+
+Rises-push : (low : ℕ) (lines : List ℕ) (n : ℕ) → Rises low lines n → Rises low (lines ++ n ∷ []) (n + 1)
+Rises-push low [] n r = (r, omega arith)
+Rises-push low (line ∷ lines) n r = (r.0, Rises-push (line + 1) lines n r.1)
+
+-- ---- what was said
+
+-- what was said in lines below this one
+record IsBelow (line : ℕ) (said : Said) : Type 0 where
+  limit : said.limit ≤ MOST_ITEMS
+  placed : length said.lines ≡ length said.statements
+  rising : Rises 1 said.lines line
+
+below_more : (a b : ℕ) (said : Said) → IsBelow a said → a ≤ b → IsBelow b said
+below_more a b said h e = record { limit = h.limit; placed = h.placed; rising = Rises-more 1 said.lines a b h.rising e }
+
+-- where line n stands
+record IsPlaced (n : ℕ) (place : Place) : Type 0 where
+  below : IsBelow (told_line n place.part) place.said
+  told : told_line n place.part ≤ n
+
+-- ---- tests and faults
+
+if_ok : {S : Type 0} (t : Bool) (x new : S) (c : Cause) → cond t (Ok x) (Err c) ≡ Ok new → (t ≡ true) × (x ≡ new)
+if_ok true x new c e = (refl, cc)
+if_ok false x new c e = absurd (cc)
+
+then_ok : {S : Type 0} (t : Bool) (r : Result S Cause) (new : S) (c : Cause) → cond t r (Err c) ≡ Ok new → r ≡ Ok new
+then_ok true r new c e = e
+then_ok false r new c e = absurd (cc)
+
+else_ok : {S : Type 0} (t : Bool) (r : Result S Cause) (new : S) (c : Cause) → cond t (Err c) r ≡ Ok new → r ≡ Ok new
+else_ok true r new c e = absurd (cc)
+else_ok false r new c e = e
+
+onto_ok : (part : Part) (r : Result Said Cause) (next : Place) → onto part r ≡ Ok next → (said : Said) × (r ≡ Ok said) × (at said part ≡ next)
+onto_ok part (Ok said) next e = (said, refl, cc)
+onto_ok part (Err c) next e = absurd (cc)
+
+-- ---- the kinds of lines
+
+process_below : (n : ℕ) (said new : Said) (job program word : Option ℕ) → IsBelow n said → process_said n said job program word ≡ Ok new → IsBelow (n + 1) new
+unfolding process_said
+process_below n said new (Some job) (Some program) (Some word) h e =
+    subst (IsBelow (n + 1)) (if_ok _ _ new _ e).1 (record {
+      limit = h.limit;
+      placed = simp length-append (omega (arith, h.placed));
+      rising = Rises-push 1 said.lines n h.rising;
+    })
+process_below n said new (Some job) (Some program) None h e = absurd (cc)
+process_below n said new (Some job) None word h e = absurd (cc)
+process_below n said new None program word h e = absurd (cc)
+
+limit_below : (n : ℕ) (said new : Said) (most : Option ℕ) → IsBelow n said → limit_said said most ≡ Ok new → IsBelow (n + 1) new
+unfolding limit_said
+limit_below n said new (Some limit) h e =
+    let read = if_ok _ _ new _ e in
+    let test = read.0 in
+    let few : limit ≤ MOST_ITEMS = grind (arith, nat_tests) in
+    subst (IsBelow (n + 1)) read.1 (record { limit = few; placed = h.placed; rising = Rises-more 1 said.lines n (n + 1) h.rising (omega arith) })
+limit_below n said new None h e = absurd (cc)
+
+-- after line n, in no block
+next_line : (n : ℕ) (part : Part) (next : Place) (said : Said) → told_line (n + 1) part ≡ n + 1 → IsBelow (n + 1) said → at said part ≡ next → IsPlaced (n + 1) next
+next_line n part next said out h e = subst (IsPlaced (n + 1)) e (record { below = rw out h; told = omega (arith, out) })
+
+statement_placed : (n : ℕ) (said : Said) (words : List (List ℕ)) (next : Place) → IsBelow n said → statement_said n said words ≡ Ok next → IsPlaced (n + 1) next
+unfolding statement_said
+statement_placed n said [] next h e = next_line n Statements next said refl (below_more n (n + 1) said h (omega arith)) (cc)
+statement_placed n said (name ∷ []) next h e = next_line n Schedule next said refl (below_more n (n + 1) said h (omega arith)) (if_ok _ _ next _ e).1
+statement_placed n said (name ∷ most ∷ []) next h e =
+    let read = onto_ok Statements _ next (then_ok _ _ next _ e) in
+    next_line n Statements next read.0 refl (limit_below n said read.0 _ h read.1) read.2
+statement_placed n said (name ∷ mark ∷ form ∷ []) next h e = subst (IsPlaced (n + 1)) (if_ok _ _ next _ e).1 (record { below = h; told = omega arith })
+statement_placed n said (name ∷ job ∷ program ∷ word ∷ []) next h e =
+    let read = onto_ok Statements _ next (then_ok _ _ next _ e) in
+    next_line n Statements next read.0 refl (process_below n said read.0 _ _ _ h read.1) read.2
+statement_placed n said (name ∷ job ∷ program ∷ word ∷ more ∷ rest) next h e = absurd (cc)
+
+program_below : (n : ℕ) (said new : Said) (digits : List ℕ) → IsBelow n said → program_said said digits ≡ Ok new → IsBelow n new
+unfolding program_said
+program_below n said new digits h e =
+    let is_odd = not (eqb (length digits % 2) 0) in
+    let is_none = is_some (first_fault (bytes_of_digits digits)) in
+    let has_room = ltb (length said.programs) MOST_PROGRAMS in
+    let made = with_program said (bytes_of_digits digits) in
+    let room = cond has_room (Ok made) (Err cause.Limit) in
+    let even = else_ok is_odd (cond is_none (Err cause.Program) room) new cause.Syntax e in
+    let spelled = else_ok is_none room new cause.Program even in
+    subst (IsBelow n) (if_ok has_room made new cause.Limit spelled).1 (record { limit = h.limit; placed = h.placed; rising = h.rising })
+
+digits_placed : (n opened : ℕ) (said : Said) (r : Result (List ℕ) Cause) (next : Place) → IsBelow opened said → opened ≤ n → onto_block said opened r ≡ Ok next → IsPlaced (n + 1) next
+digits_placed n opened said (Ok digits) next h before e = let same : at said (Block opened digits) ≡ next = cc in subst (IsPlaced (n + 1)) same (record { below = h; told = omega arith })
+digits_placed n opened said (Err c) next h before e = absurd (cc)
+
+block_placed : (n opened : ℕ) (said : Said) (digits line : List ℕ) (words : List (List ℕ)) (next : Place) → IsBelow opened said → opened ≤ n → block_said said opened digits line words ≡ Ok next → IsPlaced (n + 1) next
+unfolding block_said
+block_placed n opened said digits line words next h before e = go _ e
+  where
+    go : (t : Bool) → cond t (onto Statements (program_said said digits)) (onto_block said opened (digits_said digits (digits_of line))) ≡ Ok next → IsPlaced (n + 1) next
+    go true e =
+        let read = onto_ok Statements _ next e in
+        next_line n Statements next read.0 refl (below_more opened (n + 1) read.0 (program_below opened said read.0 digits h read.1) (omega arith)) read.2
+    go false e = digits_placed n opened said _ next h before e
+
+pair_below : (n : ℕ) (said new : Said) (pid count : Option ℕ) → IsBelow n said → pair_said said pid count ≡ Ok new → IsBelow n new
+unfolding pair_said
+pair_below n said new (Some pid) (Some count) h e = subst (IsBelow n) (if_ok _ _ new _ e).1 (record { limit = h.limit; placed = h.placed; rising = h.rising })
+pair_below n said new (Some pid) None h e = absurd (cc)
+pair_below n said new None count h e = absurd (cc)
+
+turns_below : (n : ℕ) (said new : Said) (words : List (List ℕ)) → IsBelow n said → turns_said said words ≡ Ok new → IsBelow n new
+unfolding turns_said
+turns_below n said new [] h e = let same : said ≡ new = cc in subst (IsBelow n) same h
+turns_below n said new (pid ∷ []) h e = absurd (cc)
+turns_below n said new (pid ∷ count ∷ []) h e = pair_below n said new _ _ h e
+turns_below n said new (pid ∷ count ∷ more ∷ rest) h e = absurd (cc)
+
+-- ---- one line, and all lines
+
+part_placed : (n : ℕ) (said : Said) (part : Part) (line : List ℕ) (words : List (List ℕ)) (next : Place) → IsPlaced n (at said part) → part_said n said part line words ≡ Ok next → IsPlaced (n + 1) next
+part_placed n said Statements line words next h e = statement_placed n said words next h.below e
+part_placed n said (Block opened digits) line words next h e = block_placed n opened said digits line words next h.below h.told e
+part_placed n said Schedule line words next h e =
+    let read = onto_ok Schedule _ next e in
+    next_line n Schedule next read.0 refl (below_more n (n + 1) read.0 (turns_below n said read.0 words h.below read.1) (omega arith)) read.2
+
+-- a line that says nothing
+same_placed : (n : ℕ) (said : Said) (part : Part) → IsPlaced n (at said part) → IsPlaced (n + 1) (at said part)
+same_placed n said Statements h = record { below = below_more n (n + 1) said h.below (omega arith); told = omega arith }
+same_placed n said (Block opened digits) h = record { below = h.below; told = omega (arith, h.told) }
+same_placed n said Schedule h = record { below = below_more n (n + 1) said h.below (omega arith); told = omega arith }
+
+line_placed : (n : ℕ) (place : Place) (line : List ℕ) (next : Place) → IsPlaced n place → line_said n place line ≡ Ok next → IsPlaced (n + 1) next
+unfolding line_said
+line_placed n place line next h e = go _ (then_ok _ _ next _ e)
+  where
+    go : (t : Bool) → cond t (Ok place) (part_said n place.said place.part line (words_of line)) ≡ Ok next → IsPlaced (n + 1) next
+    go true e = let same : place ≡ next = cc in subst (IsPlaced (n + 1)) same (same_placed n place.said place.part h)
+    go false e = part_placed n place.said place.part line _ next h e
+
+refused_in_order : (n : ℕ) (place : Place) (c : Cause) → IsPlaced n place → IsInOrder (refused place.said (told_line n place.part) c)
+refused_in_order n place c h = record { limit = h.below.limit; placed = h.below.placed; rising = (told_line n place.part, h.below.rising); before_fault = h.below.rising }
+
+end_in_order : (n : ℕ) (said : Said) (part : Part) → IsPlaced n (at said part) → IsInOrder (record { said = said; fault = fault_at_end part })
+end_in_order n said Statements h = record { limit = h.below.limit; placed = h.below.placed; rising = (n, h.below.rising); before_fault = tt }
+end_in_order n said (Block opened digits) h = record { limit = h.below.limit; placed = h.below.placed; rising = (opened, h.below.rising); before_fault = h.below.rising }
+end_in_order n said Schedule h = record { limit = h.below.limit; placed = h.below.placed; rising = (n, h.below.rising); before_fault = tt }
+
+rest_in_order : (n : ℕ) (place : Place) (line : List ℕ) (lines : List (List ℕ)) (r : Result Place Cause) → line_said n place line ≡ r → IsPlaced n place
+    → ((next : Place) → IsPlaced (n + 1) next → IsInOrder (reading_from (n + 1) next lines))
+    → IsInOrder (elim r as (λ _. Reading) [ Ok next ↦ reading_from (n + 1) next lines | Err c ↦ refused place.said (told_line n place.part) c ])
+rest_in_order n place line lines (Ok next) e h rest = rest next (line_placed n place line next h e)
+rest_in_order n place line lines (Err c) e h rest = refused_in_order n place c h
+
+from_in_order : (n : ℕ) (place : Place) (lines : List (List ℕ)) → IsPlaced n place → IsInOrder (reading_from n place lines)
+unfolding reading_from
+from_in_order n place [] h = end_in_order n place.said place.part h
+from_in_order n place (line ∷ lines) h = rest_in_order n place line lines (line_said n place line) refl h (λ next g. from_in_order (n + 1) next lines g)
+
+-- every text
+pub text_in_order : (lines : List (List ℕ)) → IsInOrder (reading_from 1 start lines)
+text_in_order lines = from_in_order 1 start lines (record { below = record { limit = omega arith; placed = refl; rising = omega arith }; told = omega arith })

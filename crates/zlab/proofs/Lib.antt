@@ -16,3 +16,4 @@ pub mod Programs
 pub mod LineDigits
 pub mod ReadingOn
 pub mod InOrder
+pub mod WholeBlocks

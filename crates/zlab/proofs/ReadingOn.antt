@@ -9,11 +9,11 @@ use Rattle.zlab.specs.Scenario.{Place, refused, told_line, line_said, reading_fr
 
 -- ---- one line
 
-taken : (n : ℕ) (now new : Place) (line : List ℕ) (rest : List (List ℕ)) → line_said n now line ≡ Ok new → reading_from n now (line ∷ rest) ≡ reading_from (n + 1) new rest
+pub taken : (n : ℕ) (now new : Place) (line : List ℕ) (rest : List (List ℕ)) → line_said n now line ≡ Ok new → reading_from n now (line ∷ rest) ≡ reading_from (n + 1) new rest
 unfolding reading_from
 taken n now new line rest said = rw (said, reading_from) refl
 
-stopped : (n : ℕ) (now : Place) (line : List ℕ) (rest : List (List ℕ)) (c : Cause) → line_said n now line ≡ Err c → reading_from n now (line ∷ rest) ≡ refused now.said (told_line n now.part) c
+pub stopped : (n : ℕ) (now : Place) (line : List ℕ) (rest : List (List ℕ)) (c : Cause) → line_said n now line ≡ Err c → reading_from n now (line ∷ rest) ≡ refused now.said (told_line n now.part) c
 unfolding reading_from
 stopped n now line rest c said = rw (said, reading_from) refl
 

@@ -1,5 +1,5 @@
 -- Worked texts: what they say and their first faults, by computation.
-use Rattle.std.proofs.Common.{◌≡◌, ℕ, List, [], ◌∷◌, ◌++◌, None, Err, replicate, refl}
+use Rattle.std.proofs.Common.{◌≡◌, ℕ, List, [], ◌∷◌, ◌++◌, Some, None, Err, replicate, refl}
 use Rattle.std.specs.Prelude.{codes}
 use Rattle.std.specs.List.{flat_map}
 use Rattle.zl_code.specs.declared.boot.Statement.{Statement}
@@ -10,7 +10,7 @@ use Rattle.zl_code.proofs.Stored.{bytes}
 use Rattle.zlab.specs.declared.fault.Cause.{Cause}
 use Rattle.zlab.specs.declared.fault.Cause.TheVariants as cause
 use Rattle.zlab.specs.Lines.{is_word, number_of, digits_of, bytes_of_digits, hex_digits_of_byte}
-use Rattle.zlab.specs.Scenario.{Said, Reading, refused, reading_of, reading_from, line_said, statement_said, block_said, program_said, turns_said, is_header, limit_said, process_said, pair_said, is_end}
+use Rattle.zlab.specs.Scenario.{Said, Reading, refused, reading_of, reading_from, line_said, statement_said, block_said, program_said, turns_said, is_header, limit_said, process_said, pair_said, is_end, digits_in}
 
 abbrev said : List (List ℕ) → List Statement → List ℕ → ℕ → List (ℕ × ℕ) → Said
 said programs statements lines limit schedule = record { programs = programs; statements = statements; lines = lines; limit = limit; schedule = schedule }
@@ -167,3 +167,17 @@ odd_digits_first = refl
 no_image_first : program_said full (1 ∷ 1 ∷ []) ≡ Err cause.Program
 unfolding program_said bytes_of_digits first_fault header_fault pieces
 no_image_first = refl
+
+-- ---- the digits of lines
+
+digits_of_lines : digits_in (codes "5a 4c4" ∷ codes "# 11" ∷ codes "" ∷ codes " 1" ∷ []) ≡ Some (5 ∷ 10 ∷ 4 ∷ 12 ∷ 4 ∷ 1 ∷ [])
+unfolding digits_in digits_of is_end is_word
+digits_of_lines = refl
+
+no_digits : digits_in (codes "5a" ∷ codes "5g" ∷ []) ≡ None
+unfolding digits_in digits_of is_end is_word
+no_digits = refl
+
+past_the_end : digits_in (codes "5a" ∷ codes " end " ∷ []) ≡ None
+unfolding digits_in digits_of is_end is_word
+past_the_end = refl

@@ -186,3 +186,24 @@ pub record IsInOrder (reading : Reading) : Type 0 where
   pub placed : length reading.said.lines ≡ length reading.said.statements
   pub rising : (last : ℕ) × Rises 1 reading.said.lines last
   pub before_fault : IfSome reading.fault (λ fault. Rises 1 reading.said.lines fault.line)
+
+-- ---- whole blocks
+
+-- one after the other, if both are there
+abbrev pub joined : Option (List ℕ) → Option (List ℕ) → Option (List ℕ)
+joined (Some front) (Some back) = Some (front ++ back)
+joined _ _ = None
+
+-- the digits of the lines of a block, comments aside; nothing where a line is `end`, or has another byte
+unfoldable pub digits_in : List (List ℕ) → Option (List ℕ)
+digits_in [] = Some []
+digits_in (line ∷ lines) =
+    if is_ascii line && not (is_end (words_of line)) then joined (if is_comment line then Some [] else digits_of line) (digits_in lines) else None
+
+-- from the line `program raw hex` to the line `end`, a block says what all of its digits say, or it is at fault as a whole
+abbrev pub BlocksAreWhole : Type 0
+BlocksAreWhole = (n : ℕ) (said : Said) (body rest : List (List ℕ)) (digits : List ℕ) → digits_in body ≡ Some digits
+    → reading_from n (at said Statements) (codes "program raw hex" ∷ (body ++ (codes "end" ∷ rest))) ≡ elim (program_said said digits) as (λ _. Reading) [
+      | Ok new ↦ reading_from (n + 2 + length body) (at new Statements) rest
+      | Err c ↦ refused said n c
+    ]

@@ -1,6 +1,6 @@
 //! Reading a scenario with its schedule.
 ghost use Rattle.std.specs.Prelude.{◌≡◌, IfOk, IfErr};
-ghost use Rattle.zlab.specs.Scenario.{reading_of, IsInOrder};
+ghost use Rattle.zlab.specs.Scenario.{reading_of, IsInOrder, BlocksAreWhole};
 ghost use Rattle.zlab.specs.Reading.{IsScenario};
 ghost use Rattle.zlab.specs.declared.fault.EngineFault.TheVariants.{NoMemory};
 
@@ -49,6 +49,8 @@ pub fn read_scenario(alloc: Global, text: &[u8]) -> Result<Reading, EngineFault>
     ensures err { IfErr result (λ fault. fault ≡ NoMemory) }
     // Of two faults, one in a statement and the reader's, that of the statement is in an earlier line.
     ensures in_order { IsInOrder (reading_of text.now) }
+    // A law of what lines say.
+    ensures blocks { BlocksAreWhole }
 {
     let mut reader = Reader::new(alloc);
     let fault = reader.read_lines(alloc, text)?;

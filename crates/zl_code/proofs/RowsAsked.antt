@@ -1,10 +1,13 @@
 -- What calls ask for, by computation.
-use Rattle.std.proofs.Common.{◌≡◌, ℕ, List, [], ◌∷◌, ◌++◌, refl, replicate, Option, Some, None}
+use Rattle.std.proofs.Common.{◌≡◌, ℕ, List, [], ◌∷◌, ◌++◌, map, refl, replicate, Option, Some, None}
+use Rattle.zl_rights.specs.declared.kind.Kind.{Kind}
+use Rattle.zl_rights.specs.declared.policy.Condition.{Condition}
 use Rattle.zl_rights.specs.World.{Cpu}
 use Rattle.zl_code.specs.declared.instr.CallInstr.TheVariants as call
-use Rattle.zl_code.specs.Instructions.{row_of}
+use Rattle.zl_code.specs.Instructions.{Field, names, consumes, Row, row_of}
 use Rattle.zl_code.specs.Spells.{call_parts}
-use Rattle.zl_code.specs.Request.{Site, site_of}
+use Rattle.zl_code.specs.Request.{Request, Site, site_of, close, dup, event_create, signal, process_exit}
+use Rattle.zl_code.specs.Refusals.{handle_operands, condition_of}
 use Rattle.zl_code.specs.Asked.{Asked, asked_of}
 
 -- register n has 100 + n, and the memory has 112 bytes
@@ -50,6 +53,42 @@ signal_registers c a b d e = refl
 process_exit_registers : (c : Cpu) (a : ℕ) → site_registers (site_of (call.ProcessExit a) c) ≡ asked_registers (asked_of (call.ProcessExit a) c)
 unfolding site_of asked_of call_parts row_of
 process_exit_registers c a = refl
+
+-- ---- the kinds, the rights and the conditions of calls that are built are those of their rows
+
+abbrev needed_in : List Field → List (List Kind × ℕ)
+needed_in [] = []
+needed_in (names kinds rights ∷ fs) = (kinds, rights) ∷ needed_in fs
+needed_in (consumes kinds rights ∷ fs) = (kinds, rights) ∷ needed_in fs
+needed_in (_ ∷ fs) = needed_in fs
+
+-- what the columns of the table of calls say of a request
+abbrev needed_by : Request → List (List Kind × ℕ) × Option Condition
+needed_by request = (map (λ o. (o.kinds, o.needed)) (handle_operands request), condition_of request)
+
+abbrev row_needs : Option Row → List (List Kind × ℕ) × Option Condition
+row_needs None = ([], None)
+row_needs (Some r) = (needed_in r.fields, r.condition)
+
+close_needs : (h : ℕ) → needed_by (close h) ≡ row_needs (row_of 64)
+unfolding handle_operands row_of
+close_needs h = refl
+
+dup_needs : (h rights : ℕ) → needed_by (dup h rights) ≡ row_needs (row_of 65)
+unfolding handle_operands row_of
+dup_needs h rights = refl
+
+event_create_needs : needed_by event_create ≡ row_needs (row_of 70)
+unfolding handle_operands row_of
+event_create_needs = refl
+
+signal_needs : (h clear set : ℕ) → needed_by (signal h clear set) ≡ row_needs (row_of 71)
+unfolding handle_operands row_of
+signal_needs h clear set = refl
+
+process_exit_needs : (code : ℕ) → needed_by (process_exit code) ≡ row_needs (row_of 83)
+unfolding handle_operands row_of
+process_exit_needs code = refl
 
 -- ---- each call in turn
 

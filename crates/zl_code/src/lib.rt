@@ -1,7 +1,7 @@
 //! Instructions and images, and the definitions of calls, steps, runs, legal histories and boot.
 //!
-//! It stands on `zl_rights` alone. It promises that `decode` and `encode` are exact against the
-//! image grammar, both ways; `laws` proves of the definitions that a ready process always has a
+//! It stands on `zl_rights` and `bitflags`. It promises that `decode` and `encode` are exact against
+//! the image grammar, both ways; `laws` proves of the definitions that a ready process always has a
 //! step and that no koid is given twice.
 #![tactic(auto)]
 

@@ -180,6 +180,24 @@ fn registers_of_messages(rt: HostRuntime) {
 }
 
 #[test]
+fn handles_of_a_message(rt: HostRuntime) -> Result<(), Fail> {
+    let image = decode(rt.alloc(), &MESSAGES)
+        .ok()
+        .ok_or("the bytes are an image")?;
+    let Some(CallInstr::ChanWrite { handles, .. }) = image.call_at(0) else {
+        return Err(Fail::from("the first call is chan_write"));
+    };
+    assert!(rt;
+        handles
+            .get(1)
+            .is_some_and(|register| register.number() == 6)
+    );
+    assert!(rt; handles.get(2).is_none());
+    assert!(rt; handles.get(8).is_none());
+    Ok(())
+}
+
+#[test]
 fn largest_image(rt: HostRuntime) -> Result<(), Fail> {
     let mut bytes = Vec::new(rt.alloc());
     bytes.extend_from_slice(&DECLARED[..20])?;

@@ -1,7 +1,6 @@
 -- Where a process stands in the list, and what stands next for it.
 use Rattle.std.proofs.Common.{◌≡◌, ◌<◌, ℕ, List, length, map, get_or, Option, Some, None, refl, sym}
 use Rattle.std.specs.Prelude.{Bool, true, false, slice_get, is_some, if◌then◌else◌, IfSome, IfNone}
-use Rattle.std.specs.Option.{option_map}
 use Rattle.std.proofs.lemmas.Option.{slice_get-map, slice_get_read, none-some}
 use Rattle.std.proofs.Common.{IsTrue}
 use Rattle.std.proofs.lemmas.Bool.{false≢true}

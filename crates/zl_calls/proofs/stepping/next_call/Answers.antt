@@ -1,4 +1,4 @@
-use Rattle.std.proofs.Common.{◌≡◌, true, false, Some, None, ap, sym, ◌∙◌}
+use Rattle.std.proofs.Common.{true, false, ap, sym, ◌∙◌}
 use Rattle.std.specs.Option.{option_map}
 use Rattle.zl_code.specs.Image.{call_at}
 use Rattle.zl_code.specs.Request.{name_of}

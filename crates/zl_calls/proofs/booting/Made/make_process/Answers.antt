@@ -1,4 +1,4 @@
-use Rattle.std.proofs.Common.{ℕ, ap, inl, inr, sym, ◌∙◌, refl, arith}
+use Rattle.std.proofs.Common.{ap, inl, inr, sym, ◌∙◌, refl, arith}
 use Rattle.zl_calls.proofs.BootFaults.{fault_no_program, fault_no_job, fault_limit, wants_memory}
 use Rattle.zl_calls.proofs.BootMaking.{makes}
 use Rattle.zl_code.specs.Image.{Image}

@@ -23,6 +23,7 @@ pub mod Signal
 pub mod Exit
 pub mod Performed
 pub mod Performing
+pub mod Wanting
 pub mod BootFaults
 pub mod BootMaking
 pub mod BootLab

@@ -88,10 +88,13 @@ module _ (lib : Library) (ps : List Process) (r : Registry) (lab : IsLab ps r) (
     pub perform_keeps : IsLab (set ps place p2) r2
     perform_keeps = done.lab
 
+    pub is_called : call_for (lab_value lib ps r) pid ≡ Some (name_of i)
+    is_called = rw (there, ready) (sym named)
+
     pub performed : Performs (lab_value lib ps r) pid o (lab_value lib (set ps place p2) r2)
     performed = record {
       call = name_of i;
-      at_call = rw (there, ready) (sym named);
+      at_call = is_called;
       steps = record { programs = refl; step = rw (← key) done.step };
     }
 
@@ -161,6 +164,12 @@ module _ (lib : Library) (ps : List Process) (r : Registry) (lab : IsLab ps r) (
         lab = perform_keeps lib ps r lab pid place p found read i o p2 r2 named_p next_p called acts;
         done = performed lib ps r lab pid place p found read i o p2 r2 named_p next_p called acts;
       }
+
+  pub call_is : (i : CallInstr) (o : Outcome) (p2 : Process) (r2 : Registry) → Some (name_of i) ≡ call_in (next_for lib (process_value q)) → next_for lib (process_value q) ≡ calls_at (name_of i) (site_of i q.cpu)
+      → IsSome (call_for (lab_value lib ps r) pid) → Acted i p r o p2 r2 → call_for (lab_value lib ps r) pid ≡ Some (name_of i)
+  call_is i o p2 r2 named next called acts = is_called lib ps r lab pid place p found read i o p2 r2
+      (subst (λ (x : Process). Some (name_of i) ≡ call_in (next_for lib (process_value x))) same named)
+      (subst (λ (x : Process). next_for lib (process_value x) ≡ calls_at (name_of i) (site_of i x.cpu)) same next) called acts
 
   pub moves_on : IsTrue (is_ready_in (lab_value lib ps r) pid) → (i : LocalInstr) (c : Cpu) → next_for lib (process_value q) ≡ moves (local_effect i q.cpu) → local_effect i p.cpu ≡ Some c
       → IsStepped (set ps place (record p { cpu = c })) r (StepsTo (lab_value lib ps r) (item.Run pid 1) (lab_value lib (set ps place (record p { cpu = c })) r))

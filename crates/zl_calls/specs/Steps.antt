@@ -1,6 +1,7 @@
 -- What one step does to a lab.
-use Rattle.std.specs.Prelude.{ℕ, ◌≡◌, Some}
+use Rattle.std.specs.Prelude.{ℕ, ◌≡◌, Bool, true, false, Some}
 use Rattle.zl_code.specs.declared.history.CallName.{CallName}
+use Rattle.zl_code.specs.declared.history.CallName.TheVariants as name
 use Rattle.zl_code.specs.declared.history.Outcome.{Outcome}
 use Rattle.zl_code.specs.declared.history.TraceItem.{TraceItem}
 use Rattle.zl_code.specs.declared.history.TraceItem.TheVariants as item
@@ -24,3 +25,9 @@ pub record Performs (l : Lab) (pid : ℕ) (ends : Outcome) (l2 : Lab) : Type 0 w
 abbrev pub local_item : ℕ → Local → TraceItem
 local_item pid local.Ran = item.Run pid 1
 local_item pid local.Stuck = item.Stuck pid
+
+-- the calls that take memory
+abbrev pub takes_memory : CallName → Bool
+takes_memory name.Dup = true
+takes_memory name.EventCreate = true
+takes_memory _ = false

@@ -1,11 +1,11 @@
-ghost use Rattle.std.specs.Prelude.{length, ◌<◌, ◌^◌, ◌≡◌, ◌≢◌, ◌≤◌, IsSome, IsTrue, IfOk, OnOk, IfErr, None, slice_get, map};
+ghost use Rattle.std.specs.Prelude.{length, ◌<◌, ◌^◌, ◌≡◌, ◌≢◌, ◌≤◌, IsSome, IsTrue, IfSome, IfOk, OnOk, IfErr, None, slice_get, map};
 ghost use Rattle.std.specs.Ordering.{nat_cmp};
 ghost use Rattle.std.specs.FinMap.Entries.{is_sorted};
 ghost use Rattle.zl_code.specs.declared.boot.BootCause.TheVariants.{NoMemory};
 ghost use Rattle.zl_code.specs.Boot.{IsBoot, FirstFault, MOST_ITEMS};
 ghost use Rattle.zl_calls.specs.World.{call_for, state_in, is_ready_in};
 ghost use Rattle.zl_calls.specs.Makes.{IsReached};
-ghost use Rattle.zl_calls.specs.Steps.{Performs, StepsTo, local_item};
+ghost use Rattle.zl_calls.specs.Steps.{Performs, StepsTo, local_item, takes_memory};
 
 use crate::booting::{Made, booted};
 use crate::calls::end;
@@ -17,7 +17,7 @@ use crate::stepping::{act, name_of, next_call, next_local, place_of};
 use std::alloc::Global;
 use std::marker::Model;
 use zl_code::{Boot, BootFault, CallName, Outcome, ProcState};
-use zl_rights::Pid;
+use zl_rights::{Pid, Status};
 
 /// The code with which a stuck process ends (own profile).
 const STUCK: i32 = -1028;
@@ -115,7 +115,8 @@ impl World {
     /// `process_exit`; a call that was refused memory is answered `NoMemory`.
     pub fn perform(&mut self, pid: Pid) -> Outcome
         requires { IsSome (call_for self.old pid) }
-        ensures { Performs self.old pid result self.new }
+        ensures steps { Performs self.old pid result self.new }
+        ensures no_memory { result ≡ Outcome.Answered Status.NoMemory → IfSome (call_for self.old pid) (λ call. IsTrue (takes_memory call)) }
     {
         let Some(place) = place_of(&self.processes, pid) else {
             unreachable!()

@@ -13,20 +13,16 @@ use Rattle.zlab.specs.declared.fault.LineFault.{LineFault}
 use Rattle.zlab.specs.declared.scenario.Scenario.{Scenario}
 use Rattle.zlab.specs.Engine.{IsFirstFault, of_statement, of_reading, line_cause, said_in, IsStart}
 use Rattle.zlab.specs.Reading.{IsScenario}
-use Rattle.zlab.specs.Scenario.{Said, reading_of}
+use Rattle.zlab.specs.Scenario.{Said, reading_of, IsInOrder}
 use Rattle.zlab.specs.System.{Tracked}
-use Rattle.zlab.proofs.Told.{IsTold, reading_told}
 
 -- only a want of memory has no line
 other_than_memory : (found : BootCause) (c : Cause) → line_cause found ≡ Some c → found ≡ boot.NoMemory → ⊥
 other_than_memory found c named is = none-some c (sym (ap line_cause is) ∙ named)
 
-module _ (text : List ℕ) (scenario : Scenario) (is : IsScenario (said_in text) scenario) where
-  told : IsTold (said_in text)
-  told = reading_told text
-
+module _ (text : List ℕ) (scenario : Scenario) (is : IsScenario (said_in text) scenario) (order : IsInOrder (reading_of text)) where
   line_at : (n line : ℕ) → n < length (said_in text).statements → line ≡ slice_index_or scenario.lines.items n 0 → slice_get (said_in text).lines n ≡ Some line
-  line_at n line some read = slice_get-get_or (said_in text).lines n 0 (omega (arith, some, told.lines)) ∙ ap (λ (x : ℕ). Some x) (sym (read ∙ ap (λ (xs : List ℕ). get_or xs n 0) is.lines))
+  line_at n line some read = slice_get-get_or (said_in text).lines n 0 (omega (arith, some, order.placed)) ∙ ap (λ (x : ℕ). Some x) (sym (read ∙ ap (λ (xs : List ℕ). get_or xs n 0) is.lines))
 
   pub statement_fault : (n : ℕ) (found : BootCause) (fault : LineFault)
       → ((found ≡ boot.NoMemory → ⊥) → FirstFault scenario.library scenario.boot.statements.items scenario.boot.limit n found)
@@ -39,7 +35,7 @@ module _ (text : List ℕ) (scenario : Scenario) (is : IsScenario (said_in text)
     where
       at_some : (n : ℕ) (found : BootCause) → FirstFault scenario.library (said_in text).statements (said_in text).limit n found → n < length (said_in text).statements
       at_some _ _ (at_statement made n s c boots at faulty) = slice_get_within (said_in text).statements n s at
-      at_some _ _ (at_limit made boots above) = absurd (omega (arith, above, told.limit))
+      at_some _ _ (at_limit made boots above) = absurd (omega (arith, above, order.limit))
 
   pub reading_fault : (w : World) (fault : LineFault) → IsBoot scenario.library scenario.boot.statements.items w → (reading_of text).fault ≡ Some fault → IsFirstFault text fault
   reading_fault w fault boots faulty = of_reading scenario.library w fault is.programs (subst (λ (ss : List Statement). IsBoot scenario.library ss w) is.statements boots) faulty

@@ -5,7 +5,6 @@ pub mod Decimals
 pub mod ReadyProcess
 pub mod Following
 pub mod Walking
-pub mod Told
 pub mod Booting
 pub mod RunOutput
 pub mod Legal

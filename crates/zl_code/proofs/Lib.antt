@@ -10,6 +10,7 @@ pub mod RowsLocal
 pub mod Stepping
 pub mod NotReused
 pub mod ImageBytes
+pub mod ImageCells
 pub mod ImagePieces
 pub mod ImageDeclared
 pub mod ImageNeeds

@@ -1,4 +1,4 @@
-ghost use Rattle.std.specs.Prelude.{◌≡◌, ◌≤◌, ◌++◌, ◌∷◌, [], length, OnOk, IfOk, if◌then◌else◌};
+ghost use Rattle.std.specs.Prelude.{◌≡◌, ◌++◌, ◌∷◌, [], length, OnOk, IfOk, if◌then◌else◌};
 ghost use Rattle.std.specs.List.{flat_map};
 ghost use Rattle.zl_code.specs.Image.{needs_value};
 ghost use Rattle.zl_code.specs.Spells.{bytes_of, seven, instr_bytes, local_bytes, call_bytes, fields, kind_byte, start_bytes, slot_bytes, needs_byte, header, Spells};
@@ -25,202 +25,328 @@ pub(crate) const MAGIC: [u8; 4] = [0x5a, 0x4c, 0x41, 0x42];
 /// The version of the format.
 pub(crate) const VERSION: u8 = 1;
 
-/// How many registers an instruction names, used or not.
-const REGISTERS: usize = 7;
-
-/// Adds the 16 bytes of an instruction with these fields; registers that aren't given are 0.
-fn put_fields(
-    out: &mut Vec<u8>,
-    opcode: u8,
-    registers: &[Register],
-    imm: u32,
-    target: u32,
-) -> Result<(), AllocError>
-    requires { length registers.now ≤ 7 }
-    ensures { OnOk result (out.new.items ≡ out.old.items ++ fields opcode registers.now imm target) }
+/// The bytes of an instruction, with 0 for each register that it doesn't use.
+fn with_registers(opcode: u8, registers: [u8; 7], imm: u32, target: u32) -> [u8; INSTR_LEN]
+    ensures { result ≡ opcode ∷ (registers ++ (bytes_of 4 imm ++ bytes_of 4 target)) }
 {
-    out.push(opcode)?;
-    put_registers(out, registers)?;
-    out.extend_from_slice(&imm.to_le_bytes())?;
-    out.extend_from_slice(&target.to_le_bytes())
+    let [a, b, c, d, e, f, g] = registers;
+    let [i0, i1, i2, i3] = imm.to_le_bytes();
+    let [t0, t1, t2, t3] = target.to_le_bytes();
+    [opcode, a, b, c, d, e, f, g, i0, i1, i2, i3, t0, t1, t2, t3]
 }
 
-/// Adds the 16 bytes of an instruction with a list of handles.
-fn put_listed(
-    out: &mut Vec<u8>,
+/// The bytes of an instruction with four registers and a list of handles.
+fn with_handles(
     opcode: u8,
-    registers: &[Register],
+    a: Register,
+    b: Register,
+    c: Register,
+    d: Register,
     handles: HandleList,
-) -> Result<(), AllocError>
-    requires { length registers.now ≤ 7 }
-    ensures { OnOk result (out.new.items ≡ out.old.items ++ opcode ∷ (seven registers.now ++ handles.places)) }
+) -> [u8; INSTR_LEN]
+    ensures { result ≡ opcode ∷ (seven (a ∷ b ∷ c ∷ d ∷ []) ++ handles.places) }
 {
-    out.push(opcode)?;
-    put_registers(out, registers)?;
-    out.extend_from_slice(&handles.places)
+    let [h0, h1, h2, h3, h4, h5, h6, h7] = handles.places;
+    [
+        opcode,
+        a.number(),
+        b.number(),
+        c.number(),
+        d.number(),
+        0,
+        0,
+        0,
+        h0,
+        h1,
+        h2,
+        h3,
+        h4,
+        h5,
+        h6,
+        h7,
+    ]
 }
 
-/// Adds seven registers, of which those that aren't given are 0.
-fn put_registers(out: &mut Vec<u8>, registers: &[Register]) -> Result<(), AllocError>
-    requires { length registers.now ≤ 7 }
-    ensures { OnOk result (out.new.items ≡ out.old.items ++ seven registers.now) }
+/// The bytes of an instruction without registers.
+fn no_register(opcode: u8, target: u32) -> [u8; INSTR_LEN]
+    ensures { result ≡ fields opcode [] 0 target }
 {
-    for i in 0..REGISTERS {
-        out.push(registers.get(i).map_or(0, |register| register.number()))?;
-    }
-    Ok(())
+    with_registers(opcode, [0; 7], 0, target)
 }
 
-/// Adds the 16 bytes of the instruction.
+/// The bytes of an instruction with one register.
+fn one_register(opcode: u8, a: Register, imm: u32, target: u32) -> [u8; INSTR_LEN]
+    ensures { result ≡ fields opcode (a ∷ []) imm target }
+{
+    with_registers(opcode, [a.number(), 0, 0, 0, 0, 0, 0], imm, target)
+}
+
+/// The bytes of an instruction with two registers.
+fn two_registers(opcode: u8, a: Register, b: Register, imm: u32) -> [u8; INSTR_LEN]
+    ensures { result ≡ fields opcode (a ∷ b ∷ []) imm 0 }
+{
+    with_registers(opcode, [a.number(), b.number(), 0, 0, 0, 0, 0], imm, 0)
+}
+
+/// The bytes of an instruction with three registers.
+fn three_registers(opcode: u8, a: Register, b: Register, c: Register, imm: u32) -> [u8; INSTR_LEN]
+    ensures { result ≡ fields opcode (a ∷ b ∷ c ∷ []) imm 0 }
+{
+    with_registers(
+        opcode,
+        [a.number(), b.number(), c.number(), 0, 0, 0, 0],
+        imm,
+        0,
+    )
+}
+
+/// The bytes of an instruction with four registers.
+fn four_registers(opcode: u8, a: Register, b: Register, c: Register, d: Register) -> [u8; INSTR_LEN]
+    ensures { result ≡ fields opcode (a ∷ b ∷ c ∷ d ∷ []) 0 0 }
+{
+    with_registers(
+        opcode,
+        [a.number(), b.number(), c.number(), d.number(), 0, 0, 0],
+        0,
+        0,
+    )
+}
+
+/// The bytes of an instruction with five registers.
+fn five_registers(
+    opcode: u8,
+    a: Register,
+    b: Register,
+    c: Register,
+    d: Register,
+    e: Register,
+) -> [u8; INSTR_LEN]
+    ensures { result ≡ fields opcode (a ∷ b ∷ c ∷ d ∷ e ∷ []) 0 0 }
+{
+    with_registers(
+        opcode,
+        [
+            a.number(),
+            b.number(),
+            c.number(),
+            d.number(),
+            e.number(),
+            0,
+            0,
+        ],
+        0,
+        0,
+    )
+}
+
+/// The bytes of an instruction with six registers.
+fn six_registers(
+    opcode: u8,
+    a: Register,
+    b: Register,
+    c: Register,
+    d: Register,
+    e: Register,
+    f: Register,
+) -> [u8; INSTR_LEN]
+    ensures { result ≡ fields opcode (a ∷ b ∷ c ∷ d ∷ e ∷ f ∷ []) 0 0 }
+{
+    with_registers(
+        opcode,
+        [
+            a.number(),
+            b.number(),
+            c.number(),
+            d.number(),
+            e.number(),
+            f.number(),
+            0,
+        ],
+        0,
+        0,
+    )
+}
+
+/// The bytes of an instruction with seven registers.
+fn seven_registers(
+    opcode: u8,
+    a: Register,
+    b: Register,
+    c: Register,
+    d: Register,
+    e: Register,
+    f: Register,
+    g: Register,
+    imm: u32,
+) -> [u8; INSTR_LEN]
+    ensures { result ≡ fields opcode (a ∷ b ∷ c ∷ d ∷ e ∷ f ∷ g ∷ []) imm 0 }
+{
+    with_registers(
+        opcode,
+        [
+            a.number(),
+            b.number(),
+            c.number(),
+            d.number(),
+            e.number(),
+            f.number(),
+            g.number(),
+        ],
+        imm,
+        0,
+    )
+}
+
+/// The 16 bytes of the instruction.
 #[tactic(auto, unfolding(crate::specs::Spells::local_parts))]
-fn put_local(out: &mut Vec<u8>, instr: LocalInstr) -> Result<(), AllocError>
-    ensures { OnOk result (out.new.items ≡ out.old.items ++ local_bytes instr) }
+fn local_bytes(local: LocalInstr) -> [u8; INSTR_LEN]
+    ensures { result ≡ local_bytes local }
 {
-    match instr {
+    match local {
         LocalInstr::Const {
             destination,
             number,
-        } => put_fields(out, 1, &[destination], number, 0),
+        } => one_register(1, destination, number, 0),
         LocalInstr::Move {
             destination,
             source,
-        } => put_fields(out, 2, &[destination, source], 0, 0),
+        } => two_registers(2, destination, source, 0),
         LocalInstr::Add {
             destination,
             left,
             right,
-        } => put_fields(out, 3, &[destination, left, right], 0, 0),
+        } => three_registers(3, destination, left, right, 0),
         LocalInstr::AddNumber {
             destination,
             left,
             number,
-        } => put_fields(out, 4, &[destination, left], number, 0),
+        } => two_registers(4, destination, left, number),
         LocalInstr::Subtract {
             destination,
             left,
             right,
-        } => put_fields(out, 5, &[destination, left, right], 0, 0),
+        } => three_registers(5, destination, left, right, 0),
         LocalInstr::And {
             destination,
             left,
             right,
-        } => put_fields(out, 6, &[destination, left, right], 0, 0),
+        } => three_registers(6, destination, left, right, 0),
         LocalInstr::Or {
             destination,
             left,
             right,
-        } => put_fields(out, 7, &[destination, left, right], 0, 0),
+        } => three_registers(7, destination, left, right, 0),
         LocalInstr::Xor {
             destination,
             left,
             right,
-        } => put_fields(out, 8, &[destination, left, right], 0, 0),
+        } => three_registers(8, destination, left, right, 0),
         LocalInstr::ShiftLeft {
             destination,
             source,
             places,
-        } => put_fields(out, 9, &[destination, source], places, 0),
+        } => two_registers(9, destination, source, places),
         LocalInstr::ShiftRight {
             destination,
             source,
             places,
-        } => put_fields(out, 10, &[destination, source], places, 0),
+        } => two_registers(10, destination, source, places),
         LocalInstr::Take {
             destination,
             source,
-        } => put_fields(out, 11, &[destination, source], 0, 0),
+        } => two_registers(11, destination, source, 0),
         LocalInstr::Swap {
             register,
             place,
             array,
-        } => put_fields(out, 12, &[register, place], array, 0),
+        } => two_registers(12, register, place, array),
         LocalInstr::LoadByte {
             destination,
             base,
             offset,
-        } => put_fields(out, 13, &[destination, base], offset, 0),
+        } => two_registers(13, destination, base, offset),
         LocalInstr::LoadWord {
             destination,
             base,
             offset,
-        } => put_fields(out, 14, &[destination, base], offset, 0),
+        } => two_registers(14, destination, base, offset),
         LocalInstr::StoreByte {
             base,
             source,
             offset,
-        } => put_fields(out, 15, &[base, source], offset, 0),
+        } => two_registers(15, base, source, offset),
         LocalInstr::StoreWord {
             base,
             source,
             offset,
-        } => put_fields(out, 16, &[base, source], offset, 0),
-        LocalInstr::Jump { target } => put_fields(out, 17, &[], 0, target),
-        LocalInstr::JumpZero { register, target } => put_fields(out, 18, &[register], 0, target),
-        LocalInstr::JumpNotZero { register, target } => put_fields(out, 19, &[register], 0, target),
+        } => two_registers(16, base, source, offset),
+        LocalInstr::Jump { target } => no_register(17, target),
+        LocalInstr::JumpZero { register, target } => one_register(18, register, 0, target),
+        LocalInstr::JumpNotZero { register, target } => one_register(19, register, 0, target),
         LocalInstr::JumpEqual {
             register,
             number,
             target,
-        } => put_fields(out, 20, &[register], number, target),
+        } => one_register(20, register, number, target),
         LocalInstr::JumpNotEqual {
             register,
             number,
             target,
-        } => put_fields(out, 21, &[register], number, target),
+        } => one_register(21, register, number, target),
         LocalInstr::JumpBelow {
             register,
             number,
             target,
-        } => put_fields(out, 22, &[register], number, target),
+        } => one_register(22, register, number, target),
         LocalInstr::JumpNotBelow {
             register,
             number,
             target,
-        } => put_fields(out, 23, &[register], number, target),
+        } => one_register(23, register, number, target),
         LocalInstr::JumpHas {
             register,
             bits,
             target,
-        } => put_fields(out, 24, &[register], bits, target),
+        } => one_register(24, register, bits, target),
         LocalInstr::JumpHasNot {
             register,
             bits,
             target,
-        } => put_fields(out, 25, &[register], bits, target),
+        } => one_register(25, register, bits, target),
     }
 }
 
-/// Adds the 16 bytes of the system call.
+/// The 16 bytes of the system call.
 #[tactic(auto, unfolding(crate::specs::Spells::call_parts))]
-fn put_call(out: &mut Vec<u8>, instr: CallInstr) -> Result<(), AllocError>
-    ensures { OnOk result (out.new.items ≡ out.old.items ++ call_bytes instr) }
+fn call_bytes(call: CallInstr) -> [u8; INSTR_LEN]
+    ensures { result ≡ call_bytes call }
 {
-    match instr {
-        CallInstr::Close { status, handle } => put_fields(out, 64, &[status, handle], 0, 0),
+    match call {
+        CallInstr::Close { status, handle } => two_registers(64, status, handle, 0),
         CallInstr::Dup {
             status,
             handle,
             copy,
             rights,
-        } => put_fields(out, 65, &[status, handle, copy], rights, 0),
+        } => three_registers(65, status, handle, copy, rights),
         CallInstr::Replace {
             status,
             handle,
             replacement,
             rights,
-        } => put_fields(out, 66, &[status, handle, replacement], rights, 0),
+        } => three_registers(66, status, handle, replacement, rights),
         CallInstr::ChanCreate {
             status,
             first,
             second,
-        } => put_fields(out, 67, &[status, first, second], 0, 0),
+        } => three_registers(67, status, first, second, 0),
         CallInstr::ChanWrite {
             status,
             channel,
             address,
             length,
             handles,
-        } => put_listed(out, 68, &[status, channel, address, length], handles),
+        } => with_handles(68, status, channel, address, length, handles),
         CallInstr::ChanReadEtc {
             status,
             channel,
@@ -230,52 +356,48 @@ fn put_call(out: &mut Vec<u8>, instr: CallInstr) -> Result<(), AllocError>
             handles,
             first,
             places,
-        } => put_fields(
-            out,
-            69,
-            &[status, channel, address, room, bytes, handles, first],
-            places,
-            0,
+        } => seven_registers(
+            69, status, channel, address, room, bytes, handles, first, places,
         ),
-        CallInstr::EventCreate { status, event } => put_fields(out, 70, &[status, event], 0, 0),
+        CallInstr::EventCreate { status, event } => two_registers(70, status, event, 0),
         CallInstr::Signal {
             status,
             handle,
             clear,
             set,
-        } => put_fields(out, 71, &[status, handle, clear, set], 0, 0),
+        } => four_registers(71, status, handle, clear, set),
         CallInstr::SignalPeer {
             status,
             handle,
             clear,
             set,
-        } => put_fields(out, 72, &[status, handle, clear, set], 0, 0),
+        } => four_registers(72, status, handle, clear, set),
         CallInstr::WaitOne {
             status,
             handle,
             mask,
             observed,
-        } => put_fields(out, 73, &[status, handle, mask, observed], 0, 0),
+        } => four_registers(73, status, handle, mask, observed),
         CallInstr::WaitPoll {
             status,
             handle,
             mask,
             observed,
-        } => put_fields(out, 74, &[status, handle, mask, observed], 0, 0),
+        } => four_registers(74, status, handle, mask, observed),
         CallInstr::WaitAsync {
             status,
             handle,
             port,
             key,
             mask,
-        } => put_fields(out, 75, &[status, handle, port, key, mask], 0, 0),
-        CallInstr::PortCreate { status, port } => put_fields(out, 76, &[status, port], 0, 0),
+        } => five_registers(75, status, handle, port, key, mask),
+        CallInstr::PortCreate { status, port } => two_registers(76, status, port, 0),
         CallInstr::PortQueue {
             status,
             port,
             key,
             value,
-        } => put_fields(out, 77, &[status, port, key, value], 0, 0),
+        } => four_registers(77, status, port, key, value),
         CallInstr::PortWait {
             status,
             port,
@@ -283,7 +405,7 @@ fn put_call(out: &mut Vec<u8>, instr: CallInstr) -> Result<(), AllocError>
             kind,
             trigger,
             observed,
-        } => put_fields(out, 78, &[status, port, key, kind, trigger, observed], 0, 0),
+        } => six_registers(78, status, port, key, kind, trigger, observed),
         CallInstr::PortPoll {
             status,
             port,
@@ -291,41 +413,35 @@ fn put_call(out: &mut Vec<u8>, instr: CallInstr) -> Result<(), AllocError>
             kind,
             trigger,
             observed,
-        } => put_fields(out, 79, &[status, port, key, kind, trigger, observed], 0, 0),
+        } => six_registers(79, status, port, key, kind, trigger, observed),
         CallInstr::PortCancel {
             status,
             port,
             source,
             key,
-        } => put_fields(out, 80, &[status, port, source, key], 0, 0),
+        } => four_registers(80, status, port, source, key),
         CallInstr::ProcessCreate {
             status,
             job,
             program,
             process,
-        } => put_fields(out, 81, &[status, job, program, process], 0, 0),
+        } => four_registers(81, status, job, program, process),
         CallInstr::ProcessStart {
             status,
             process,
             handle,
             word,
-        } => put_fields(out, 82, &[status, process, handle, word], 0, 0),
-        CallInstr::ProcessExit { code } => put_fields(out, 83, &[code], 0, 0),
-        CallInstr::TaskKill { status, task } => put_fields(out, 84, &[status, task], 0, 0),
-        CallInstr::JobCreate { status, job, child } => put_fields(
-            out,
-            85,
-            &[status, job, child],
-            0,
-            0,
-        ),
+        } => four_registers(82, status, process, handle, word),
+        CallInstr::ProcessExit { code } => one_register(83, code, 0, 0),
+        CallInstr::TaskKill { status, task } => two_registers(84, status, task, 0),
+        CallInstr::JobCreate { status, job, child } => three_registers(85, status, job, child, 0),
         CallInstr::JobSetPolicy {
             status,
             job,
             mode,
             condition,
             action,
-        } => put_fields(out, 86, &[status, job, mode, condition, action], 0, 0),
+        } => five_registers(86, status, job, mode, condition, action),
     }
 }
 
@@ -333,11 +449,12 @@ fn put_call(out: &mut Vec<u8>, instr: CallInstr) -> Result<(), AllocError>
 fn put_instr(out: &mut Vec<u8>, instr: Instr) -> Result<(), AllocError>
     ensures { OnOk result (out.new.items ≡ out.old.items ++ instr_bytes instr) }
 {
-    match instr {
-        Instr::Local(local) => put_local(out, local),
-        Instr::Call(call) => put_call(out, call),
-        Instr::Unknown(bytes) => out.extend_from_slice(&bytes),
-    }
+    let bytes = match instr {
+        Instr::Local(local) => local_bytes(local),
+        Instr::Call(call) => call_bytes(call),
+        Instr::Unknown(bytes) => bytes,
+    };
+    out.extend_from_slice(&bytes)
 }
 
 /// Adds the numbers of the header.

@@ -9,6 +9,8 @@ pub mod RowsAsked
 pub mod RowsLocal
 pub mod Stepping
 pub mod NotReused
+pub mod MapKept
+pub mod HandlesKept
 pub mod ImageBytes
 pub mod ImageCells
 pub mod ImagePieces

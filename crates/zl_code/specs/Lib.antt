@@ -12,3 +12,4 @@ pub mod Calls
 pub mod Steps
 pub mod Boot
 pub mod Koids
+pub mod Handles

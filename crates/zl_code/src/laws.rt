@@ -1,5 +1,6 @@
 //! Laws of the definitions: each function's contract is one law, and its body is empty.
 
+ghost use Rattle.std.specs.List.{flat_map};
 ghost use Rattle.std.specs.Prelude.{ℕ, ◌≡◌, ◌≢◌, List};
 ghost use Rattle.zl_rights.specs.declared.status.Status.TheVariants as status;
 ghost use Rattle.zl_rights.specs.Map.{get};
@@ -10,9 +11,10 @@ ghost use Rattle.zl_code.specs.declared.history.TraceItem.{TraceItem};
 ghost use Rattle.zl_code.specs.declared.history.TraceItem.TheVariants as item;
 ghost use Rattle.zl_code.specs.Image.{Library};
 ghost use Rattle.zl_code.specs.declared.boot.Statement.{Statement};
-ghost use Rattle.zl_code.specs.Steps.{Step, Runs};
+ghost use Rattle.zl_code.specs.Steps.{Step, Runs, single, IsLegalHistory};
 ghost use Rattle.zl_code.specs.Boot.{IsBoot};
 ghost use Rattle.zl_code.specs.Koids.{HasGivenKoids, KeepsKoids};
+ghost use Rattle.zl_code.specs.Handles.{HandlesAreSound, Throughout};
 
 /// A ready process has a step.
 pub fn a_ready_process_has_a_step()
@@ -52,4 +54,29 @@ pub fn boot_worlds_have_given_koids()
 pub fn runs_reuse_no_koid()
     ensures { (lib : Library) (statements : List Statement) (boot w after : World) (items more : List TraceItem)
         → IsBoot lib statements boot → Runs lib boot items w → Runs lib w more after → KeepsKoids w after }
+{}
+
+/// In a boot world no two handles share a place, and each handle's rights are within the default rights of its kind.
+pub fn boot_worlds_have_sound_handles()
+    ensures { (lib : Library) (statements : List Statement) (w : World)
+        → IsBoot lib statements w → HandlesAreSound w }
+{}
+
+/// A step leaves no two handles at one place, and none with rights outside the default rights of its kind.
+pub fn steps_keep_handles_sound()
+    ensures { (lib : Library) (w : World) (p : ℕ) (x : TraceItem) (after : World)
+        → HandlesAreSound w → Step lib w p x after → HandlesAreSound after }
+{}
+
+/// In the last world of a run from a boot world handles are sound.
+pub fn runs_keep_handles_sound()
+    ensures { (lib : Library) (statements : List Statement) (boot after : World) (items : List TraceItem)
+        → IsBoot lib statements boot → Runs lib boot items after → HandlesAreSound after }
+{}
+
+/// In every world of a legal history from a boot world, the last one too, handles are sound.
+pub fn histories_keep_handles_sound()
+    ensures { (lib : Library) (statements : List Statement) (boot after : World) (history : List TraceItem)
+        → IsBoot lib statements boot → (legal : IsLegalHistory lib boot history after)
+        → Throughout HandlesAreSound lib boot (flat_map single history) after legal.run × HandlesAreSound after }
 {}

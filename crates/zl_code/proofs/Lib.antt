@@ -7,6 +7,7 @@ pub mod RowsRuns
 pub mod RowsImages
 pub mod RowsAsked
 pub mod RowsLocal
+pub mod RowsHandles
 pub mod Stepping
 pub mod NotReused
 pub mod MapKept

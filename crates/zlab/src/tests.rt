@@ -43,6 +43,27 @@ const EMPTY_PROGRAM: &str = "program raw hex
 end
 ";
 
+/// A program that goes round a loop of two instructions, with a process that runs it.
+const LOOP: &str = "program raw hex
+5a4c4142 0101 0200 00000000 01000000 00000000
+01020000000000000100000000000000
+11000000000000000000000000000000
+end
+process 1 0 0
+limit 20000
+--
+";
+
+/// A program of one instruction, behind which its process is stuck.
+const STUCK: &str = "program raw hex
+5a4c4142 0101 0100 00000000 01000000 00000000
+01020000000000000100000000000000
+end
+process 1 0 0
+--
+2 20
+";
+
 /// What the engine writes, and how it ends.
 fn answer(alloc: Global, mut input: &[u8]) -> Result<(Verdict, Vec<u8>), EngineFault> {
     let mut output = Vec::new(alloc);
@@ -147,6 +168,17 @@ fn runs_a_program(rt: HostRuntime) -> Result<(), Fail> {
         is_answered(&rt, rt.alloc(), input.as_bytes(), verdict, text);
     }
     Ok(())
+}
+
+#[test]
+fn ends_a_stuck_process(rt: HostRuntime) {
+    is_answered(
+        &rt,
+        rt.alloc(),
+        STUCK.as_bytes(),
+        Verdict::Done,
+        "2 run 1\n2 stuck\nprocess 2 ended -1028\nend schedule\n",
+    );
 }
 
 #[test]
@@ -304,41 +336,89 @@ impl Write for Narrow {
 }
 
 #[test]
-fn reports_a_fault_of_the_reader(rt: HostRuntime) {
-    // Seven calls give the bytes, and the eighth the end.
-    for calls in 0..9 {
-        let mut reader = Slow {
-            rest: b"limit 1",
-            most: 1,
-            calls,
-        };
-        let mut output = Vec::new(rt.alloc());
-        match step_engine(rt.alloc(), &mut reader, &mut output) {
-            Ok(Verdict::Done) => assert!(rt; calls == 8 && output.as_slice() == DONE.as_bytes()),
-            Err(EngineFault::Read) => assert!(rt; calls < 8 && output.is_empty()),
-            _ => panic!(rt; "after {calls} calls"),
+fn reports_a_fault_of_the_reader(rt: HostRuntime) -> Result<(), Fail> {
+    let run = format!(in rt.alloc(); "{PROGRAM}process 1 0 0\n--\n2 20\n")?;
+    for (text, trace) in [("limit 1", DONE), (run.as_str(), TRACE)] {
+        // Each byte takes a call, and the end one more.
+        for calls in 0..text.len() + 2 {
+            let mut reader = Slow {
+                rest: text.as_bytes(),
+                most: 1,
+                calls,
+            };
+            let mut output = Vec::new(rt.alloc());
+            match step_engine(rt.alloc(), &mut reader, &mut output) {
+                Ok(Verdict::Done) => assert!(rt;
+                    calls > text.len() && output.as_slice() == trace.as_bytes()
+                ),
+                Err(EngineFault::Read) => assert!(rt; calls <= text.len() && output.is_empty()),
+                _ => panic!(rt; "after {calls} calls"),
+            }
         }
+    }
+    Ok(())
+}
+
+/// How the engine ends with a writer that takes so many bytes a call and so many calls, and what
+/// the writer took.
+fn answer_narrow(
+    alloc: Global,
+    mut input: &[u8],
+    most: usize,
+    calls: usize,
+) -> (Result<Verdict, EngineFault>, Narrow) {
+    let mut writer = Narrow {
+        taken: Vec::new(alloc),
+        most,
+        calls,
+    };
+    let ended = step_engine(alloc, &mut input, &mut writer);
+    (ended, writer)
+}
+
+/// Whether the engine is done where all was taken, and else ends with the writer's fault.
+fn ends_well(ended: Result<Verdict, EngineFault>, all: bool) -> bool {
+    match ended {
+        Ok(verdict) => all && verdict == Verdict::Done,
+        Err(fault) => !all && matches!(fault, EngineFault::Write),
     }
 }
 
 #[test]
-fn reports_a_fault_of_the_writer(rt: HostRuntime) {
-    // Thirteen calls take a byte each.
-    for calls in 0..14 {
-        let mut input: &[u8] = b"";
-        let mut writer = Narrow {
-            taken: Vec::new(rt.alloc()),
-            most: 1,
-            calls,
-        };
-        match step_engine(rt.alloc(), &mut input, &mut writer) {
-            Ok(Verdict::Done) => assert!(rt;
-                calls == 13 && writer.taken.as_slice() == DONE.as_bytes()
-            ),
-            Err(EngineFault::Write) => assert!(rt; calls < 13 && writer.taken.len() == calls),
-            _ => panic!(rt; "after {calls} calls"),
+fn reports_a_fault_of_the_writer(rt: HostRuntime) -> Result<(), Fail> {
+    let run = format!(in rt.alloc(); "{PROGRAM}process 1 0 0\n--\n2 20\n")?;
+    for (text, trace) in [("", DONE), (run.as_str(), TRACE)] {
+        // Each byte takes a call.
+        for calls in 0..trace.len() + 1 {
+            let (ended, writer) = answer_narrow(rt.alloc(), text.as_bytes(), 1, calls);
+            assert!(rt;
+                ends_well(ended, calls == trace.len())
+                    && writer.taken.as_slice() == &trace.as_bytes()[..calls],
+                "after {calls} calls"
+            );
         }
     }
+    Ok(())
+}
+
+#[test]
+fn reports_a_fault_between_blocks(rt: HostRuntime) -> Result<(), Fail> {
+    let input = format!(in rt.alloc(); "{LOOP}2 9000\n2 11000\n")?;
+    let mut trace = String::new(rt.alloc());
+    for _ in 0..20_000 {
+        trace.push_str("2 run 1\n")?;
+    }
+    trace.push_str("process 2 ready\nend schedule\n")?;
+    // Two blocks of 65,536 bytes, and the rest.
+    for calls in 0..4 {
+        let (ended, writer) = answer_narrow(rt.alloc(), input.as_bytes(), usize::MAX, calls);
+        let count = trace.len().min(calls * 65_536);
+        assert!(rt;
+            ends_well(ended, calls == 3) && writer.taken.as_slice() == &trace.as_bytes()[..count],
+            "after {calls} calls"
+        );
+    }
+    Ok(())
 }
 
 #[test]

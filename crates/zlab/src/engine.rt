@@ -20,6 +20,11 @@ use zl_rights::Pid;
 
 /// Reads a scenario with a schedule, and writes the trace along the schedule or the line of the
 /// first fault. All input is read before anything is written.
+///
+/// The trace is the text of a legal history; in each of its worlds no two handles share a place, and
+/// each handle's rights are within the default of its kind (`zl_code::laws::histories_keep_handles_sound`).
+/// A fault of the reader is `Read`, with nothing written. A fault of the writer, and a want of memory,
+/// leave nothing or a beginning of such an answer.
 pub fn step_engine<R: Read, W: Write>(
     alloc: Global,
     reader: &mut R,

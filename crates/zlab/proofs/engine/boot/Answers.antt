@@ -20,6 +20,6 @@ returns-clause-ok c =
     elim c.match-fault.branch as (λ _. Starts c.args.text.now c.match-fault.result) [
       | in-Some w ↦ rw w.result-is (reading_fault c.args.text.now c.in_ok-scenario.field-0.scenario read.scenario read.in_order c.in-Ok.world.world w.in-Some.fault booted.ok (sym read.fault ∙ w.in-Some.is))
       | in-None w ↦ rw w.result-is (is_start c.args.text.now c.in_ok-scenario.field-0.scenario read.scenario read.in_order w.new.result c.in_ok-scenario.field-0.scenario.schedule.items
-      (sym read.fault ∙ w.in-None.is) (ap (λ (s : Tracked). s.lab.programs) w.new.ensures ∙ booted.programs)
-      (rw (w.new.ensures) booted.ok) (ap (λ (s : Tracked). s.items) w.new.ensures) (ap (λ (s : Tracked). s.limit) w.new.ensures) refl)
+          (sym read.fault ∙ w.in-None.is) (ap (λ (s : Tracked). s.lab.programs) w.new.ensures ∙ booted.programs)
+          (rw (w.new.ensures) booted.ok) (ap (λ (s : Tracked). s.items) w.new.ensures) (ap (λ (s : Tracked). s.limit) w.new.ensures) refl)
     ]

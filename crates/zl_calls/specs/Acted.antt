@@ -50,7 +50,7 @@ pub record ActsExit (a : ℕ) (p : Process) (r : Registry) (o : Outcome) (p2 : P
   pub ends : o ≡ outcome.Ended (signed_word (reg p.cpu a))
   pub over : Ends (signed_word (reg p.cpu a)) p r p2 r2
 
--- a call that isn't built does nothing
+-- a call that isn't built is never done
 abbrev NotBuilt : Process → Registry → Outcome → Process → Registry → Type 0
 NotBuilt p r o p2 r2 = ⊥
 

@@ -1,5 +1,5 @@
 -- Images, programs and libraries.
-use Rattle.std.specs.Prelude.{ℕ, Bool, true, false, ◌==◌, List, [], ◌∷◌, Option, Some, None, slice_get}
+use Rattle.std.specs.Prelude.{ℕ, Bool, true, false, ◌==◌, List, [], ◌∷◌, filter, Option, Some, None, slice_get}
 use Rattle.std.specs.List.{list_any}
 use Rattle.zl_rights.specs.declared.policy.Condition.{Condition}
 use Rattle.zl_rights.specs.declared.policy.Condition.TheVariants as condition
@@ -36,6 +36,14 @@ Library = List Program
 -- the condition is among the needs
 abbrev pub is_among : List Condition → Condition → Bool
 is_among needs c = list_any (λ x. condition_number x == condition_number c) needs
+
+-- the conditions that an image can need, in the order of their numbers
+abbrev pub can_be_needed : List Condition
+can_be_needed = condition.NewChannel ∷ condition.NewEvent ∷ condition.NewPort ∷ condition.NewProcess ∷ []
+
+-- those of them that are named, each once
+abbrev pub needs_named : List Condition → List Condition
+needs_named named = filter (λ c. is_among named c) can_be_needed
 
 abbrev pub need_if : Bool → Condition → List Condition → List Condition
 need_if true c rest = c ∷ rest

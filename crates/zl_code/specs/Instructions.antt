@@ -1,6 +1,8 @@
 -- The table of instructions: a row for each opcode of version 1.
 use Rattle.std.specs.Prelude.{ℕ, ◌==◌, List, [], ◌∷◌, length, codes, Option, Some, None, if◌then◌else◌}
 use Rattle.std.specs.Option.{option_map}
+use Rattle.std.specs.List.{find}
+use Rattle.std.specs.Cmp.Lexicographic.{pointwise}
 use Rattle.zl_rights.specs.declared.kind.Kind.{Kind}
 use Rattle.zl_rights.specs.declared.kind.Kind.TheVariants as kind
 use Rattle.zl_rights.specs.declared.policy.Condition.{Condition}
@@ -109,6 +111,10 @@ row_among (r ∷ rs) opcode = if r.opcode == opcode then Some r else row_among r
 -- the row of the opcode, if it is known
 unfoldable pub row_of : ℕ → Option Row
 row_of opcode = row_among rows opcode
+
+-- the row of this name, as the text of a program has it
+unfoldable pub row_named : List ℕ → Option Row
+row_named name = find (λ r. pointwise ◌==◌ r.name name) rows
 
 -- how the bytes of a known opcode are laid out: so many registers, and what stands in the last eight bytes
 pub record Layout : Type 0 where

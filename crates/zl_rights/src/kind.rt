@@ -1,6 +1,7 @@
 ghost use Rattle.std.specs.Prelude.{◌≡◌, ◌≢◌, IfSome, IfNone};
 ghost use Rattle.zl_rights.specs.declared.kind.Kind.{Kind};
 ghost use Rattle.zl_rights.specs.Numbers.{bits, kind_number, default_rights_of};
+ghost use Rattle.zl_rights.specs.Names.{kind_name, kind_named};
 
 use crate::rights::Rights;
 use bitflags::Flags;
@@ -46,6 +47,36 @@ impl Kind {
             17 => Some(Kind::Job),
             _ => None,
         }
+    }
+
+    /// The name of the kind, as texts have it: in lower case (own profile).
+    pub fn name(self) -> &'static str
+        ensures { result.now ≡ kind_name self }
+    {
+        match self {
+            Kind::Process => "process",
+            Kind::Channel => "channel",
+            Kind::Event => "event",
+            Kind::Port => "port",
+            Kind::Job => "job",
+        }
+    }
+
+    /// The kind with this name, or nothing where no kind has it.
+    pub fn named(name: &[u8]) -> Option<Kind>
+        ensures { result ≡ kind_named name.now }
+    {
+        let kinds: &[Kind] = &[
+            Kind::Process,
+            Kind::Channel,
+            Kind::Event,
+            Kind::Port,
+            Kind::Job,
+        ];
+        kinds
+            .iter()
+            .find(|kind| kind.name().as_bytes() == name)
+            .copied()
     }
 
     /// The rights of the first handle to a new object of this kind.

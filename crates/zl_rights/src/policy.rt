@@ -2,6 +2,7 @@ ghost use Rattle.std.specs.Prelude.{◌≡◌, ◌≢◌, IfSome, IfNone};
 ghost use Rattle.zl_rights.specs.declared.policy.Condition.{Condition};
 ghost use Rattle.zl_rights.specs.declared.policy.Action.{Action};
 ghost use Rattle.zl_rights.specs.declared.policy.Mode.{Mode};
+ghost use Rattle.zl_rights.specs.Names.{condition_name, condition_named};
 ghost use Rattle.zl_rights.specs.Numbers.{condition_number, action_number, mode_number};
 
 /// What a job's policy decides on. `NewAny` stands for all conditions of making an object.
@@ -68,6 +69,40 @@ impl Condition {
             7 => Some(Condition::NewProcess),
             _ => None,
         }
+    }
+
+    /// The name of the condition, as texts have it (own profile).
+    pub fn name(self) -> &'static str
+        ensures { result.now ≡ condition_name self }
+    {
+        match self {
+            Condition::BadHandle => "BAD_HANDLE",
+            Condition::WrongObject => "WRONG_OBJECT",
+            Condition::NewAny => "NEW_ANY",
+            Condition::NewChannel => "NEW_CHANNEL",
+            Condition::NewEvent => "NEW_EVENT",
+            Condition::NewPort => "NEW_PORT",
+            Condition::NewProcess => "NEW_PROCESS",
+        }
+    }
+
+    /// The condition with this name, or nothing where none has it.
+    pub fn named(name: &[u8]) -> Option<Condition>
+        ensures { result ≡ condition_named name.now }
+    {
+        let conditions: &[Condition] = &[
+            Condition::BadHandle,
+            Condition::WrongObject,
+            Condition::NewAny,
+            Condition::NewChannel,
+            Condition::NewEvent,
+            Condition::NewPort,
+            Condition::NewProcess,
+        ];
+        conditions
+            .iter()
+            .find(|condition| condition.name().as_bytes() == name)
+            .copied()
     }
 }
 

@@ -1,0 +1,139 @@
+-- Worked examples of the assembler's text, by computation.
+use Rattle.std.proofs.Common.{◌≡◌, ℕ, List, [], ◌∷◌, ◌++◌, refl}
+use Rattle.std.specs.Prelude.{codes, true, false, Some, None}
+use Rattle.std.specs.Fmt.{digits}
+use Rattle.zl_code.specs.Instructions.{row_of, row_named}
+use Rattle.zl_code.specs.Spells.{instr_fault, local_parts, call_parts}
+use Rattle.zl_rights.specs.declared.kind.Kind.TheVariants as kind
+use Rattle.zl_rights.specs.declared.policy.Condition.TheVariants as condition
+use Rattle.zl_rights.specs.Numbers.{rights_of}
+use Rattle.zl_rights.specs.Names.{kind_named, condition_named}
+use Rattle.zl_code.proofs.Stored.{image}
+use Rattle.zl_asm.specs.Words.{is_word, words_from, digit_of, value_from, number_of, register_of, is_name, hex_bytes}
+use Rattle.zl_asm.specs.Lines.{kind_of, directive_of, operands_after, operands_of, all_of, tail_of, source_of, unknown_of, label_of, line_of}
+use Rattle.zl_asm.specs.Listing.{directives_first, labels_from, names_once, listing_from, listing_of}
+use Rattle.zl_asm.specs.Denotes.{Denotes, fields_of}
+use Rattle.zl_asm.specs.Canonical.{joined, tail_texts, code_lines_from, text_of}
+
+-- all that the reading of a text unfolds
+unfoldable pub reading : Unit {0}
+unfolding is_word words_from digit_of value_from number_of register_of is_name hex_bytes kind_of directive_of operands_after operands_of all_of tail_of source_of unknown_of label_of line_of directives_first labels_from names_once listing_from listing_of row_of row_named instr_fault kind_named condition_named local_parts call_parts
+reading = tt
+
+abbrev stored : List ℕ
+stored = codes ".raw\n.budget 100\nevent_create r2, r3\nconst r5, 8\nsignal r2, r3, r0, r5\ndup r2, r3, r4, 2147483648\nclose r2, r3\nclose r2, r4\nclose r2, r4\nprocess_exit r0\n"
+
+-- The text of eight instructions denotes the image of the stored run.
+stored_text_denotes_image : Denotes stored image
+unfolding reading
+stored_text_denotes_image = record { fields = refl; in_range = refl }
+
+-- The disassembler writes it with both numbers.
+stored_image_has_text : text_of image ≡ codes ".raw\n.memory 0\n.budget 100\nevent_create r2, r3\nconst r5, 8\nsignal r2, r3, r0, r5\ndup r2, r3, r4, 2147483648\nclose r2, r3\nclose r2, r4\nclose r2, r4\nprocess_exit r0\n"
+unfolding reading joined tail_texts code_lines_from text_of digits
+stored_image_has_text = refl
+
+-- Spaces, comments, capital digits and the order of directives don't count; labels are numbers of instructions.
+abbrev a_loop : List ℕ
+a_loop = codes "; a loop\n  .budget 0x1F ; twice .raw\n.slots any 2 0\n.need NEW_PORT\n.need NEW_EVENT\n.start channel 16388\n.raw\n\nconst r2 ,  3\nloop:\nagain_2:\n  addi r2,r2,0xffffffff\njnz r2, loop\njeq r31, 7, end\n.bytes c8000000000000000000000000000000\njmp 9\nend:"
+
+a_loop_says : listing_of a_loop ≡ Some (record {
+  raw = true;
+  memory = 0;
+  budget = 31;
+  needs = condition.NewEvent ∷ condition.NewPort ∷ [];
+  starts = record { kind = Some kind.Channel; rights = rights_of 16388 } ∷ [];
+  slots = record { kind = None; length = 2; rights = rights_of 0 } ∷ [];
+  code =
+      (1 ∷ 2 ∷ 0 ∷ 0 ∷ 0 ∷ 0 ∷ 0 ∷ 0 ∷ 3 ∷ 0 ∷ 0 ∷ 0 ∷ 0 ∷ 0 ∷ 0 ∷ 0 ∷ [])
+      ∷ (4 ∷ 2 ∷ 2 ∷ 0 ∷ 0 ∷ 0 ∷ 0 ∷ 0 ∷ 255 ∷ 255 ∷ 255 ∷ 255 ∷ 0 ∷ 0 ∷ 0 ∷ 0 ∷ [])
+      ∷ (19 ∷ 2 ∷ 0 ∷ 0 ∷ 0 ∷ 0 ∷ 0 ∷ 0 ∷ 0 ∷ 0 ∷ 0 ∷ 0 ∷ 1 ∷ 0 ∷ 0 ∷ 0 ∷ [])
+      ∷ (20 ∷ 31 ∷ 0 ∷ 0 ∷ 0 ∷ 0 ∷ 0 ∷ 0 ∷ 7 ∷ 0 ∷ 0 ∷ 0 ∷ 6 ∷ 0 ∷ 0 ∷ 0 ∷ [])
+      ∷ (200 ∷ 0 ∷ 0 ∷ 0 ∷ 0 ∷ 0 ∷ 0 ∷ 0 ∷ 0 ∷ 0 ∷ 0 ∷ 0 ∷ 0 ∷ 0 ∷ 0 ∷ 0 ∷ [])
+      ∷ (17 ∷ 0 ∷ 0 ∷ 0 ∷ 0 ∷ 0 ∷ 0 ∷ 0 ∷ 0 ∷ 0 ∷ 0 ∷ 0 ∷ 9 ∷ 0 ∷ 0 ∷ 0 ∷ [])
+      ∷ [];
+})
+unfolding reading
+a_loop_says = refl
+
+-- The lists of chan_write and the room of chan_read_etc.
+lists_say : listing_of (codes "chan_write r2, r3, r0, r0, r6, r7\nchan_read_etc r2, r0, r10, r10, r11, r12, r13, 1\nchan_write r2, r3, r0, r0") ≡ Some (record {
+  raw = false;
+  memory = 0;
+  budget = 1;
+  needs = [];
+  starts = [];
+  slots = [];
+  code =
+      (68 ∷ 2 ∷ 3 ∷ 0 ∷ 0 ∷ 0 ∷ 0 ∷ 0 ∷ 6 ∷ 7 ∷ 255 ∷ 255 ∷ 255 ∷ 255 ∷ 255 ∷ 255 ∷ [])
+      ∷ (69 ∷ 2 ∷ 0 ∷ 10 ∷ 10 ∷ 11 ∷ 12 ∷ 13 ∷ 1 ∷ 0 ∷ 0 ∷ 0 ∷ 0 ∷ 0 ∷ 0 ∷ 0 ∷ [])
+      ∷ (68 ∷ 2 ∷ 3 ∷ 0 ∷ 0 ∷ 0 ∷ 0 ∷ 0 ∷ 255 ∷ 255 ∷ 255 ∷ 255 ∷ 255 ∷ 255 ∷ 255 ∷ 255 ∷ [])
+      ∷ [];
+})
+unfolding reading
+lists_say = refl
+
+-- ---- texts that denote no image
+
+abbrev DenotesNone : List ℕ → Type 0
+DenotesNone text = listing_of text ≡ None
+
+register_32 : DenotesNone (codes "const r32, 1")
+unfolding reading
+register_32 = refl
+
+budget_twice : DenotesNone (codes ".budget 2\n.budget 2")
+unfolding reading
+budget_twice = refl
+
+directive_behind_code : DenotesNone (codes "jmp 0\n.budget 2")
+unfolding reading
+directive_behind_code = refl
+
+label_twice : DenotesNone (codes "l:\njmp l\nl:")
+unfolding reading
+label_twice = refl
+
+label_missing : DenotesNone (codes "jmp l")
+unfolding reading
+label_missing = refl
+
+register_with_a_zero : DenotesNone (codes "const r02, 1")
+unfolding reading
+register_with_a_zero = refl
+
+no_comma : DenotesNone (codes "const r2 1")
+unfolding reading
+no_comma = refl
+
+comma_at_the_end : DenotesNone (codes "const r2, 1,")
+unfolding reading
+comma_at_the_end = refl
+
+number_too_large : DenotesNone (codes "const r2, 4294967296")
+unfolding reading
+number_too_large = refl
+
+unknown_without_the_mark : DenotesNone (codes ".bytes c8000000000000000000000000000000")
+unfolding reading
+unknown_without_the_mark = refl
+
+known_bytes : DenotesNone (codes ".raw\n.bytes 01020000000000000300000000000000")
+unfolding reading
+known_bytes = refl
+
+room_too_large : DenotesNone (codes "chan_read_etc r2, r0, r10, r10, r11, r12, r30, 1")
+unfolding reading
+room_too_large = refl
+
+nine_handles : DenotesNone (codes "chan_write r2, r3, r0, r0, r1, r1, r1, r1, r1, r1, r1, r1, r1")
+unfolding reading
+nine_handles = refl
+
+label_apart : DenotesNone (codes "name :")
+unfolding reading
+label_apart = refl
+
+not_ascii : DenotesNone (59 ∷ 200 ∷ [])
+unfolding reading
+not_ascii = refl

@@ -1,0 +1,13 @@
+-- The names of causes, as answers have them.
+use Rattle.std.specs.Prelude.{ℕ, List, codes}
+use Rattle.zl_asm.specs.declared.fault.AsmCause.{AsmCause}
+use Rattle.zl_asm.specs.declared.fault.AsmCause.TheVariants as cause
+
+abbrev pub cause_name : AsmCause → List ℕ
+cause_name cause.Token = codes "Token"
+cause_name cause.UnknownName = codes "UnknownName"
+cause_name cause.LabelTwice = codes "LabelTwice"
+cause_name cause.LabelMissing = codes "LabelMissing"
+cause_name cause.Operand = codes "Operand"
+cause_name cause.Limit = codes "Limit"
+cause_name cause.NoMemory = codes "NoMemory"

@@ -1,0 +1,147 @@
+-- What all lines of a program's text give together: the fields of an image.
+use Rattle.std.specs.Prelude.{ℕ, zero, suc, Bool, true, false, ◌&&◌, not, ◌==◌, nat_le, List, [], ◌∷◌, ◌++◌, map, length, take, drop, Option, Some, None, is_some, if◌then◌else◌}
+use Rattle.std.specs.Option.{option_map}
+use Rattle.std.specs.List.{flat_map, find, list_all}
+use Rattle.std.specs.Cmp.Lexicographic.{pointwise}
+use Rattle.zl_rights.specs.declared.policy.Condition.{Condition}
+use Rattle.zl_code.specs.declared.image.Start.{Start}
+use Rattle.zl_code.specs.declared.image.SlotArray.{SlotArray}
+use Rattle.zl_code.specs.Image.{needs_named}
+use Rattle.zl_code.specs.Spells.{bytes_of, instr_fault}
+use Rattle.zl_asm.specs.declared.directive.Directive.{Directive}
+use Rattle.zl_asm.specs.declared.directive.Directive.TheVariants as directive
+use Rattle.zl_asm.specs.Words.{lines_of, words_of, is_ascii}
+use Rattle.zl_asm.specs.Lines.{Line, Blank, Declares, Label, Code, Source, line_of, all_of, if_fits, then_with}
+
+-- the fields of an image, each instruction as its 16 bytes
+pub record Listing : Type 0 where
+  pub raw : Bool
+  pub memory : ℕ
+  pub budget : ℕ
+  pub needs : List Condition
+  pub starts : List Start
+  pub slots : List SlotArray
+  pub code : List (List ℕ)
+
+-- ---- what stands in which lines
+
+abbrev pub mark_in : Line → List Bool
+mark_in (Declares directive.Raw) = true ∷ []
+mark_in _ = []
+
+abbrev pub memory_in : Line → List ℕ
+memory_in (Declares (directive.Memory n)) = n ∷ []
+memory_in _ = []
+
+abbrev pub budget_in : Line → List ℕ
+budget_in (Declares (directive.Budget n)) = n ∷ []
+budget_in _ = []
+
+abbrev pub need_in : Line → List Condition
+need_in (Declares (directive.Need c)) = c ∷ []
+need_in _ = []
+
+abbrev pub start_in : Line → List Start
+start_in (Declares (directive.Start s)) = s ∷ []
+start_in _ = []
+
+abbrev pub slots_in : Line → List SlotArray
+slots_in (Declares (directive.Slots s)) = s ∷ []
+slots_in _ = []
+
+abbrev pub source_in : Line → List Source
+source_in (Code s) = s ∷ []
+source_in _ = []
+
+-- the value that is given once, or the usual one
+abbrev pub given : {X : Type 0} → List X → X → Option X
+given [] usual = Some usual
+given (x ∷ []) usual = Some x
+given _ usual = None
+
+-- ---- the order of lines
+
+abbrev pub declares : Line → Bool
+declares (Declares d) = true
+declares _ = false
+
+abbrev pub is_body : Line → Bool
+is_body (Label name) = true
+is_body (Code s) = true
+is_body _ = false
+
+-- no directive stands behind a label or an instruction
+unfoldable pub directives_first : List Line → Bool
+directives_first [] = true
+directives_first (line ∷ lines) = if is_body line then list_all (λ l. not (declares l)) lines else directives_first lines
+
+-- ---- labels
+
+-- the labels with the number of the instruction that follows each, where the next instruction has the number n
+unfoldable pub labels_from : ℕ → List Line → List (List ℕ × ℕ)
+labels_from n [] = []
+labels_from n (Label name ∷ lines) = (name, n) ∷ labels_from n lines
+labels_from n (Code s ∷ lines) = labels_from (suc n) lines
+labels_from n (_ ∷ lines) = labels_from n lines
+
+-- the number that the label of this name stands for
+abbrev pub position_of : List (List ℕ × ℕ) → List ℕ → Option ℕ
+position_of labels name = option_map (λ l. l.1) (find (λ l. pointwise ◌==◌ l.0 name) labels)
+
+-- no name stands twice
+unfoldable pub names_once : List (List ℕ × ℕ) → Bool
+names_once [] = true
+names_once (l ∷ labels) = not (is_some (position_of labels l.0)) && names_once labels
+
+-- the bytes of an instruction with this target
+abbrev pub with_target : List ℕ → ℕ → List ℕ
+with_target bytes target = take 12 bytes ++ bytes_of 4 target
+
+-- the bytes of an instruction, whose label has to be there
+abbrev pub resolved : List (List ℕ × ℕ) → Source → Option (List ℕ)
+resolved labels s = elim s.label as (λ _. Option (List ℕ)) [
+  | None ↦ Some s.bytes
+  | Some name ↦ option_map (with_target s.bytes) (position_of labels name)
+]
+
+-- ---- the whole
+
+-- no more than an image holds, and no instruction with a fault
+abbrev pub is_listing : Listing → Bool
+is_listing l =
+    nat_le (length l.starts) 7
+    && (nat_le (length l.slots) 8
+    && (nat_le (length l.code) 4096
+    && list_all (λ bytes. not (is_some (instr_fault l.raw bytes))) l.code))
+
+abbrev pub listing_with : List Line → Option Bool → Option ℕ → Option ℕ → Option (List (List ℕ)) → Option Listing
+listing_with lines (Some raw) (Some memory) (Some budget) (Some code) = Some (record {
+  raw = raw;
+  memory = memory;
+  budget = budget;
+  needs = needs_named (flat_map need_in lines);
+  starts = flat_map start_in lines;
+  slots = flat_map slots_in lines;
+  code = code;
+})
+listing_with lines _ _ _ _ = None
+
+-- the fields that the lines give
+unfoldable pub listing_from : List Line → Option Listing
+listing_from lines =
+    if directives_first lines && names_once (labels_from 0 lines) then
+    if_fits is_listing
+    (listing_with lines
+    (given (flat_map mark_in lines) false)
+    (given (flat_map memory_in lines) 0)
+    (given (flat_map budget_in lines) 1)
+    (all_of (resolved (labels_from 0 lines)) (flat_map source_in lines)))
+    else None
+
+-- what each line of the text says
+abbrev pub lines_said : List ℕ → Option (List Line)
+lines_said text = if is_ascii text then all_of (λ line. line_of (words_of line)) (lines_of text) else None
+
+-- the fields that a text gives, if it denotes an image
+unfoldable pub listing_of : List ℕ → Option Listing
+listing_of text = then_with (lines_said text) listing_from

@@ -1,0 +1,109 @@
+-- The words of a line of a program's text: numbers, registers and names.
+use Rattle.std.specs.Prelude.{ℕ, zero, suc, ◌+◌, ◌-◌, ◌*◌, ◌^◌, Bool, true, false, ◌&&◌, ◌||◌, not, ◌==◌, nat_lt, nat_le, List, [], ◌∷◌, ◌++◌, codes, length, drop, Option, Some, None, if◌then◌else◌}
+use Rattle.std.specs.List.{slice_split, list_all, starts_with}
+use Rattle.std.specs.Cmp.Lexicographic.{pointwise}
+
+-- ---- lines and words
+
+-- the lines of a text, between line feeds
+abbrev pub lines_of : List ℕ → List (List ℕ)
+lines_of text = slice_split (λ byte. byte == 10) text
+
+-- each byte is an ASCII character
+abbrev pub is_ascii : List ℕ → Bool
+is_ascii text = list_all (λ byte. nat_lt byte 128) text
+
+-- the word has just these bytes
+unfoldable pub is_word : List ℕ → List ℕ → Bool
+is_word word bytes = pointwise ◌==◌ word bytes
+
+abbrev pub comma : List ℕ
+comma = codes ","
+
+-- a word, where it has a byte, before the others
+abbrev pub word_before : List ℕ → List (List ℕ) → List (List ℕ)
+word_before [] words = words
+word_before word words = word ∷ words
+
+-- The words of a line, of whose first one `word` was read. Spaces part words, a comma is a word of its own, and a
+-- semicolon ends the line.
+unfoldable pub words_from : List ℕ → List ℕ → List (List ℕ)
+words_from word [] = word_before word []
+words_from word (byte ∷ bytes) =
+    if byte == 59 then word_before word []
+    else (if byte == 32 then word_before word (words_from [] bytes)
+    else (if byte == 44 then word_before word (comma ∷ words_from [] bytes)
+    else words_from (word ++ (byte ∷ [])) bytes))
+
+abbrev pub words_of : List ℕ → List (List ℕ)
+words_of line = words_from [] line
+
+-- ---- numbers
+
+-- the value of a hexadecimal digit, in capital letters or not
+unfoldable pub digit_of : ℕ → Option ℕ
+digit_of byte =
+    if nat_le 48 byte && nat_le byte 57 then Some (byte - 48)
+    else (if nat_le 97 byte && nat_le byte 102 then Some (byte - 97 + 10)
+    else (if nat_le 65 byte && nat_le byte 70 then Some (byte - 65 + 10)
+    else None))
+
+-- the value with one more digit of the base at its end, as long as it has 32 bits
+abbrev pub longer : ℕ → ℕ → Option ℕ → Option ℕ
+longer base value None = None
+longer base value (Some digit) = if nat_lt digit base && nat_lt (value * base + digit) (2 ^ 32) then Some (value * base + digit) else None
+
+-- the value with all these digits at its end
+unfoldable pub value_from : ℕ → Option ℕ → List ℕ → Option ℕ
+value_from base value [] = value
+value_from base None (byte ∷ bytes) = None
+value_from base (Some value) (byte ∷ bytes) = value_from base (longer base value (digit_of byte)) bytes
+
+-- the value of the digits of the base, of which there is one at least
+abbrev pub value_of : ℕ → List ℕ → Option ℕ
+value_of base [] = None
+value_of base bytes = value_from base (Some 0) bytes
+
+-- the number of 32 bits that the word spells: decimal, or hexadecimal behind `0x`
+unfoldable pub number_of : List ℕ → Option ℕ
+number_of word = if starts_with ◌==◌ word (codes "0x") then value_of 16 (drop 2 word) else value_of 10 word
+
+-- ---- registers
+
+abbrev is_decimal : ℕ → Bool
+is_decimal byte = nat_le 48 byte && nat_le byte 57
+
+-- the register of the word, `r0` to `r31`
+unfoldable pub register_of : List ℕ → Option ℕ
+register_of (r ∷ low ∷ []) = if (r == 114) && is_decimal low then Some (low - 48) else None
+register_of (r ∷ high ∷ low ∷ []) =
+    if (r == 114) && (nat_le 49 high && (nat_le high 51 && (is_decimal low && nat_lt ((high - 48) * 10 + (low - 48)) 32)))
+    then Some ((high - 48) * 10 + (low - 48))
+    else None
+register_of _ = None
+
+-- ---- names of labels
+
+abbrev is_small_letter : ℕ → Bool
+is_small_letter byte = nat_le 97 byte && nat_le byte 122
+
+abbrev pub is_name_byte : ℕ → Bool
+is_name_byte byte = is_small_letter byte || (is_decimal byte || (byte == 95))
+
+-- a small letter, and behind it small letters, digits or `_`; 32 bytes at most
+unfoldable pub is_name : List ℕ → Bool
+is_name [] = false
+is_name (byte ∷ bytes) = is_small_letter byte && (list_all is_name_byte bytes && nat_lt (length bytes) 32)
+
+-- ---- bytes in hexadecimal digits
+
+-- a byte and those behind it, if all are there
+abbrev pub byte_before : Option ℕ → Option ℕ → Option (List ℕ) → Option (List ℕ)
+byte_before (Some high) (Some low) (Some bytes) = Some ((high * 16 + low) ∷ bytes)
+byte_before _ _ _ = None
+
+-- the bytes that the digits spell, two digits a byte
+unfoldable pub hex_bytes : List ℕ → Option (List ℕ)
+hex_bytes [] = Some []
+hex_bytes (high ∷ low ∷ digits) = byte_before (digit_of high) (digit_of low) (hex_bytes digits)
+hex_bytes _ = None

@@ -1,1 +1,2 @@
 mod RowsText
+pub mod ListingBytes

@@ -1,7 +1,9 @@
 -- The grammar of the assembler: which image a text denotes.
-use Rattle.std.specs.Prelude.{ℕ, ◌≡◌, ◌⊎◌, List, map, Option, Some, None, IsTrue}
+use Rattle.std.specs.Prelude.{ℕ, ◌≡◌, List, [], ◌∷◌, ◌++◌, map, length, Option, Some, IsTrue, if◌then◌else◌}
+use Rattle.std.specs.Option.{option_map}
+use Rattle.std.specs.List.{flat_map}
 use Rattle.zl_code.specs.Image.{Image}
-use Rattle.zl_code.specs.Spells.{instr_bytes, is_in_range}
+use Rattle.zl_code.specs.Spells.{bytes_of, magic, needs_byte, start_bytes, slot_bytes, instr_bytes, is_in_range}
 use Rattle.zl_asm.specs.Listing.{Listing, listing_of}
 
 abbrev pub fields_of : Image → Listing
@@ -19,6 +21,21 @@ fields_of i = record {
 pub record Denotes (text : List ℕ) (i : Image) : Type 0 where
   pub fields : listing_of text ≡ Some (fields_of i)
   pub in_range : IsTrue (is_in_range i)
+
+-- the bytes of an image with these fields
+abbrev pub listing_bytes : Listing → List ℕ
+listing_bytes l =
+    (magic
+    ++ ((1 ∷ (if l.raw then 1 else 0) ∷ [])
+    ++ (bytes_of 2 (length l.code)
+    ++ (bytes_of 4 l.memory
+    ++ (bytes_of 4 l.budget
+    ++ (needs_byte l.needs ∷ length l.starts ∷ length l.slots ∷ 0 ∷ []))))))
+    ++ (flat_map start_bytes l.starts ++ (flat_map slot_bytes l.slots ++ flat_map (λ bytes. bytes) l.code))
+
+-- the bytes of the image that a text denotes, if it denotes one
+abbrev pub image_bytes_of : List ℕ → Option (List ℕ)
+image_bytes_of text = option_map listing_bytes (listing_of text)
 
 -- no text denotes two images
 abbrev pub NoTextDenotesTwo : Type 0

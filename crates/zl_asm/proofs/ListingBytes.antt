@@ -1,0 +1,20 @@
+-- The bytes of a listing are those of the image that has its fields.
+use Rattle.std.proofs.Common.{◌≡◌, ℕ, List, [], ◌∷◌, ◌++◌, length, map, Some, refl, ap, ◌∙◌}
+use Rattle.std.specs.List.{flat_map}
+use Rattle.std.specs.Option.{option_map}
+use Rattle.std.proofs.lemmas.List.{length-map}
+use Rattle.zl_code.specs.Image.{Image}
+use Rattle.zl_code.specs.Spells.{bytes_of, spelling, instr_bytes}
+use Rattle.zl_asm.specs.Listing.{Listing}
+use Rattle.zl_asm.specs.Denotes.{Denotes, fields_of, listing_bytes, image_bytes_of}
+
+all_in_one : {X : Type 0} (f : X → List ℕ) (xs : List X) → flat_map (λ bytes. bytes) (map f xs) ≡ flat_map f xs
+all_in_one f [] = refl
+all_in_one f (x ∷ xs) = ap (λ (ys : List ℕ). f x ++ ys) (all_in_one f xs)
+
+pub listing_bytes-fields : (i : Image) → listing_bytes (fields_of i) ≡ spelling i
+listing_bytes-fields i = rw (length-map i.code instr_bytes, all_in_one instr_bytes i.code) refl
+
+-- the bytes of the image that a text denotes
+pub image_bytes_of-Denotes : (text : List ℕ) (i : Image) → Denotes text i → image_bytes_of text ≡ Some (spelling i)
+image_bytes_of-Denotes text i d = ap (option_map listing_bytes) d.fields ∙ ap Some (listing_bytes-fields i)

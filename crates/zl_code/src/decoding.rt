@@ -4,8 +4,9 @@ ghost use Rattle.zl_code.specs.Spells.{needs_byte, is_needs_byte, number_at, hea
 ghost use Rattle.zl_code.specs.Image.{Image as ImageValue, needs_value};
 
 use crate::declarations::{slots_of, starts_of};
-use crate::encoding::{DECLARATION_LEN, HEADER_LEN, INSTR_LEN, MAGIC, VERSION};
+use crate::encoding::{DECLARATION_LEN, HEADER_LEN, MAGIC, VERSION};
 use crate::image::{DecodeFault, Image, Needs};
+use crate::instr_bytes::INSTR_LEN;
 use crate::known::code_of;
 use std::alloc::Global;
 

@@ -7,9 +7,9 @@ ghost use Rattle.zl_code.specs.Instructions.{layout as layout_with};
 ghost use Rattle.zl_code.specs.Spells.{are_registers, registers_at, number_at, are_places, is_packed, is_room, names_registers, is_ending_clear, is_unused_zero};
 ghost use Rattle.zl_code.specs.Fields.{read_in};
 
-use crate::encoding::INSTR_LEN;
 use crate::image::DecodeFault;
 use crate::instr::HandleList;
+use crate::instr_bytes::INSTR_LEN;
 use crate::layout::{Ending, Layout};
 use crate::register::Register;
 

@@ -7,10 +7,10 @@ ghost use Rattle.zl_code.specs.Instructions.{layout_of};
 ghost use Rattle.zl_code.specs.Spells.{are_registers, names_registers, is_unused_zero, row_bytes, local_bytes, call_bytes, instr_bytes, is_local_in_range, is_call_in_range, is_instr_in_range, instr_fault, first_of};
 ghost use Rattle.zl_code.specs.Fields.{read_in};
 
-use crate::encoding::INSTR_LEN;
 use crate::fields::{Fields, fields_of, is_unused_zero, names_registers};
 use crate::image::DecodeFault;
 use crate::instr::{CallInstr, HandleList, Instr, LocalInstr};
+use crate::instr_bytes::INSTR_LEN;
 use crate::layout::layout_of;
 use std::alloc::Global;
 
@@ -327,25 +327,30 @@ fn known(fields: Fields) -> Instr
     }
 }
 
-/// The instruction of the 16 bytes.
-fn instr_of(raw: bool, bytes: [u8; INSTR_LEN]) -> Result<Instr, DecodeFault>
-    ensures bytes { IfOk result (λ instr. instr_bytes instr ≡ bytes) }
-    ensures in_range { IfOk result (λ instr. IsTrue (is_instr_in_range raw instr)) }
-    ensures fault { MatchResult result (λ _. instr_fault raw bytes ≡ None) (λ fault. instr_fault raw bytes ≡ Some fault) }
-{
-    match layout_of(bytes[0]) {
-        Some(layout) => {
-            let fields = fields_of(bytes)?;
-            if !names_registers(layout.ending, &fields) {
-                return Err(DecodeFault::BadRegister);
+impl Instr {
+    /// The instruction that the 16 bytes spell, in an image with the raw mark or without it.
+    ///
+    /// The first fault in this order: `UnknownOp` of an unknown opcode, never under the raw mark;
+    /// `BadRegister`; `UnusedField`. The layout is own profile.
+    pub fn from_bytes(raw: bool, bytes: [u8; 16]) -> Result<Instr, DecodeFault>
+        ensures bytes { IfOk result (λ instr. instr_bytes instr ≡ bytes) }
+        ensures in_range { IfOk result (λ instr. IsTrue (is_instr_in_range raw instr)) }
+        ensures fault { MatchResult result (λ _. instr_fault raw bytes ≡ None) (λ fault. instr_fault raw bytes ≡ Some fault) }
+    {
+        match layout_of(bytes[0]) {
+            Some(layout) => {
+                let fields = fields_of(bytes)?;
+                if !names_registers(layout.ending, &fields) {
+                    return Err(DecodeFault::BadRegister);
+                }
+                if !is_unused_zero(layout, &fields) {
+                    return Err(DecodeFault::UnusedField);
+                }
+                Ok(known(fields))
             }
-            if !is_unused_zero(layout, &fields) {
-                return Err(DecodeFault::UnusedField);
-            }
-            Ok(known(fields))
+            None if raw => Ok(Instr::Unknown(bytes)),
+            None => Err(DecodeFault::UnknownOp),
         }
-        None if raw => Ok(Instr::Unknown(bytes)),
-        None => Err(DecodeFault::UnknownOp),
     }
 }
 
@@ -362,7 +367,7 @@ pub(crate) fn code_of(
 {
     let mut code = Vec::with_capacity(alloc, pieces.len())?;
     for piece in pieces {
-        let instr = instr_of(raw, *piece)?;
+        let instr = Instr::from_bytes(raw, *piece)?;
         // Not `push`, whose error would hand the instruction back.
         code.extend_from_slice(&[instr])?;
     }

@@ -13,6 +13,7 @@ mod fields;
 mod history;
 mod image;
 mod instr;
+mod instr_bytes;
 mod known;
 pub mod laws;
 mod layout;

@@ -1,6 +1,6 @@
 use Rattle.std.proofs.Common.{ℕ, List, ◌∷◌, ap, rules}
 use Rattle.zl_code.proofs.ImageCells.{cells_8}
-use Rattle.zl_code.proofs.encoding.with_handles.Goals as goal
+use Rattle.zl_code.proofs.instr_bytes.with_handles.Goals as goal
 
 pub returns : goal.returns
 returns c =

@@ -2,7 +2,7 @@ use Rattle.std.proofs.Common.{rules, true, false, ap, sym, refl, ◌∙◌}
 use Rattle.std.proofs.lemmas.Result.{err_from_is_err_and}
 use Rattle.zl_code.specs.Instructions.{layout_of}
 use Rattle.zl_code.proofs.ImageInstr.{IfSome-at, row_bytes-read, unknown_in_range, instr_fault-unknown, instr_fault-register, instr_fault-named, instr_fault-known}
-use Rattle.zl_code.proofs.known.instr_of.Goals as goal
+use Rattle.zl_code.proofs.instr.Instr.from_bytes.Goals as goal
 
 pub returns-in_err-fields-in-Some-clause-fault : goal.returns-in_err-fields-in-Some-clause-fault
 returns-in_err-fields-in-Some-clause-fault c =

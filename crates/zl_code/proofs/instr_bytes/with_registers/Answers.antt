@@ -1,6 +1,6 @@
 use Rattle.std.proofs.Common.{rules, ◌∙◌}
 use Rattle.zl_code.proofs.ImageCells.{fields_by_cells, word_bytes}
-use Rattle.zl_code.proofs.encoding.with_registers.Goals as goal
+use Rattle.zl_code.proofs.instr_bytes.with_registers.Goals as goal
 
 pub returns : goal.returns
 returns c =

@@ -22,3 +22,4 @@ pub mod ImageWhole
 pub mod ImageCode
 pub mod ImageTable
 pub mod ImageHeader
+pub mod InstrTable

@@ -10,7 +10,7 @@ ghost use Rattle.zl_code.specs.Fields.{read_in};
 use crate::image::DecodeFault;
 use crate::instr::HandleList;
 use crate::instr_bytes::INSTR_LEN;
-use crate::layout::{Ending, Layout};
+use crate::layout::{Ending, Row};
 use crate::register::Register;
 
 /// The fields of the 16 bytes of an instruction.
@@ -127,13 +127,13 @@ fn is_ending_clear(ending: Ending, fields: &Fields) -> bool
     }
 }
 
-/// Whether the fields that the layout doesn't use are 0.
-pub(crate) fn is_unused_zero(layout: Layout, fields: &Fields) -> bool
-    requires { layout.registers ≤ 7 }
-    ensures { result ≡ is_unused_zero (layout_with layout.registers layout.ending) (read_in fields.now) }
+/// Whether the fields that the row doesn't use are 0.
+pub(crate) fn is_unused_zero(row: Row, fields: &Fields) -> bool
+    requires { row.registers ≤ 7 }
+    ensures { result ≡ is_unused_zero (layout_with row.registers row.ending) (read_in fields.now) }
 {
     let registers: &[Register] = &[
         fields.a, fields.b, fields.c, fields.d, fields.e, fields.f, fields.g,
     ];
-    are_zero(&registers[layout.registers..]) && is_ending_clear(layout.ending, fields)
+    are_zero(&registers[row.registers..]) && is_ending_clear(row.ending, fields)
 }

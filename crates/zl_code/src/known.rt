@@ -1,6 +1,6 @@
 //! The instruction that 16 bytes spell: the table of instructions, from bytes.
 
-ghost use Rattle.std.specs.Prelude.{map, ◌<◌, ◌≤◌, ◌≡◌, ◌⊎◌, IsTrue, IfOk, IfErr, IfSome, OnOk, MatchResult, true, is_some, Bool, Some, None};
+ghost use Rattle.std.specs.Prelude.{map, ◌<◌, ◌≤◌, ◌≡◌, ◌⊎◌, IsTrue, IfOk, IfErr, IfSome, OnOk, MatchResult, slice_index, true, is_some, Bool, Some, None};
 ghost use Rattle.std.specs.List.{list_all};
 ghost use Rattle.zl_code.specs.declared.image.DecodeFault.TheVariants as faults;
 ghost use Rattle.zl_code.specs.Instructions.{layout_of};
@@ -11,7 +11,7 @@ use crate::fields::{Fields, fields_of, is_unused_zero, names_registers};
 use crate::image::DecodeFault;
 use crate::instr::{CallInstr, HandleList, Instr, LocalInstr};
 use crate::instr_bytes::INSTR_LEN;
-use crate::layout::layout_of;
+use crate::layout::Row;
 use std::alloc::Global;
 
 /// The least opcode of a system call.
@@ -327,6 +327,20 @@ fn known(fields: Fields) -> Instr
     }
 }
 
+/// The instruction of 16 bytes with an unknown opcode, which only the raw mark allows.
+fn unknown(raw: bool, bytes: [u8; INSTR_LEN]) -> Result<Instr, DecodeFault>
+    requires { layout_of (slice_index bytes 0) ≡ None }
+    ensures bytes { IfOk result (λ instr. instr_bytes instr ≡ bytes) }
+    ensures in_range { IfOk result (λ instr. IsTrue (is_instr_in_range raw instr)) }
+    ensures fault { MatchResult result (λ _. instr_fault raw bytes ≡ None) (λ fault. instr_fault raw bytes ≡ Some fault) }
+{
+    if raw {
+        Ok(Instr::Unknown(bytes))
+    } else {
+        Err(DecodeFault::UnknownOp)
+    }
+}
+
 impl Instr {
     /// The instruction that the 16 bytes spell, in an image with the raw mark or without it.
     ///
@@ -337,19 +351,18 @@ impl Instr {
         ensures in_range { IfOk result (λ instr. IsTrue (is_instr_in_range raw instr)) }
         ensures fault { MatchResult result (λ _. instr_fault raw bytes ≡ None) (λ fault. instr_fault raw bytes ≡ Some fault) }
     {
-        match layout_of(bytes[0]) {
-            Some(layout) => {
+        match Row::of_opcode(bytes[0]) {
+            Some(row) => {
                 let fields = fields_of(bytes)?;
-                if !names_registers(layout.ending, &fields) {
+                if !names_registers(row.ending, &fields) {
                     return Err(DecodeFault::BadRegister);
                 }
-                if !is_unused_zero(layout, &fields) {
+                if !is_unused_zero(row, &fields) {
                     return Err(DecodeFault::UnusedField);
                 }
                 Ok(known(fields))
             }
-            None if raw => Ok(Instr::Unknown(bytes)),
-            None => Err(DecodeFault::UnknownOp),
+            None => unknown(raw, bytes),
         }
     }
 }

@@ -1,6 +1,6 @@
-ghost use Rattle.std.specs.Prelude.{◌≡◌, ◌≤◌, Some, IfSome};
+ghost use Rattle.std.specs.Prelude.{◌≡◌, ◌≤◌, map, IfSome, length};
 ghost use Rattle.std.specs.Option.{option_map};
-ghost use Rattle.zl_code.specs.Instructions.{layout as layout_with, layout_of};
+ghost use Rattle.zl_code.specs.Instructions.{layout as layout_with, layout_of, row_of, row_named};
 
 /// What stands in the last eight bytes of an instruction.
 #[derive(Clone, Copy)]
@@ -19,75 +19,104 @@ pub enum Ending {
     Handles,
 }
 
-/// How the bytes of an instruction are laid out: it uses so many registers, from the first on, and
-/// the last eight bytes in this way.
+/// All known opcodes are below.
+const OPCODE_END: u8 = 87;
+
+/// A row of the table of instructions: the name of an opcode, and how its bytes are laid out. It
+/// uses so many registers, from the first on, and the last eight bytes in this way. Own profile.
 #[derive(Clone, Copy)]
-pub(crate) struct Layout {
+pub struct Row {
+    pub opcode: u8,
+    /// As the text of a program has it.
+    pub name: &'static str,
+    /// At most 7.
     pub registers: usize,
     pub ending: Ending,
 }
 
-/// The layout of the opcode, if it is known.
-#[tactic(auto, unfolding(crate::specs::Instructions::row_of))]
-pub(crate) fn layout_of(opcode: u8) -> Option<Layout>
-    ensures layout { option_map (λ l. layout_with l.registers l.ending) result ≡ layout_of opcode }
-    ensures registers { IfSome result (λ l. l.registers ≤ 7) }
-{
-    match opcode {
-        1 => uses(1, Ending::Number), // const
-        2 => uses(2, Ending::Nothing), // mov
-        3 => uses(3, Ending::Nothing), // add
-        4 => uses(2, Ending::Number), // addi
-        5 => uses(3, Ending::Nothing), // sub
-        6 => uses(3, Ending::Nothing), // and
-        7 => uses(3, Ending::Nothing), // or
-        8 => uses(3, Ending::Nothing), // xor
-        9 => uses(2, Ending::Number), // shl
-        10 => uses(2, Ending::Number), // shr
-        11 => uses(2, Ending::Nothing), // take
-        12 => uses(2, Ending::Number), // swap
-        13 => uses(2, Ending::Number), // ld8
-        14 => uses(2, Ending::Number), // ld64
-        15 => uses(2, Ending::Number), // st8
-        16 => uses(2, Ending::Number), // st64
-        17 => uses(0, Ending::Target), // jmp
-        18 => uses(1, Ending::Target), // jz
-        19 => uses(1, Ending::Target), // jnz
-        20 => uses(1, Ending::Both), // jeq
-        21 => uses(1, Ending::Both), // jne
-        22 => uses(1, Ending::Both), // jlt
-        23 => uses(1, Ending::Both), // jge
-        24 => uses(1, Ending::Both), // jhas
-        25 => uses(1, Ending::Both), // jnhas
-        64 => uses(2, Ending::Nothing), // close
-        65 => uses(3, Ending::Number), // dup
-        66 => uses(3, Ending::Number), // replace
-        67 => uses(3, Ending::Nothing), // chan_create
-        68 => uses(4, Ending::Handles), // chan_write
-        69 => uses(7, Ending::Room), // chan_read_etc
-        70 => uses(2, Ending::Nothing), // event_create
-        71 => uses(4, Ending::Nothing), // signal
-        72 => uses(4, Ending::Nothing), // signal_peer
-        73 => uses(4, Ending::Nothing), // wait_one
-        74 => uses(4, Ending::Nothing), // wait_poll
-        75 => uses(5, Ending::Nothing), // wait_async
-        76 => uses(2, Ending::Nothing), // port_create
-        77 => uses(4, Ending::Nothing), // port_queue
-        78 => uses(6, Ending::Nothing), // port_wait
-        79 => uses(6, Ending::Nothing), // port_poll
-        80 => uses(4, Ending::Nothing), // port_cancel
-        81 => uses(4, Ending::Nothing), // process_create
-        82 => uses(4, Ending::Nothing), // process_start
-        83 => uses(1, Ending::Nothing), // process_exit
-        84 => uses(2, Ending::Nothing), // task_kill
-        85 => uses(3, Ending::Nothing), // job_create
-        86 => uses(5, Ending::Nothing), // job_set_policy
-        _ => None,
+impl Row {
+    /// The row of the opcode, if it is known.
+    #[tactic(auto, unfolding(crate::specs::Instructions::row_of))]
+    pub fn of_opcode(opcode: u8) -> Option<Row>
+        ensures opcode { IfSome result (λ row. row.opcode ≡ opcode) }
+        ensures name { option_map (λ row. row.name.now) result ≡ option_map (λ row. row.name) (row_of opcode) }
+        ensures layout { option_map (λ row. layout_with row.registers row.ending) result ≡ layout_of opcode }
+        ensures registers { IfSome result (λ row. row.registers ≤ 7) }
+    {
+        let (name, registers, ending) = match opcode {
+            1 => ("const", 1, Ending::Number),
+            2 => ("mov", 2, Ending::Nothing),
+            3 => ("add", 3, Ending::Nothing),
+            4 => ("addi", 2, Ending::Number),
+            5 => ("sub", 3, Ending::Nothing),
+            6 => ("and", 3, Ending::Nothing),
+            7 => ("or", 3, Ending::Nothing),
+            8 => ("xor", 3, Ending::Nothing),
+            9 => ("shl", 2, Ending::Number),
+            10 => ("shr", 2, Ending::Number),
+            11 => ("take", 2, Ending::Nothing),
+            12 => ("swap", 2, Ending::Number),
+            13 => ("ld8", 2, Ending::Number),
+            14 => ("ld64", 2, Ending::Number),
+            15 => ("st8", 2, Ending::Number),
+            16 => ("st64", 2, Ending::Number),
+            17 => ("jmp", 0, Ending::Target),
+            18 => ("jz", 1, Ending::Target),
+            19 => ("jnz", 1, Ending::Target),
+            20 => ("jeq", 1, Ending::Both),
+            21 => ("jne", 1, Ending::Both),
+            22 => ("jlt", 1, Ending::Both),
+            23 => ("jge", 1, Ending::Both),
+            24 => ("jhas", 1, Ending::Both),
+            25 => ("jnhas", 1, Ending::Both),
+            64 => ("close", 2, Ending::Nothing),
+            65 => ("dup", 3, Ending::Number),
+            66 => ("replace", 3, Ending::Number),
+            67 => ("chan_create", 3, Ending::Nothing),
+            68 => ("chan_write", 4, Ending::Handles),
+            69 => ("chan_read_etc", 7, Ending::Room),
+            70 => ("event_create", 2, Ending::Nothing),
+            71 => ("signal", 4, Ending::Nothing),
+            72 => ("signal_peer", 4, Ending::Nothing),
+            73 => ("wait_one", 4, Ending::Nothing),
+            74 => ("wait_poll", 4, Ending::Nothing),
+            75 => ("wait_async", 5, Ending::Nothing),
+            76 => ("port_create", 2, Ending::Nothing),
+            77 => ("port_queue", 4, Ending::Nothing),
+            78 => ("port_wait", 6, Ending::Nothing),
+            79 => ("port_poll", 6, Ending::Nothing),
+            80 => ("port_cancel", 4, Ending::Nothing),
+            81 => ("process_create", 4, Ending::Nothing),
+            82 => ("process_start", 4, Ending::Nothing),
+            83 => ("process_exit", 1, Ending::Nothing),
+            84 => ("task_kill", 2, Ending::Nothing),
+            85 => ("job_create", 3, Ending::Nothing),
+            86 => ("job_set_policy", 5, Ending::Nothing),
+            _ => return None,
+        };
+        Some(Row {
+            opcode,
+            name,
+            registers,
+            ending,
+        })
     }
-}
 
-fn uses(registers: usize, ending: Ending) -> Option<Layout>
-    ensures { result ≡ Some (record { registers = registers; ending = ending }) }
-{
-    Some(Layout { registers, ending })
+    /// The row with this name, if an instruction has it. It goes over all opcodes.
+    pub fn named(name: &[u8]) -> Option<Row>
+        ensures opcode { option_map (λ row. row.opcode) result ≡ option_map (λ row. row.opcode) (row_named name.now) }
+        ensures name { option_map (λ row. row.name.now) result ≡ option_map (λ row. row.name) (row_named name.now) }
+        ensures layout { option_map (λ row. layout_with row.registers row.ending) result ≡ option_map (λ row. layout_with (length row.fields) row.ending) (row_named name.now) }
+        ensures registers { IfSome result (λ row. row.registers ≤ 7) }
+    {
+        for opcode in 0..OPCODE_END {
+            let Some(row) = Row::of_opcode(opcode) else {
+                continue;
+            };
+            if row.name.as_bytes() == name {
+                return Some(row);
+            }
+        }
+        None
+    }
 }

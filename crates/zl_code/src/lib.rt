@@ -25,6 +25,7 @@ pub use encoding::encode;
 pub use history::{CallName, Outcome, ProcState, TraceItem};
 pub use image::{DecodeFault, Image, SlotArray, Start};
 pub use instr::{CallInstr, HandleList, Instr, LocalInstr};
+pub use layout::{Ending, Row};
 pub use register::Register;
 
 #[cfg(test)]

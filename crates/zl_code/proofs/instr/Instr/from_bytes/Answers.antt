@@ -1,7 +1,7 @@
-use Rattle.std.proofs.Common.{rules, true, false, ap, sym, refl, ◌∙◌}
+use Rattle.std.proofs.Common.{rules, true, false, ap, sym, ◌∙◌}
 use Rattle.std.proofs.lemmas.Result.{err_from_is_err_and}
 use Rattle.zl_code.specs.Instructions.{layout_of}
-use Rattle.zl_code.proofs.ImageInstr.{IfSome-at, row_bytes-read, unknown_in_range, instr_fault-unknown, instr_fault-register, instr_fault-named, instr_fault-known}
+use Rattle.zl_code.proofs.ImageInstr.{IfSome-at, row_bytes-read, instr_fault-register, instr_fault-named, instr_fault-known}
 use Rattle.zl_code.proofs.instr.Instr.from_bytes.Goals as goal
 
 pub returns-in_err-fields-in-Some-clause-fault : goal.returns-in_err-fields-in-Some-clause-fault
@@ -33,12 +33,3 @@ pub returns-else-not-is_unused_zero-clause-fault :
 returns-else-not-is_unused_zero-clause-fault c =
     let e = c.in_ok-fields-in-Some.ensures in
     instr_fault-known c.args.raw c.args.bytes _ _ true (sym c.in-Some.ensures.layout) e.in_range (record { registers = e.registers; imm = e.imm; target = e.target; places = e.places }) (sym c.if-not-names_registers.ensures) (sym c.if-not-is_unused_zero.ensures)
-
-pub returns-in-None-clause-in_range : goal.returns-in-None-clause-in_range
-returns-in-None-clause-in_range c = unknown_in_range c.args.raw c.args.bytes c.if-raw.true (search rules) (λ i. search rules) (sym c.in-None.ensures.layout)
-
-pub returns-in-None-clause-fault : goal.returns-in-None-clause-fault
-returns-in-None-clause-fault c = instr_fault-unknown c.args.raw c.args.bytes (sym c.in-None.ensures.layout) ∙ rw c.if-raw.true refl
-
-pub returns-in-None-2-clause-fault : goal.returns-in-None-2-clause-fault
-returns-in-None-2-clause-fault c = instr_fault-unknown c.args.raw c.args.bytes (sym c.in-None.ensures.layout) ∙ rw c.if-raw.false refl

@@ -1,0 +1,418 @@
+-- The rows of the table, by opcode and by name.
+use Rattle.std.proofs.Common.{◌≡◌, ◌≢◌, ℕ, ◌+◌, ◌<◌, ◌≤◌, Bool, true, false, ◌==◌, nat_lt, List, [], ◌∷◌, Option, Some, None, refl, ap, sym, subst, ◌∙◌, inl, inr, arith}
+use Rattle.std.specs.List.{find, list_all}
+use Rattle.std.specs.Option.{option_map}
+use Rattle.std.specs.Cmp.Lexicographic.{pointwise}
+use Rattle.std.proofs.lemmas.Bool.{cases_Bool, and_parts, and_from, eq-eqb, eqb-true, ltb-true}
+use Rattle.zl_code.specs.Instructions.{Row, rows, row_among, row_of, row_named}
+
+-- the fact holds of each row
+abbrev Each : (Row → Type 0) → List Row → Type 0
+Each P [] = Unit {0}
+Each P (r ∷ rs) = P r × Each P rs
+
+each_among : (P : Row → Type 0) (rs : List Row) (opcode : ℕ) (r : Row) → Each P rs → row_among rs opcode ≡ Some r → P r
+each_among P [] opcode r h e = absurd cc
+each_among P (x ∷ rs) opcode r h e =
+    elim (cases_Bool (x.opcode == opcode)) as (λ _. P r) [
+      | inl here ↦ let same : x ≡ r = cc in subst P same h.0
+      | inr apart ↦ each_among P rs opcode r h.1 cc
+    ]
+
+-- what is found is one of the rows, and passes the test
+each_found : (P : Row → Type 0) (test : Row → Bool) (rs : List Row) (r : Row) → Each P rs → find test rs ≡ Some r → P r × (test r ≡ true)
+each_found P test [] r h e = absurd cc
+each_found P test (x ∷ rs) r h e =
+    elim (cases_Bool (test x)) as (λ _. P r × (test r ≡ true)) [
+      | inl here ↦ let same : x ≡ r = cc in subst (λ y. P y × (test y ≡ true)) same (h.0, here)
+      | inr apart ↦ each_found P test rs r h.1 cc
+    ]
+
+-- the row of an opcode is the row of its name
+pub row_named-of : (opcode : ℕ) (r : Row) → row_of opcode ≡ Some r → row_named r.name ≡ Some r
+unfolding row_of row_named
+row_named-of opcode r e =
+    each_among (λ x. row_named x.name ≡ Some x) rows opcode r (
+      refl,
+      (
+        refl,
+        (
+          refl,
+          (
+            refl,
+            (
+              refl,
+              (
+                refl,
+                (
+                  refl,
+                  (
+                    refl,
+                    (
+                      refl,
+                      (
+                        refl,
+                        (
+                          refl,
+                          (
+                            refl,
+                            (
+                              refl,
+                              (
+                                refl,
+                                (
+                                  refl,
+                                  (
+                                    refl,
+                                    (
+                                      refl,
+                                      (
+                                        refl,
+                                        (
+                                          refl,
+                                          (
+                                            refl,
+                                            (
+                                              refl,
+                                              (
+                                                refl,
+                                                (
+                                                  refl,
+                                                  (
+                                                    refl,
+                                                    (
+                                                      refl,
+                                                      (
+                                                        refl,
+                                                        (
+                                                          refl,
+                                                          (
+                                                            refl,
+                                                            (
+                                                              refl,
+                                                              (
+                                                                refl,
+                                                                (
+                                                                  refl,
+                                                                  (
+                                                                    refl,
+                                                                    (
+                                                                      refl,
+                                                                      (
+                                                                        refl,
+                                                                        (
+                                                                          refl,
+                                                                          (
+                                                                            refl,
+                                                                            (
+                                                                              refl,
+                                                                              (
+                                                                                refl,
+                                                                                (
+                                                                                  refl,
+                                                                                  (
+                                                                                    refl,
+                                                                                    (
+                                                                                      refl,
+                                                                                      (
+                                                                                        refl,
+                                                                                        (
+                                                                                          refl,
+                                                                                          (
+                                                                                            refl,
+                                                                                            (
+                                                                                              refl,
+                                                                                              (
+                                                                                                refl,
+                                                                                                (
+                                                                                                  refl,
+                                                                                                  (
+                                                                                                    refl,
+                                                                                                    tt,
+                                                                                                  ),
+                                                                                                ),
+                                                                                              ),
+                                                                                            ),
+                                                                                          ),
+                                                                                        ),
+                                                                                      ),
+                                                                                    ),
+                                                                                  ),
+                                                                                ),
+                                                                              ),
+                                                                            ),
+                                                                          ),
+                                                                        ),
+                                                                      ),
+                                                                    ),
+                                                                  ),
+                                                                ),
+                                                              ),
+                                                            ),
+                                                          ),
+                                                        ),
+                                                      ),
+                                                    ),
+                                                  ),
+                                                ),
+                                              ),
+                                            ),
+                                          ),
+                                        ),
+                                      ),
+                                    ),
+                                  ),
+                                ),
+                              ),
+                            ),
+                          ),
+                        ),
+                      ),
+                    ),
+                  ),
+                ),
+              ),
+            ),
+          ),
+        ),
+      ),
+    ) e
+
+same_names : (xs ys : List ℕ) → pointwise ◌==◌ xs ys ≡ true → xs ≡ ys
+same_names [] [] h = refl
+same_names [] (y ∷ ys) h = absurd cc
+same_names (x ∷ xs) [] h = absurd cc
+same_names (x ∷ xs) (y ∷ ys) h =
+    let p = and_parts (x == y) (pointwise ◌==◌ xs ys) h in
+    λ i. eqb-true x y p.0 i ∷ same_names xs ys p.1 i
+
+-- the row of a name is the row of its opcode, and has the name
+pub row_of-named : (name : List ℕ) (r : Row) → row_named name ≡ Some r → (row_of r.opcode ≡ Some r) × (r.name ≡ name)
+unfolding row_of row_named
+row_of-named name r e =
+    let found = each_found (λ x. row_among rows x.opcode ≡ Some x) (λ x. pointwise ◌==◌ x.name name) rows r (
+      refl,
+      (
+        refl,
+        (
+          refl,
+          (
+            refl,
+            (
+              refl,
+              (
+                refl,
+                (
+                  refl,
+                  (
+                    refl,
+                    (
+                      refl,
+                      (
+                        refl,
+                        (
+                          refl,
+                          (
+                            refl,
+                            (
+                              refl,
+                              (
+                                refl,
+                                (
+                                  refl,
+                                  (
+                                    refl,
+                                    (
+                                      refl,
+                                      (
+                                        refl,
+                                        (
+                                          refl,
+                                          (
+                                            refl,
+                                            (
+                                              refl,
+                                              (
+                                                refl,
+                                                (
+                                                  refl,
+                                                  (
+                                                    refl,
+                                                    (
+                                                      refl,
+                                                      (
+                                                        refl,
+                                                        (
+                                                          refl,
+                                                          (
+                                                            refl,
+                                                            (
+                                                              refl,
+                                                              (
+                                                                refl,
+                                                                (
+                                                                  refl,
+                                                                  (
+                                                                    refl,
+                                                                    (
+                                                                      refl,
+                                                                      (
+                                                                        refl,
+                                                                        (
+                                                                          refl,
+                                                                          (
+                                                                            refl,
+                                                                            (
+                                                                              refl,
+                                                                              (
+                                                                                refl,
+                                                                                (
+                                                                                  refl,
+                                                                                  (
+                                                                                    refl,
+                                                                                    (
+                                                                                      refl,
+                                                                                      (
+                                                                                        refl,
+                                                                                        (
+                                                                                          refl,
+                                                                                          (
+                                                                                            refl,
+                                                                                            (
+                                                                                              refl,
+                                                                                              (
+                                                                                                refl,
+                                                                                                (
+                                                                                                  refl,
+                                                                                                  (
+                                                                                                    refl,
+                                                                                                    tt,
+                                                                                                  ),
+                                                                                                ),
+                                                                                              ),
+                                                                                            ),
+                                                                                          ),
+                                                                                        ),
+                                                                                      ),
+                                                                                    ),
+                                                                                  ),
+                                                                                ),
+                                                                              ),
+                                                                            ),
+                                                                          ),
+                                                                        ),
+                                                                      ),
+                                                                    ),
+                                                                  ),
+                                                                ),
+                                                              ),
+                                                            ),
+                                                          ),
+                                                        ),
+                                                      ),
+                                                    ),
+                                                  ),
+                                                ),
+                                              ),
+                                            ),
+                                          ),
+                                        ),
+                                      ),
+                                    ),
+                                  ),
+                                ),
+                              ),
+                            ),
+                          ),
+                        ),
+                      ),
+                    ),
+                  ),
+                ),
+              ),
+            ),
+          ),
+        ),
+      ),
+    ) e in
+    (found.0, same_names r.name name found.1)
+
+-- ---- going over the opcodes
+
+opcode_among : (rs : List Row) (opcode : ℕ) (r : Row) → row_among rs opcode ≡ Some r → r.opcode ≡ opcode
+opcode_among [] opcode r e = absurd cc
+opcode_among (x ∷ rs) opcode r e =
+    elim (cases_Bool (x.opcode == opcode)) as (λ _. r.opcode ≡ opcode) [
+      | inl here ↦ let same : x ≡ r = cc in sym (ap (λ (y : Row). y.opcode) same) ∙ eqb-true x.opcode opcode here
+      | inr apart ↦ opcode_among rs opcode r cc
+    ]
+
+-- each row has the opcode at which it is found
+opcode_of-row : (opcode : ℕ) (r : Row) → row_of opcode ≡ Some r → r.opcode ≡ opcode
+unfolding row_of
+opcode_of-row opcode r e = opcode_among rows opcode r e
+
+-- the row of the opcode has the name n, and n is the name that is looked for
+pub record IsFound (name : List ℕ) (opcode : ℕ) (n : List ℕ) : Type 0 where
+  pub has : Some n ≡ option_map (λ (r : Row). r.name) (row_of opcode)
+  pub same : true ≡ pointwise ◌==◌ n name
+
+-- what the row of the opcode says, the row of its name says
+pub same_by_name : {X : Type 0} (f : Row → X) (x : X) (name : List ℕ) (opcode : ℕ) (n : List ℕ) → IsFound name opcode n → Some x ≡ option_map f (row_of opcode) → Some x ≡ option_map f (row_named name)
+same_by_name {X} f x name opcode n found e = by (row_of opcode) refl found.has e
+  where
+    by : (o : Option Row) → row_of opcode ≡ o → Some n ≡ option_map (λ (r : Row). r.name) o → Some x ≡ option_map f o → Some x ≡ option_map f (row_named name)
+    by None at h v = absurd cc
+    by (Some r) at h v =
+        let same : n ≡ name = same_names n name (sym found.same) in
+        let named : name ≡ r.name = cc in
+        v ∙ sym (ap (option_map f) (ap row_named named ∙ row_named-of opcode r at))
+
+pub opcode_by_name : (name : List ℕ) (opcode : ℕ) (n : List ℕ) → IsFound name opcode n → Some opcode ≡ option_map (λ (r : Row). r.opcode) (row_named name)
+opcode_by_name name opcode n found = same_by_name (λ (r : Row). r.opcode) opcode name opcode n found (by (row_of opcode) refl found.has)
+  where
+    by : (o : Option Row) → row_of opcode ≡ o → Some n ≡ option_map (λ (r : Row). r.name) o → Some opcode ≡ option_map (λ (r : Row). r.opcode) o
+    by None at h = absurd cc
+    by (Some r) at h = ap Some (sym (opcode_of-row opcode r at))
+
+-- opcodes below have other names, and so has this one
+pub not_here : (name : List ℕ) (opcode : ℕ) → ((r : Row) → row_named name ≡ Some r → opcode ≤ r.opcode) → ((r : Row) → row_of opcode ≡ Some r → r.name ≢ name) → (r : Row) → row_named name ≡ Some r → opcode + 1 ≤ r.opcode
+not_here name opcode below other r e =
+    let found = row_of-named name r e in
+    elim (cases_Bool (r.opcode == opcode)) as (λ _. opcode + 1 ≤ r.opcode) [
+      | inl here ↦ absurd (other r (sym (ap row_of (eqb-true r.opcode opcode here)) ∙ found.0) found.1)
+      | inr apart ↦ let le : opcode ≤ r.opcode = below r e in grind arith
+    ]
+
+pub no_row : {X : Type 0} (f : Row → X) (opcode : ℕ) (r : Row) (name : List ℕ) → None ≡ option_map f (row_of opcode) → row_of opcode ≡ Some r → r.name ≢ name
+no_row f opcode r name none e same = absurd cc
+
+pub other_name : (n name : List ℕ) (opcode : ℕ) (r : Row) → Some n ≡ option_map (λ (x : Row). x.name) (row_of opcode) → false ≡ pointwise ◌==◌ n name → row_of opcode ≡ Some r → r.name ≢ name
+other_name n name opcode r has apart e same =
+    let named : n ≡ name = cc in
+    absurd (different (sym (pointwise-refl name) ∙ sym (ap (λ (m : List ℕ). pointwise ◌==◌ m name) named) ∙ sym apart))
+  where
+    different : true ≡ false → ⊥
+    different h = absurd cc
+
+    pointwise-refl : (xs : List ℕ) → pointwise ◌==◌ xs xs ≡ true
+    pointwise-refl [] = refl
+    pointwise-refl (x ∷ xs) = and_from (x == x) (pointwise ◌==◌ xs xs) (eq-eqb x x refl) (pointwise-refl xs)
+
+-- ---- the end
+
+all_of : (test : Row → Bool) (rs : List Row) → list_all test rs ≡ true → Each (λ r. test r ≡ true) rs
+all_of test [] h = tt
+all_of test (r ∷ rs) h = let p = and_parts (test r) (list_all test rs) h in (p.0, all_of test rs p.1)
+
+small : (name : List ℕ) (r : Row) → row_named name ≡ Some r → r.opcode < 87
+unfolding row_named
+small name r e = ltb-true r.opcode 87 (each_found (λ x. nat_lt x.opcode 87 ≡ true) (λ x. pointwise ◌==◌ x.name name) rows r (all_of (λ x. nat_lt x.opcode 87) rows refl) e).0
+
+-- where no opcode has the name, no row has it
+pub no_name : (name : List ℕ) → ((r : Row) → row_named name ≡ Some r → 87 ≤ r.opcode) → row_named name ≡ None
+no_name name above = by (row_named name) refl
+  where
+    by : (o : Option Row) → row_named name ≡ o → row_named name ≡ None
+    by None e = e
+    by (Some r) e = absurd (omega (arith, small name r e, above r e))

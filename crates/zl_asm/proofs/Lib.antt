@@ -1,2 +1,4 @@
 mod RowsText
 pub mod ListingBytes
+mod WordsNumber
+mod WordsSplit

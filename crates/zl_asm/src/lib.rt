@@ -4,5 +4,7 @@
 mod directive;
 mod fault;
 mod line;
+mod numbers;
+mod words;
 
 pub use fault::{AsmCause, AsmFault};

@@ -1,0 +1,96 @@
+//! Numbers, registers, names and hexadecimal digits.
+ghost use Rattle.std.specs.Prelude.{◌≡◌, ◌<◌, Some, IfSome};
+ghost use Rattle.std.specs.List.{list_all};
+ghost use Rattle.zl_asm.specs.Words.{digit_of, longer, value_of, number_of, register_of, is_name_byte, is_name};
+
+use zl_code::Register;
+
+/// The value of a hexadecimal digit, in capital letters or not.
+#[tactic(auto, unfolding(crate::specs::Words::digit_of))]
+fn digit(byte: u8) -> Option<u32>
+    ensures value { result ≡ digit_of byte }
+    ensures below { IfSome result (λ digit. digit < 16) }
+{
+    match byte {
+        b'0'..=b'9' => Some(u32::from(byte - b'0')),
+        b'a'..=b'f' => Some(u32::from(byte - b'a' + 10)),
+        b'A'..=b'F' => Some(u32::from(byte - b'A' + 10)),
+        _ => None,
+    }
+}
+
+/// The number with one more digit of the base at its end, if it is one and has 32 bits.
+fn longer(base: u32, value: u32, digit: u32) -> Option<u32>
+    ensures { result ≡ longer base value (Some digit) }
+{
+    if digit < base {
+        value.checked_mul(base)?.checked_add(digit)
+    } else {
+        None
+    }
+}
+
+/// The number that the digits of the base spell, of which there is one at least.
+fn value_of(base: u32, digits: &[u8]) -> Option<u32>
+    ensures { result ≡ value_of base digits.now }
+{
+    if digits.is_empty() {
+        return None;
+    }
+    let mut value = 0;
+    for byte in digits {
+        let Some(digit) = digit(*byte) else {
+            return None;
+        };
+        let Some(longer) = longer(base, value, digit) else {
+            return None;
+        };
+        value = longer;
+    }
+    Some(value)
+}
+
+/// The number of 32 bits that the word spells: decimal, or hexadecimal behind `0x`.
+#[tactic(auto, unfolding(crate::specs::Words::number_of))]
+pub(crate) fn number(word: &[u8]) -> Option<u32>
+    ensures { result ≡ number_of word.now }
+{
+    if word.starts_with(b"0x") {
+        value_of(16, &word[2..])
+    } else {
+        value_of(10, word)
+    }
+}
+
+/// The register of the word, `r0` to `r31`.
+#[tactic(auto, unfolding(crate::specs::Words::register_of))]
+pub(crate) fn register(word: &[u8]) -> Option<u8>
+    ensures value { result ≡ register_of word.now }
+    ensures below { IfSome result (λ register. register < 32) }
+{
+    let number = match word {
+        [b'r', low @ b'0'..=b'9'] => low - b'0',
+        [b'r', high @ b'1'..=b'3', low @ b'0'..=b'9'] => (high - b'0') * 10 + (low - b'0'),
+        _ => return None,
+    };
+    (number < 32).then_some(number)
+}
+
+/// Whether the word is the name of a label: a small letter, and behind it small letters, digits or
+/// `_`, 32 bytes at most.
+#[tactic(auto, unfolding(crate::specs::Words::is_name))]
+pub(crate) fn is_name(word: &[u8]) -> bool
+    ensures { result ≡ is_name word.now }
+{
+    match word {
+        [first, rest @ ..] if first.is_ascii_lowercase() => are_of_name(rest) && rest.len() < 32,
+        _ => false,
+    }
+}
+
+/// Whether each byte can stand behind the first of a name.
+fn are_of_name(bytes: &[u8]) -> bool
+    ensures { result ≡ list_all is_name_byte bytes.now }
+{
+    bytes.iter().all(|byte| byte.is_ascii_lowercase() || byte.is_ascii_digit() || *byte == b'_')
+}

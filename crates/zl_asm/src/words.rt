@@ -1,0 +1,55 @@
+//! Lines cut into words.
+ghost use Rattle.std.specs.Prelude.{◌≡◌, ◌++◌, [], OnOk, map};
+ghost use Rattle.zl_asm.specs.Words.{is_ascii, is_word, word_before, words_of};
+
+use std::alloc::AllocError;
+
+/// Whether each byte is an ASCII character.
+pub(crate) fn is_ascii(text: &[u8]) -> bool
+    ensures { result ≡ is_ascii text.now }
+{
+    text.iter().all(|byte| *byte < 128)
+}
+
+/// Whether the word has just these bytes.
+#[tactic(auto, unfolding(crate::specs::Words::is_word))]
+pub(crate) fn is(word: &[u8], bytes: &[u8]) -> bool
+    ensures { result ≡ is_word word.now bytes.now }
+{
+    word == bytes
+}
+
+/// Puts the words of the line into `words`, in place of what it held. Spaces part words, a comma
+/// is a word of its own, and a semicolon ends the line.
+pub(crate) fn split_words<'a>(words: &mut Vec<&'a [u8]>, line: &'a [u8]) -> Result<(), AllocError>
+    ensures { OnOk result (map (λ word. word.now) words.new.items ≡ words_of line.now) }
+{
+    words.clear();
+    let mut start = 0;
+    for (i, byte) in line.iter().enumerate() {
+        match *byte {
+            b';' => return push_word(words, &line[start..i]),
+            b' ' => {
+                push_word(words, &line[start..i])?;
+                start = i + 1;
+            }
+            b',' => {
+                push_word(words, &line[start..i])?;
+                words.push(b",")?;
+                start = i + 1;
+            }
+            _ => {}
+        }
+    }
+    push_word(words, &line[start..])
+}
+
+/// Adds the word, if it has a byte.
+fn push_word<'a>(words: &mut Vec<&'a [u8]>, word: &'a [u8]) -> Result<(), AllocError>
+    ensures { OnOk result (map (λ word. word.now) words.new.items ≡ map (λ word. word.now) words.old.items ++ word_before word.now []) }
+{
+    if !word.is_empty() {
+        words.push(word)?;
+    }
+    Ok(())
+}

@@ -2,3 +2,4 @@ mod RowsText
 pub mod ListingBytes
 mod WordsNumber
 mod WordsSplit
+mod OneImage

@@ -3,6 +3,7 @@
 
 mod directive;
 mod fault;
+pub mod laws;
 mod line;
 mod numbers;
 mod words;

@@ -1,0 +1,57 @@
+-- The fields that a text gives are those of one image at most.
+use Rattle.std.proofs.Common.{◌≡◌, Bool, true, List, [], ◌∷◌, map, Option, Some, None, refl, sym, ap, ◌∙◌, length}
+use Rattle.std.specs.Prelude.{nat_le, nat_lt}
+use Rattle.std.specs.List.{list_all}
+use Rattle.std.proofs.lemmas.Bool.{and_parts}
+use Rattle.zl_code.specs.Image.{Image}
+use Rattle.zl_code.specs.declared.instr.Instr.{Instr}
+use Rattle.zl_code.specs.Spells.{instr_bytes, is_in_range, is_instr_in_range, are_needs, is_start_in_range, is_slot_in_range}
+use Rattle.zl_code.proofs.ImageTable.{instr_fits, read_instr}
+use Rattle.zl_asm.specs.Listing.{Listing}
+use Rattle.zl_asm.specs.Denotes.{fields_of, NoTextDenotesTwo}
+
+-- instructions in range are read again from their bytes
+code_again : (raw : Bool) (code : List Instr) → list_all (is_instr_in_range raw) code ≡ true → map read_instr (map instr_bytes code) ≡ code
+code_again raw [] h = refl
+code_again raw (i ∷ code) h =
+    let p = and_parts (is_instr_in_range raw i) (list_all (is_instr_in_range raw) code) h in
+    λ k. (instr_fits raw i p.0).again k ∷ code_again raw code p.1 k
+
+-- the image with these fields
+image_of : Listing → Image
+image_of l = record {
+  raw = l.raw;
+  memory = l.memory;
+  budget = l.budget;
+  needs = l.needs;
+  starts = l.starts;
+  slots = l.slots;
+  code = map read_instr l.code;
+}
+
+image_again : (i : Image) → list_all (is_instr_in_range i.raw) i.code ≡ true → image_of (fields_of i) ≡ i
+unfolding image_of
+image_again i h = λ k. record i { code = code_again i.raw i.code h k }
+
+-- of the ranges of an image, that of its instructions
+code_in_range : (i : Image) → is_in_range i ≡ true → list_all (is_instr_in_range i.raw) i.code ≡ true
+code_in_range i h =
+    let a = and_parts (nat_le (length i.code) 4096) _ h in
+    let b = and_parts (nat_le i.memory 65536) _ a.1 in
+    let c = and_parts (nat_lt 0 i.budget) _ b.1 in
+    let d = and_parts (nat_le i.budget 1000000) _ c.1 in
+    let e = and_parts (are_needs i.needs) _ d.1 in
+    let f = and_parts (nat_le (length i.starts) 7) _ e.1 in
+    let g = and_parts (nat_le (length i.slots) 8) _ f.1 in
+    let j = and_parts (list_all is_start_in_range i.starts) _ g.1 in
+    (and_parts (list_all is_slot_in_range i.slots) _ j.1).1
+
+unwrap : Listing → Option Listing → Listing
+unwrap l None = l
+unwrap l (Some m) = m
+
+pub one_image : NoTextDenotesTwo
+unfolding unwrap
+one_image text i j h k =
+    let same : fields_of i ≡ fields_of j = ap (unwrap (fields_of i)) (sym h.fields ∙ k.fields) in
+    sym (image_again i (code_in_range i h.in_range)) ∙ ap image_of same ∙ image_again j (code_in_range j k.in_range)

@@ -3,3 +3,5 @@ pub mod ListingBytes
 mod WordsNumber
 mod WordsSplit
 mod OneImage
+mod RoundWords
+mod RoundNumbers

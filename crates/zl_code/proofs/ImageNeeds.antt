@@ -1,12 +1,12 @@
 -- The byte of the needs.
-use Rattle.std.proofs.Common.{◌≡◌, ℕ, zero, suc, ◌<◌, ◌/◌, ◌%◌, Bool, true, false, ◌==◌, ◌&&◌, ◌||◌, not, List, [], ◌∷◌, refl, ap, ◌∙◌, arith, inl, inr}
+use Rattle.std.proofs.Common.{◌≡◌, ℕ, zero, suc, ◌<◌, ◌/◌, ◌%◌, Bool, true, false, ◌==◌, ◌&&◌, ◌||◌, not, if◌then◌else◌, List, [], ◌∷◌, ◌++◌, refl, sym, ap, ◌∙◌, arith, inl, inr}
 use Rattle.std.specs.Prelude.{nat_lt, map}
 use Rattle.std.proofs.lemmas.Bool.{and_parts, eqb-true, ltb-true, cases_Bool}
 use Rattle.zl_rights.specs.declared.policy.Condition.{Condition}
 use Rattle.zl_rights.specs.declared.policy.Condition.TheVariants as condition
 use Rattle.zl_rights.specs.Numbers.{condition_number}
 use Rattle.zl_code.specs.declared.image.Needs.{Needs}
-use Rattle.zl_code.specs.Image.{need_if, needs_value}
+use Rattle.zl_code.specs.Image.{is_among, need_if, needs_named, needs_value}
 use Rattle.zl_code.specs.Spells.{needs_byte, is_needs_byte, are_needs, ascend_from}
 
 -- the needs whose bits are in the byte
@@ -155,3 +155,78 @@ value_fits n = by n.channel n.event n.port n.process
 
 pub needs_fit : (needs : List Condition) → are_needs needs ≡ true → FitsByte needs
 needs_fit needs h = let f = flagged needs h in rw f.1 (value_fits f.0)
+
+-- ---- needs that are named
+
+-- the four flags as needs
+abbrev flags : Bool → Bool → Bool → Bool → List Condition
+flags c e p q = need_if c condition.NewChannel (need_if e condition.NewEvent (need_if p condition.NewPort (need_if q condition.NewProcess [])))
+
+-- which of the four are named
+abbrev named_flags : List Condition → List Condition
+named_flags named = flags (is_among named condition.NewChannel) (is_among named condition.NewEvent) (is_among named condition.NewPort) (is_among named condition.NewProcess)
+
+needs_named-flags : (named : List Condition) → needs_named named ≡ named_flags named
+needs_named-flags named = by (is_among named condition.NewChannel) (is_among named condition.NewEvent) (is_among named condition.NewPort) (is_among named condition.NewProcess)
+  where
+    one : (b : Bool) (c : Condition) (xs ys : List Condition) → xs ≡ ys → (if b then c ∷ xs else xs) ≡ need_if b c ys
+    one true c xs ys e = ap (λ (r : List Condition). c ∷ r) e
+    one false c xs ys e = e
+
+    by : (c e p q : Bool) → (if c then condition.NewChannel ∷ (if e then condition.NewEvent ∷ (if p then condition.NewPort ∷ (if q then condition.NewProcess ∷ [] else []) else (if q then condition.NewProcess ∷ [] else [])) else (if p then condition.NewPort ∷ (if q then condition.NewProcess ∷ [] else []) else (if q then condition.NewProcess ∷ [] else []))) else (if e then condition.NewEvent ∷ (if p then condition.NewPort ∷ (if q then condition.NewProcess ∷ [] else []) else (if q then condition.NewProcess ∷ [] else [])) else (if p then condition.NewPort ∷ (if q then condition.NewProcess ∷ [] else []) else (if q then condition.NewProcess ∷ [] else [])))) ≡ flags c e p q
+    by c e p q = one c _ _ _ (one e _ _ _ (one p _ _ _ (one q _ _ _ refl)))
+
+-- each of the four is among the flags where its flag is set
+record Among (c e p q : Bool) : Type 0 where
+  channel : is_among (flags c e p q) condition.NewChannel ≡ c
+  event : is_among (flags c e p q) condition.NewEvent ≡ e
+  port : is_among (flags c e p q) condition.NewPort ≡ p
+  process : is_among (flags c e p q) condition.NewProcess ≡ q
+
+among : (c e p q : Bool) → Among c e p q
+among true true true true = record { channel = refl; event = refl; port = refl; process = refl }
+among true true true false = record { channel = refl; event = refl; port = refl; process = refl }
+among true true false true = record { channel = refl; event = refl; port = refl; process = refl }
+among true true false false = record { channel = refl; event = refl; port = refl; process = refl }
+among true false true true = record { channel = refl; event = refl; port = refl; process = refl }
+among true false true false = record { channel = refl; event = refl; port = refl; process = refl }
+among true false false true = record { channel = refl; event = refl; port = refl; process = refl }
+among true false false false = record { channel = refl; event = refl; port = refl; process = refl }
+among false true true true = record { channel = refl; event = refl; port = refl; process = refl }
+among false true true false = record { channel = refl; event = refl; port = refl; process = refl }
+among false true false true = record { channel = refl; event = refl; port = refl; process = refl }
+among false true false false = record { channel = refl; event = refl; port = refl; process = refl }
+among false false true true = record { channel = refl; event = refl; port = refl; process = refl }
+among false false true false = record { channel = refl; event = refl; port = refl; process = refl }
+among false false false true = record { channel = refl; event = refl; port = refl; process = refl }
+among false false false false = record { channel = refl; event = refl; port = refl; process = refl }
+
+-- the flags name themselves
+flags_again : (c e p q : Bool) → needs_named (flags c e p q) ≡ flags c e p q
+flags_again c e p q = let a = among c e p q in needs_named-flags (flags c e p q) ∙ (λ i. flags (a.channel i) (a.event i) (a.port i) (a.process i))
+
+-- needs in order name themselves
+pub needs_named-needs : (needs : List Condition) → are_needs needs ≡ true → needs_named needs ≡ needs
+needs_named-needs needs h = let f = flagged needs h in rw f.1 (flags_again f.0.channel f.0.event f.0.port f.0.process)
+
+-- what is named once more may stand in front or behind
+among_last : (named : List Condition) (c d : Condition) → is_among (named ++ (c ∷ [])) d ≡ (condition_number c == condition_number d) || is_among named d
+among_last [] c d = refl
+among_last (x ∷ named) c d = ap (λ (b : Bool). (condition_number x == condition_number d) || b) (among_last named c d) ∙ turned (condition_number x == condition_number d) (condition_number c == condition_number d) (is_among named d)
+  where
+    turned : (a b r : Bool) → a || (b || r) ≡ b || (a || r)
+    turned true true r = refl
+    turned true false r = refl
+    turned false true r = refl
+    turned false false r = refl
+
+-- one more condition is named, after needs that are gathered already
+pub needs_named-again : (named : List Condition) (c : Condition) → needs_named (c ∷ needs_named named) ≡ needs_named (named ++ (c ∷ []))
+needs_named-again named c =
+    let a = among (is_among named condition.NewChannel) (is_among named condition.NewEvent) (is_among named condition.NewPort) (is_among named condition.NewProcess) in
+    needs_named-flags (c ∷ needs_named named)
+    ∙ (λ i. flags (one condition.NewChannel a.channel i) (one condition.NewEvent a.event i) (one condition.NewPort a.port i) (one condition.NewProcess a.process i))
+    ∙ sym (needs_named-flags (named ++ (c ∷ [])))
+  where
+    one : (d : Condition) → is_among (named_flags named) d ≡ is_among named d → is_among (c ∷ needs_named named) d ≡ is_among (named ++ (c ∷ [])) d
+    one d h = ap (λ (b : Bool). (condition_number c == condition_number d) || b) (ap (λ (xs : List Condition). is_among xs d) (needs_named-flags named) ∙ h) ∙ sym (among_last named c d)

@@ -13,6 +13,7 @@ use Rattle.zl_code.proofs.ImageNeeds.{needs_at, needs_fit}
 use Rattle.zl_code.proofs.ImageDeclared.{start_fits, slots_fit, read_start, read_slots}
 use Rattle.zl_code.proofs.ImageTable.{instr_fits, read_instr}
 use Rattle.zl_code.proofs.ImagePieces.{after, after_8, after_16, span_8, span_16, length-pieces, joined, Parted, parted}
+use Rattle.zl_code.proofs.ImageRanges.{Ranges, ranges}
 use Rattle.zl_code.proofs.ImageHeader.{HeaderFits, header_fits, no_header_fault, header_ranges, HasHeader, header_spelled}
 
 -- ---- what is read is spelled so
@@ -127,43 +128,6 @@ first_fault-code bytes fault none starts slots h = rw (none, starts, slots, h) (
     last (Some f) = refl
 
 -- ---- what is spelled so is read
-
--- the ranges of an image
-record Ranges (i : Image) : Type 0 where
-  count : length i.code ≤ 4096
-  memory : i.memory ≤ 65536
-  least : 0 < i.budget
-  most : i.budget ≤ 1000000
-  needs : are_needs i.needs ≡ true
-  starts_count : length i.starts ≤ 7
-  slots_count : length i.slots ≤ 8
-  starts : list_all is_start_in_range i.starts ≡ true
-  slots : list_all is_slot_in_range i.slots ≡ true
-  code : list_all (is_instr_in_range i.raw) i.code ≡ true
-
-ranges : (i : Image) → is_in_range i ≡ true → Ranges i
-ranges i h =
-    let a = and_parts (nat_le (length i.code) 4096) _ h in
-    let b = and_parts (nat_le i.memory 65536) _ a.1 in
-    let c = and_parts (nat_lt 0 i.budget) _ b.1 in
-    let d = and_parts (nat_le i.budget 1000000) _ c.1 in
-    let e = and_parts (are_needs i.needs) _ d.1 in
-    let f = and_parts (nat_le (length i.starts) 7) _ e.1 in
-    let g = and_parts (nat_le (length i.slots) 8) _ f.1 in
-    let j = and_parts (list_all is_start_in_range i.starts) _ g.1 in
-    let k = and_parts (list_all is_slot_in_range i.slots) _ j.1 in
-    record {
-      count = leb-true _ _ a.0;
-      memory = leb-true _ _ b.0;
-      least = ltb-true _ _ c.0;
-      most = leb-true _ _ d.0;
-      needs = e.0;
-      starts_count = leb-true _ _ f.0;
-      slots_count = leb-true _ _ g.0;
-      starts = j.0;
-      slots = k.0;
-      code = k.1;
-    }
 
 mark_again : (raw : Bool) → eqb (cond raw 1 0) 1 ≡ raw
 mark_again true = refl

@@ -18,8 +18,10 @@ pub mod ImagePieces
 pub mod ImageDeclared
 pub mod ImageNeeds
 pub mod ImageInstr
+pub mod ImageRanges
 pub mod ImageWhole
 pub mod ImageCode
 pub mod ImageTable
 pub mod ImageHeader
 pub mod InstrTable
+pub mod InstrFacts

@@ -1,6 +1,6 @@
 //! The declarations of an image: start handles and slot arrays.
 
-ghost use Rattle.std.specs.Prelude.{map, ◌≡◌, ◌⊎◌, ◌==◌, IsTrue, IfOk, IfErr, IfSome, IfNone, OnOk, OnSome, MatchResult, true, false, Some, None, slice_index};
+ghost use Rattle.std.specs.Prelude.{map, ◌≡◌, ◌⊎◌, ◌==◌, IsTrue, IfOk, IfErr, IfSome, IfNone, OnOk, OnSome, MatchResult, true, false, ◌&&◌, nat_lt, nat_le, Some, None, slice_index};
 ghost use Rattle.std.specs.List.{list_all};
 ghost use Rattle.zl_rights.specs.Numbers.{bits, within};
 ghost use Rattle.zl_code.specs.declared.image.DecodeFault.TheVariants as faults;
@@ -45,6 +45,13 @@ fn rights_allowed(kind: Option<Kind>) -> Rights
     }
 }
 
+/// Whether a declaration of the kind may name the rights.
+fn is_allowed(kind: Option<Kind>, rights: Rights) -> bool
+    ensures { result ≡ within (bits rights) (rights_allowed kind) }
+{
+    rights.within(rights_allowed(kind))
+}
+
 /// The rights of this number, if the kind allows them.
 fn rights_of(kind: Option<Kind>, number: u32) -> Result<Rights, DecodeFault>
     ensures value { IfOk result (λ rights. bits rights ≡ number) }
@@ -52,7 +59,7 @@ fn rights_of(kind: Option<Kind>, number: u32) -> Result<Rights, DecodeFault>
     ensures err { IfErr result (λ fault. (fault ≡ faults.BadHeader) × (within number (rights_allowed kind) ≡ false)) }
 {
     let rights = Rights::from_bits_retain(number);
-    if rights.within(rights_allowed(kind)) {
+    if is_allowed(kind, rights) {
         Ok(rights)
     } else {
         Err(DecodeFault::BadHeader)
@@ -100,6 +107,32 @@ fn is_all_zero(bytes: &[u8]) -> bool
     bytes.iter().all(|byte| *byte == 0)
 }
 
+impl Start {
+    /// Whether an image can declare the start handle: the rights are within the default rights of the
+    /// kind, or within the known rights for any kind.
+    pub fn is_in_range(&self) -> bool
+        ensures { result ≡ is_start_in_range self.now }
+    {
+        is_allowed(self.kind, self.rights)
+    }
+}
+
+fn is_slots_length(length: u16) -> bool
+    ensures { result ≡ (nat_lt 0 length && nat_le length 256) }
+{
+    length > 0 && length <= MOST_SLOTS
+}
+
+impl SlotArray {
+    /// Whether an image can declare the slot array: it has 1 to 256 places, and the rights are within
+    /// the default rights of the kind, or within the known rights for any kind.
+    pub fn is_in_range(&self) -> bool
+        ensures { result ≡ is_slot_in_range self.now }
+    {
+        is_slots_length(self.length) && is_allowed(self.kind, self.rights)
+    }
+}
+
 /// The length in the third and the fourth byte, if it is one of a slot array and the second byte is 0.
 fn length_of(bytes: [u8; DECLARATION_LEN]) -> Option<u16>
     ensures found { IfSome result (λ length. length ≡ number_at bytes 2 2) }
@@ -107,7 +140,7 @@ fn length_of(bytes: [u8; DECLARATION_LEN]) -> Option<u16>
     ensures none { IfNone result (has_length bytes ≡ false) }
 {
     let length = u16::from_le_bytes([bytes[2], bytes[3]]);
-    if bytes[1] == 0 && length > 0 && length <= MOST_SLOTS {
+    if bytes[1] == 0 && is_slots_length(length) {
         Some(length)
     } else {
         None

@@ -148,6 +148,14 @@ impl Image {
         self.code.is_empty()
     }
 
+    /// The instructions in their order, at most 4,096.
+    pub fn code(&self) -> &[Instr]
+        ensures value { result.now ≡ self.now.code }
+        ensures most { length result.now ≤ 4096 }
+    {
+        &self.code
+    }
+
     /// The instruction of this number, counted from 0; nothing past the last.
     pub fn instr_at(&self, n: usize) -> Option<Instr>
         ensures { result ≡ instr_at self.now n }

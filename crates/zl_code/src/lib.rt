@@ -6,6 +6,7 @@
 #![tactic(auto)]
 
 mod boot;
+mod building;
 mod declarations;
 mod decoding;
 mod encoding;

@@ -1,0 +1,99 @@
+-- The ranges of an image, one by one, and of an image to which one thing is added.
+use Rattle.std.proofs.Common.{◌≡◌, ℕ, ◌<◌, ◌≤◌, Bool, true, ◌&&◌, List, [], ◌∷◌, ◌++◌, length, refl, sym, ap, ◌∙◌, arith}
+use Rattle.std.specs.Prelude.{nat_le, nat_lt}
+use Rattle.std.specs.List.{list_all}
+use Rattle.std.proofs.lemmas.Bool.{and_parts, and_from, leb-true, ltb-true, le-leb, lt-ltb}
+use Rattle.std.proofs.lemmas.List.{length-append}
+use Rattle.zl_rights.specs.declared.policy.Condition.{Condition}
+use Rattle.zl_code.specs.declared.image.Start.{Start}
+use Rattle.zl_code.specs.declared.image.SlotArray.{SlotArray}
+use Rattle.zl_code.specs.declared.instr.Instr.{Instr}
+use Rattle.zl_code.specs.declared.instr.Instr.TheVariants as instr
+use Rattle.zl_code.specs.Image.{Image}
+use Rattle.zl_code.specs.Spells.{are_needs, is_in_range, is_start_in_range, is_slot_in_range, is_instr_in_range}
+use Rattle.zl_code.proofs.ImageCode.{list_all_push}
+
+-- an image in range, fact by fact
+pub record Ranges (i : Image) : Type 0 where
+  pub count : length i.code ≤ 4096
+  pub memory : i.memory ≤ 65536
+  pub least : 0 < i.budget
+  pub most : i.budget ≤ 1000000
+  pub needs : are_needs i.needs ≡ true
+  pub starts_count : length i.starts ≤ 7
+  pub slots_count : length i.slots ≤ 8
+  pub starts : list_all is_start_in_range i.starts ≡ true
+  pub slots : list_all is_slot_in_range i.slots ≡ true
+  pub code : list_all (is_instr_in_range i.raw) i.code ≡ true
+
+pub ranges : (i : Image) → is_in_range i ≡ true → Ranges i
+ranges i h =
+    let a = and_parts (nat_le (length i.code) 4096) _ h in
+    let b = and_parts (nat_le i.memory 65536) _ a.1 in
+    let c = and_parts (nat_lt 0 i.budget) _ b.1 in
+    let d = and_parts (nat_le i.budget 1000000) _ c.1 in
+    let e = and_parts (are_needs i.needs) _ d.1 in
+    let f = and_parts (nat_le (length i.starts) 7) _ e.1 in
+    let g = and_parts (nat_le (length i.slots) 8) _ f.1 in
+    let j = and_parts (list_all is_start_in_range i.starts) _ g.1 in
+    let k = and_parts (list_all is_slot_in_range i.slots) _ j.1 in
+    record {
+      count = leb-true _ _ a.0;
+      memory = leb-true _ _ b.0;
+      least = ltb-true _ _ c.0;
+      most = leb-true _ _ d.0;
+      needs = e.0;
+      starts_count = leb-true _ _ f.0;
+      slots_count = leb-true _ _ g.0;
+      starts = j.0;
+      slots = k.0;
+      code = k.1;
+    }
+
+pub in_range_by : (i : Image) → Ranges i → is_in_range i ≡ true
+in_range_by i r =
+    and_from _ _ (le-leb _ _ r.count) (and_from _ _ (le-leb _ _ r.memory) (and_from _ _ (lt-ltb _ _ r.least) (and_from _ _ (le-leb _ _ r.most)
+    (and_from _ _ r.needs (and_from _ _ (le-leb _ _ r.starts_count) (and_from _ _ (le-leb _ _ r.slots_count) (and_from _ _ r.starts (and_from _ _ r.slots r.code))))))))
+
+-- ---- one thing more
+
+-- one item more, of which there may be so many
+one_more : {X : Type 0} (xs : List X) (x : X) (most : ℕ) → length xs < most → length (xs ++ (x ∷ [])) ≤ most
+one_more xs x most room = omega (arith, length-append xs (x ∷ []))
+
+-- what may stand without the raw mark may stand under it
+marked : (raw : Bool) (code : List Instr) → list_all (is_instr_in_range raw) code ≡ true → list_all (is_instr_in_range true) code ≡ true
+marked raw [] h = refl
+marked raw (instr.Local i ∷ code) h = let p = and_parts (is_instr_in_range raw (instr.Local i)) _ h in and_from _ _ p.0 (marked raw code p.1)
+marked raw (instr.Call i ∷ code) h = let p = and_parts (is_instr_in_range raw (instr.Call i)) _ h in and_from _ _ p.0 (marked raw code p.1)
+marked raw (instr.Unknown bytes ∷ code) h =
+    let p = and_parts (is_instr_in_range raw (instr.Unknown bytes)) _ h in
+    and_from _ _ (and_parts raw _ p.0).1 (marked raw code p.1)
+
+abbrev image : Bool → ℕ → ℕ → List Condition → List Start → List SlotArray → List Instr → Image
+image raw memory budget needs starts slots code = record { raw = raw; memory = memory; budget = budget; needs = needs; starts = starts; slots = slots; code = code }
+
+module _ (raw : Bool) (memory budget : ℕ) (needs : List Condition) (starts : List Start) (slots : List SlotArray) (code : List Instr) (h : is_in_range (image raw memory budget needs starts slots code) ≡ true) where
+  pub raw_in_range : is_in_range (image true memory budget needs starts slots code) ≡ true
+  raw_in_range =
+      let r = ranges (image raw memory budget needs starts slots code) h in
+      in_range_by (image true memory budget needs starts slots code)
+      (record { count = r.count; memory = r.memory; least = r.least; most = r.most; needs = r.needs; starts_count = r.starts_count; slots_count = r.slots_count; starts = r.starts; slots = r.slots; code = marked raw code r.code })
+
+  pub starts_in_range : (start : Start) → is_start_in_range start ≡ true → length starts < 7 → is_in_range (image raw memory budget needs (starts ++ (start ∷ [])) slots code) ≡ true
+  starts_in_range start fits room =
+      let r = ranges (image raw memory budget needs starts slots code) h in
+      in_range_by (image raw memory budget needs (starts ++ (start ∷ [])) slots code)
+      (record { count = r.count; memory = r.memory; least = r.least; most = r.most; needs = r.needs; starts_count = one_more starts start 7 room; slots_count = r.slots_count; starts = list_all_push is_start_in_range starts start r.starts fits; slots = r.slots; code = r.code })
+
+  pub slots_in_range : (array : SlotArray) → is_slot_in_range array ≡ true → length slots < 8 → is_in_range (image raw memory budget needs starts (slots ++ (array ∷ [])) code) ≡ true
+  slots_in_range array fits room =
+      let r = ranges (image raw memory budget needs starts slots code) h in
+      in_range_by (image raw memory budget needs starts (slots ++ (array ∷ [])) code)
+      (record { count = r.count; memory = r.memory; least = r.least; most = r.most; needs = r.needs; starts_count = r.starts_count; slots_count = one_more slots array 8 room; starts = r.starts; slots = list_all_push is_slot_in_range slots array r.slots fits; code = r.code })
+
+  pub code_in_range : (x : Instr) → is_instr_in_range raw x ≡ true → length code < 4096 → is_in_range (image raw memory budget needs starts slots (code ++ (x ∷ []))) ≡ true
+  code_in_range x fits room =
+      let r = ranges (image raw memory budget needs starts slots code) h in
+      in_range_by (image raw memory budget needs starts slots (code ++ (x ∷ [])))
+      (record { count = one_more code x 4096 room; memory = r.memory; least = r.least; most = r.most; needs = r.needs; starts_count = r.starts_count; slots_count = r.slots_count; starts = r.starts; slots = r.slots; code = list_all_push (is_instr_in_range raw) code x r.code fits })

@@ -1,0 +1,121 @@
+-- What holds of the 16 bytes of an instruction in range, and of 16 bytes without a fault.
+use Rattle.std.proofs.Common.{◌≡◌, ℕ, zero, suc, ◌<◌, ◌%◌, Bool, true, false, List, [], ◌∷◌, ◌++◌, length, take, replicate, Option, Some, None, ◌==◌, ◌&&◌, ◌||◌, not, nat_lt, refl, sym, ap, ◌∙◌, inl, inr, arith}
+use Rattle.std.specs.Prelude.{slice_index, is_some}
+use Rattle.std.specs.List.{list_all}
+use Rattle.std.proofs.lemmas.Bool.{and_parts, eqb-true, ltb-true, cases_Bool}
+use Rattle.zl_code.specs.declared.instr.Instr.{Instr}
+use Rattle.zl_code.specs.declared.instr.Instr.TheVariants as instr
+use Rattle.zl_code.specs.declared.instr.LocalInstr.{LocalInstr}
+use Rattle.zl_code.specs.declared.instr.LocalInstr.TheVariants as local
+use Rattle.zl_code.specs.declared.instr.CallInstr.{CallInstr}
+use Rattle.zl_code.specs.declared.instr.CallInstr.TheVariants as call
+use Rattle.zl_code.specs.declared.image.DecodeFault.TheVariants as faults
+use Rattle.zl_code.specs.Instructions.{Layout, layout_of}
+use Rattle.zl_code.specs.Spells.{Parts, Last, Numbers, Room, Places, local_parts, call_parts, parts_bytes, last_bytes, seven, bytes_of, are_registers, are_places, is_packed, is_last_in_range, are_parts_in_range, is_instr_in_range, instr_bytes, instr_fault, fault_by, fault_if, first_of, reading_of, names_registers, is_unused_zero, row_bytes}
+use Rattle.zl_code.proofs.ImageBytes.{IsBytes, IsBytes-take}
+use Rattle.zl_code.proofs.ImageTable.{instr_fits, read_instr}
+use Rattle.zl_code.proofs.ImageInstr.{row_bytes-read}
+
+-- ---- an instruction in range
+
+pub instr_bytes-no_fault : (raw : Bool) (i : Instr) → is_instr_in_range raw i ≡ true → instr_fault raw (instr_bytes i) ≡ None
+instr_bytes-no_fault raw i h = (instr_fits raw i h).fault
+
+pub length-instr_bytes : (raw : Bool) (i : Instr) → is_instr_in_range raw i ≡ true → length (instr_bytes i) ≡ 16
+length-instr_bytes raw i h = (instr_fits raw i h).len
+
+-- instructions with the same bytes are the same
+pub instr_bytes-injective : (raw : Bool) (i j : Instr) → is_instr_in_range raw i ≡ true → is_instr_in_range raw j ≡ true → instr_bytes i ≡ instr_bytes j → i ≡ j
+instr_bytes-injective raw i j h k e = sym (instr_fits raw i h).again ∙ ap read_instr e ∙ (instr_fits raw j k).again
+
+-- ---- each of them is a byte
+
+IsBytes-cons : (b : ℕ) (bytes : List ℕ) → b < 256 → IsBytes bytes → IsBytes (b ∷ bytes)
+IsBytes-cons b bytes lt h zero = lt
+IsBytes-cons b bytes lt h (suc n) = h n
+
+IsBytes-append : (xs ys : List ℕ) → IsBytes xs → IsBytes ys → IsBytes (xs ++ ys)
+IsBytes-append [] ys h k = k
+IsBytes-append (x ∷ xs) ys h k = IsBytes-cons x (xs ++ ys) (h 0) (IsBytes-append xs ys (λ n. h (suc n)) k)
+
+IsBytes-none : IsBytes []
+IsBytes-none n = omega arith
+
+IsBytes-zeros : (n : ℕ) → IsBytes (replicate n 0)
+IsBytes-zeros zero = IsBytes-none
+IsBytes-zeros (suc n) = IsBytes-cons 0 (replicate n 0) (omega arith) (IsBytes-zeros n)
+
+IsBytes-bytes_of : (n v : ℕ) → IsBytes (bytes_of n v)
+IsBytes-bytes_of zero v = IsBytes-none
+IsBytes-bytes_of (suc n) v = IsBytes-cons (v % 256) _ (omega arith) (IsBytes-bytes_of n _)
+
+-- bytes that pass a test that only bytes pass
+IsBytes-all : (test : ℕ → Bool) → ((b : ℕ) → test b ≡ true → b < 256) → (bytes : List ℕ) → list_all test bytes ≡ true → IsBytes bytes
+IsBytes-all test small [] h = IsBytes-none
+IsBytes-all test small (b ∷ bytes) h = let p = and_parts (test b) (list_all test bytes) h in IsBytes-cons b bytes (small b p.0) (IsBytes-all test small bytes p.1)
+
+small_register : (b : ℕ) → nat_lt b 32 ≡ true → b < 256
+small_register b h = let lt : b < 32 = ltb-true b 32 h in omega arith
+
+small_place : (b : ℕ) → nat_lt b 32 || (b == 0xff) ≡ true → b < 256
+small_place b h =
+    elim (cases_Bool (nat_lt b 32)) as (λ _. b < 256) [
+      | inl lt ↦ small_register b lt
+      | inr apart ↦ let e : b ≡ 255 = eqb-true b 255 (sym (ap (λ (r : Bool). r || (b == 0xff)) apart) ∙ h) in omega arith
+    ]
+
+IsBytes-last : (registers : List ℕ) (l : Last) → is_last_in_range registers l ≡ true → IsBytes (last_bytes l)
+IsBytes-last registers (Numbers imm target) h = IsBytes-append (bytes_of 4 imm) (bytes_of 4 target) (IsBytes-bytes_of 4 imm) (IsBytes-bytes_of 4 target)
+IsBytes-last registers (Room handles) h = IsBytes-append (bytes_of 4 handles) (bytes_of 4 0) (IsBytes-bytes_of 4 handles) (IsBytes-bytes_of 4 0)
+IsBytes-last registers (Places places) h =
+    let p = and_parts (length places == 8) (are_places places && is_packed places) h in
+    IsBytes-all (λ b. nat_lt b 32 || (b == 0xff)) small_place places (and_parts (are_places places) (is_packed places) p.1).0
+
+IsBytes-parts : (p : Parts) → p.opcode < 256 → are_parts_in_range p ≡ true → IsBytes (parts_bytes p)
+IsBytes-parts p lt h =
+    let both = and_parts (is_last_in_range p.registers p.last) (are_registers p.registers) h in
+    let registers = IsBytes-take 7 (p.registers ++ replicate 7 0) (IsBytes-append p.registers (replicate 7 0) (IsBytes-all (λ r. nat_lt r 32) small_register p.registers both.1) (IsBytes-zeros 7)) in
+    IsBytes-cons p.opcode _ lt (IsBytes-append (seven p.registers) (last_bytes p.last) registers (IsBytes-last p.registers p.last both.0))
+
+local_opcode : (i : LocalInstr) → nat_lt (local_parts i).opcode 256 ≡ true
+unfolding local_parts
+local_opcode (local.Const a imm) = refl
+local_opcode _ = refl
+
+call_opcode : (i : CallInstr) → nat_lt (call_parts i).opcode 256 ≡ true
+unfolding call_parts
+call_opcode (call.Close a b) = refl
+call_opcode _ = refl
+
+pub IsBytes-instr_bytes : (raw : Bool) (i : Instr) → is_instr_in_range raw i ≡ true → IsBytes (instr_bytes i)
+IsBytes-instr_bytes raw (instr.Local i) h = IsBytes-parts (local_parts i) (ltb-true _ 256 (local_opcode i)) h
+IsBytes-instr_bytes raw (instr.Call i) h = IsBytes-parts (call_parts i) (ltb-true _ 256 (call_opcode i)) h
+IsBytes-instr_bytes raw (instr.Unknown bytes) h =
+    let marked = and_parts raw ((length bytes == 16) && (list_all (λ b. nat_lt b 256) bytes && not (is_some (layout_of (slice_index bytes 0))))) h in
+    let sixteen = and_parts (length bytes == 16) (list_all (λ b. nat_lt b 256) bytes && not (is_some (layout_of (slice_index bytes 0)))) marked.1 in
+    IsBytes-all (λ b. nat_lt b 256) (λ b e. ltb-true b 256 e) bytes (and_parts (list_all (λ b. nat_lt b 256) bytes) (not (is_some (layout_of (slice_index bytes 0)))) sixteen.1).0
+
+-- ---- bytes of a known opcode without a fault
+
+-- what the bytes name is there, and what they don't use is 0
+pub record IsRow (bytes : List ℕ) (l : Layout) : Type 0 where
+  pub registers : are_registers (reading_of bytes).registers ≡ true
+  pub named : names_registers l.ending (reading_of bytes) ≡ true
+  pub unused : is_unused_zero l (reading_of bytes) ≡ true
+
+pub no_fault-row : (raw : Bool) (bytes : List ℕ) (l : Layout) → layout_of (slice_index bytes 0) ≡ Some l → instr_fault raw bytes ≡ None → IsRow bytes l
+unfolding instr_fault
+no_fault-row raw bytes l at none =
+    let p = by (are_registers (reading_of bytes).registers) (names_registers l.ending (reading_of bytes)) (is_unused_zero l (reading_of bytes)) (sym (ap (fault_by raw (reading_of bytes)) at) ∙ none) in
+    record { registers = p.0; named = p.1; unused = p.2 }
+  where
+    by : (a b c : Bool) → first_of (fault_if (not (a && b)) faults.BadRegister ∷ fault_if (not c) faults.UnusedField ∷ []) ≡ None → (a ≡ true) × (b ≡ true) × (c ≡ true)
+    by true true true h = (refl, refl, refl)
+    by true true false h = absurd cc
+    by true false c h = absurd cc
+    by false b c h = absurd cc
+
+-- the bytes are those of what is read from them
+pub row_bytes-again : (raw : Bool) (bytes : List ℕ) (l : Layout) → length bytes ≡ 16 → IsBytes bytes → layout_of (slice_index bytes 0) ≡ Some l → instr_fault raw bytes ≡ None → row_bytes (slice_index bytes 0) l (reading_of bytes) ≡ bytes
+row_bytes-again raw bytes l len fits at none =
+    row_bytes-read bytes (slice_index bytes 0) l (reading_of bytes) _ len fits refl (record { registers = refl; imm = refl; target = refl; places = refl }) (no_fault-row raw bytes l at none).unused refl

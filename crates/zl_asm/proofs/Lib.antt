@@ -5,3 +5,8 @@ mod WordsSplit
 mod OneImage
 mod RoundWords
 mod RoundNumbers
+mod RoundRegisters
+mod RoundRows
+mod RoundSource
+mod RoundHex
+mod RoundInstr

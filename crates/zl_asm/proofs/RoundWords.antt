@@ -58,7 +58,7 @@ unfolding words_from
 words_of-comma word rest h = words_from-plain [] word (codes ", " ++ rest) (plain_all word h) ∙ before_plain word (comma ∷ words_of rest) h
 
 -- the words with a comma between any two
-pub with_commas : List (List ℕ) → List (List ℕ)
+unfoldable pub with_commas : List (List ℕ) → List (List ℕ)
 with_commas [] = []
 with_commas (word ∷ []) = word ∷ []
 with_commas (word ∷ next ∷ words) = word ∷ comma ∷ with_commas (next ∷ words)

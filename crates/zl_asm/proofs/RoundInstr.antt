@@ -1,0 +1,137 @@
+-- The line of an instruction is read as its bytes.
+use Rattle.std.proofs.Common.{◌≡◌, ℕ, zero, suc, ◌+◌, ◌*◌, ◌^◌, ◌<◌, ◌≤◌, Bool, true, false, ◌&&◌, ◌||◌, ◌==◌, not, eqb, List, [], ◌∷◌, ◌++◌, length, take, drop, codes, Option, Some, None, refl, sym, ap, subst, ◌∙◌, nat_lt, arith, get_or}
+use Rattle.std.specs.Prelude.{if◌then◌else◌, option_map, slice_index, is_some}
+use Rattle.std.specs.List.{list_all, starts_with}
+use Rattle.std.proofs.Math.Nat.{pow-suc}
+use Rattle.std.proofs.lemmas.Bool.{and_parts, and_from, eq-eqb, not-false, not_from_false}
+use Rattle.std.proofs.lemmas.List.{length-take, length-drop}
+use Rattle.zl_code.specs.declared.image.DecodeFault.{DecodeFault}
+use Rattle.zl_code.specs.declared.image.DecodeFault.TheVariants as faults
+use Rattle.zl_code.specs.Instructions.{Row, Layout, layout, layout_of, row_of, row_named}
+use Rattle.zl_code.specs.Spells.{Reading, reading_of, registers_at, number_at, number_of, bytes_of, row_bytes, instr_fault, fault_by, fault_if, first_of, are_registers, names_registers, is_unused_zero, is_ending_clear}
+use Rattle.zl_code.proofs.ImageBytes.{IsBytes, list_all-from_IsBytes}
+use Rattle.zl_code.proofs.ImageInstr.{IsReadFrom, row_bytes-read}
+use Rattle.zl_asm.specs.Words.{is_word, words_of}
+use Rattle.zl_asm.specs.Lines.{Line, Code, Source, line_of, source_of, operands_of, unknown_of, is_unknown, then_with}
+use Rattle.zl_asm.specs.Listing.{resolved}
+use Rattle.zl_asm.specs.Canonical.{joined, operand_texts, row_text, instr_text, hex_text, aims}
+use Rattle.zl_asm.proofs.RoundWords.{is_plain_word, with_commas, words_of-operands, operands_of-commas, words_of-space, words_of-alone}
+use Rattle.zl_asm.proofs.RoundHex.{hex_again, plain_word-hex}
+use Rattle.zl_asm.proofs.RoundRows.{RowFits, row_fits}
+use Rattle.zl_asm.proofs.RoundSource.{IsWhole, IsPlaced, source_read, source_of-texts, plain_operands, some_operand, source_resolved}
+
+-- bytes of an instruction without a fault
+pub record IsInstr (raw : Bool) (bytes : List ℕ) : Type 0 where
+  pub len : length bytes ≡ 16
+  pub fits : IsBytes bytes
+  pub fault : instr_fault raw bytes ≡ None
+
+-- ---- what has no fault
+
+no_fault : (t : Bool) (f : DecodeFault) (rest : List (Option DecodeFault)) → first_of (fault_if (not t) f ∷ rest) ≡ None → (t ≡ true) × (first_of rest ≡ None)
+no_fault true f rest h = (refl, h)
+no_fault false f rest h = absurd cc
+
+numbers_small : (n : ℕ) (bytes : List ℕ) → IsBytes bytes → number_of (take n bytes) < 256 ^ n
+numbers_small zero bytes h = omega arith
+numbers_small (suc n) [] h = by (suc n)
+  where
+    by : (k : ℕ) → 0 < 256 ^ k
+    by zero = omega arith
+    by (suc k) = let more = by k in omega (arith, pow-suc 256 k)
+numbers_small (suc n) (b ∷ bytes) h =
+    let first : b < 256 = h 0 in
+    let rest = numbers_small n bytes (λ i. h (suc i)) in
+    omega (arith, pow-suc 256 n)
+
+fits_behind : (n : ℕ) (bytes : List ℕ) → IsBytes bytes → IsBytes (drop n bytes)
+fits_behind zero bytes h = h
+fits_behind (suc n) [] h = h
+fits_behind (suc n) (b ∷ bytes) h = fits_behind n bytes (λ i. h (suc i))
+
+-- what the row says of its bytes
+record Parts (row : Row) (bytes : List ℕ) : Type 0 where
+  whole : IsWhole row.ending (reading_of bytes)
+  clear : is_unused_zero (layout (length row.fields) row.ending) (reading_of bytes) ≡ true
+
+parts_of : (raw : Bool) (row : Row) (bytes : List ℕ) → row_of (slice_index bytes 0) ≡ Some row → IsInstr raw bytes → Parts row bytes
+unfolding instr_fault
+parts_of raw row bytes here h =
+    let r = reading_of bytes in
+    let l = layout (length row.fields) row.ending in
+    let by_row : fault_by raw r (Some l) ≡ None = ap (λ (o : Option Row). fault_by raw r (option_map (λ x. layout (length x.fields) x.ending) o)) (sym here) ∙ h.fault in
+    let a = no_fault (are_registers r.registers && names_registers row.ending r) faults.BadRegister (fault_if (not (is_unused_zero l r)) faults.UnusedField ∷ []) by_row in
+    let b = no_fault (is_unused_zero l r) faults.UnusedField [] a.1 in
+    let c = and_parts (are_registers r.registers) (names_registers row.ending r) a.0 in
+    let len : length bytes ≡ 16 = h.len in
+    record {
+      whole = record {
+        seven_there = omega (arith, length-take 7 (drop 1 bytes), length-drop 1 bytes);
+        registers = c.0;
+        imm = numbers_small 4 (drop 8 bytes) (fits_behind 8 bytes h.fits);
+        target = numbers_small 4 (drop 12 bytes) (fits_behind 12 bytes h.fits);
+        eight = omega (arith, length-drop 8 bytes);
+        named = c.1;
+        clear = (and_parts (list_all (λ x. x == 0) (drop l.registers r.registers)) (is_ending_clear l.ending r) b.0).1;
+      };
+      clear = b.0;
+    }
+
+-- ---- a line of operands
+
+line_of-operands : (name : List ℕ) (row : Row) (operands : List (List ℕ)) (s : Source) → is_plain_word name ≡ true → starts_with ◌==◌ name (codes ".") ≡ false → row_named name ≡ Some row
+    → 0 < length operands → list_all is_plain_word operands ≡ true → source_of row operands ≡ Some s → line_of (words_of (name ++ (codes " " ++ joined (codes ", ") operands))) ≡ Some (Code s)
+unfolding line_of with_commas
+line_of-operands name row [] s plain no_point named there all source = absurd (omega arith)
+line_of-operands name row (word ∷ []) s plain no_point named there all source =
+    ap line_of (words_of-operands name (word ∷ []) plain all) ∙ rw (no_point, named, operands_of-commas word [] all, source) refl
+line_of-operands name row (word ∷ next ∷ words) s plain no_point named there all source =
+    ap line_of (words_of-operands name (word ∷ next ∷ words) plain all) ∙ rw (no_point, named, operands_of-commas word (next ∷ words) all, source) refl
+
+-- an instruction of a known opcode
+row_said : (count : ℕ) (raw : Bool) (row : Row) (bytes : List ℕ) → row_of (slice_index bytes 0) ≡ Some row → IsInstr raw bytes → line_of (words_of (row_text count bytes (Some row))) ≡ Some (Code (source_read count row (reading_of bytes)))
+row_said count raw row bytes here h =
+    let f = row_fits (slice_index bytes 0) row here in
+    let p = parts_of raw row bytes here h in
+    line_of-operands row.name row (operand_texts count row (reading_of bytes)) (source_read count row (reading_of bytes)) f.plain f.no_point f.named
+    (some_operand count row (reading_of bytes) p.whole.seven_there f.few f.operand) (plain_operands count row (reading_of bytes) p.whole) (source_of-texts count row (reading_of bytes) f.few p.whole)
+
+-- bytes of an unknown one
+unknown_said : (bytes : List ℕ) → row_of (slice_index bytes 0) ≡ None → length bytes ≡ 16 → IsBytes bytes → line_of (words_of (codes ".bytes " ++ hex_text bytes)) ≡ Some (Code (record { bytes = bytes; label = None }))
+unfolding line_of is_word unknown_of
+unknown_said bytes here len fits =
+    let bounded = list_all-from_IsBytes bytes fits in
+    let digits = plain_word-hex bytes (omega arith) bounded in
+    let long : (length bytes == 16) ≡ true = eq-eqb (length bytes) 16 len in
+    ap line_of (words_of-space (codes ".bytes") (hex_text bytes) refl ∙ ap (λ (ws : List (List ℕ)). codes ".bytes" ∷ ws) (words_of-alone (hex_text bytes) digits))
+    ∙ rw (hex_again bytes bounded, long, here) refl
+
+-- what the line of an instruction says
+abbrev pub source_by : ℕ → List ℕ → Option Row → Source
+source_by count bytes None = record { bytes = bytes; label = None }
+source_by count bytes (Some row) = source_read count row (reading_of bytes)
+
+abbrev pub source_said : ℕ → List ℕ → Source
+source_said count bytes = source_by count bytes (row_of (slice_index bytes 0))
+
+pub instr_said : (count : ℕ) (raw : Bool) (bytes : List ℕ) → IsInstr raw bytes → line_of (words_of (instr_text count bytes)) ≡ Some (Code (source_said count bytes))
+instr_said count raw bytes h = by (row_of (slice_index bytes 0)) refl
+  where
+    by : (o : Option Row) → row_of (slice_index bytes 0) ≡ o → line_of (words_of (row_text count bytes o)) ≡ Some (Code (source_by count bytes o))
+    by None here = unknown_said bytes here h.len h.fits
+    by (Some row) here = row_said count raw row bytes here h
+
+-- ---- its bytes again
+
+pub instr_resolved : (labels : List (List ℕ × ℕ)) (count : ℕ) (raw : Bool) (bytes : List ℕ) → IsInstr raw bytes → (aims (row_of (slice_index bytes 0)) ≡ true → IsPlaced labels count (reading_of bytes).target)
+    → resolved labels (source_said count bytes) ≡ Some bytes
+instr_resolved labels count raw bytes h placed = by (row_of (slice_index bytes 0)) refl placed
+  where
+    by : (o : Option Row) → row_of (slice_index bytes 0) ≡ o → (aims o ≡ true → IsPlaced labels count (reading_of bytes).target) → resolved labels (source_by count bytes o) ≡ Some bytes
+    by None here stands = refl
+    by (Some row) here stands =
+        let f = row_fits (slice_index bytes 0) row here in
+        let p = parts_of raw row bytes here h in
+        let same : row_bytes row.opcode (layout (length row.fields) row.ending) (reading_of bytes) ≡ bytes =
+        row_bytes-read bytes row.opcode (layout (length row.fields) row.ending) (reading_of bytes) _ h.len h.fits f.same (record { registers = refl; imm = refl; target = refl; places = refl }) p.clear refl in
+        source_resolved labels count row.opcode (length row.fields) row.ending (reading_of bytes) stands ∙ ap (λ (xs : List ℕ). Some xs) same

@@ -1,0 +1,60 @@
+-- What holds of each row of the table of instructions.
+use Rattle.std.proofs.Common.{◌≡◌, ℕ, ◌<◌, ◌≤◌, Bool, true, false, ◌&&◌, ◌||◌, ◌==◌, not, eqb, List, [], ◌∷◌, length, codes, Option, Some, None, refl, sym, ap, subst, ◌∙◌, nat_lt, nat_le, arith, inl, inr}
+use Rattle.std.specs.Prelude.{if◌then◌else◌}
+use Rattle.std.specs.List.{list_all, starts_with}
+use Rattle.std.proofs.lemmas.Bool.{and_parts, and_from, eqb-true, leb-true, cases_Bool, not-true}
+use Rattle.zl_code.specs.declared.layout.Ending.{Ending}
+use Rattle.zl_code.specs.declared.layout.Ending.TheVariants as ending
+use Rattle.zl_code.specs.Instructions.{Row, rows, row_among, row_of, row_named}
+use Rattle.zl_asm.proofs.RoundWords.{is_plain_word}
+
+-- an instruction has an operand at least
+abbrev pub has_operand : Row → Bool
+has_operand row = nat_lt 0 (length row.fields) || (elim row.ending as (λ _. Bool) [ ending.Target ↦ true | _ ↦ false ])
+
+-- what holds of a row
+pub record RowFits (row : Row) (opcode : ℕ) : Type 0 where
+  pub same : row.opcode ≡ opcode
+  pub named : row_named row.name ≡ Some row
+  pub plain : is_plain_word row.name ≡ true
+  pub no_point : starts_with ◌==◌ row.name (codes ".") ≡ false
+  pub few : length row.fields ≤ 7
+  pub operand : has_operand row ≡ true
+
+abbrev test : Row → Bool
+test row = is_plain_word row.name && (not (starts_with ◌==◌ row.name (codes ".")) && (nat_le (length row.fields) 7 && has_operand row))
+
+-- a fact of each row
+abbrev Each : (Row → Type 0) → List Row → Type 0
+Each P [] = Unit {0}
+Each P (r ∷ rs) = P r × Each P rs
+
+-- what holds of each row holds of the one that is found
+found : (P : Row → Type 0) (rs : List Row) (opcode : ℕ) (row : Row) → Each P rs → list_all test rs ≡ true → row_among rs opcode ≡ Some row
+    → (row.opcode ≡ opcode) × P row × (test row ≡ true)
+found P [] opcode row each all h = absurd cc
+found P (r ∷ rs) opcode row each all h = by (λ here. found P rs opcode row each.1 all_parts.1 here) (r.opcode == opcode) refl h
+  where
+    all_parts : (test r ≡ true) × (list_all test rs ≡ true)
+    all_parts = and_parts (test r) (list_all test rs) all
+    by : (row_among rs opcode ≡ Some row → (row.opcode ≡ opcode) × P row × (test row ≡ true)) → (t : Bool) → (r.opcode == opcode) ≡ t → (if t then Some r else row_among rs opcode) ≡ Some row → (row.opcode ≡ opcode) × P row × (test row ≡ true)
+    by rest true e here = let same : r ≡ row = cc in subst (λ (x : Row). (x.opcode ≡ opcode) × P x × (test x ≡ true)) same (eqb-true r.opcode opcode e, each.0, all_parts.0)
+    by rest false e here = rest here
+
+abbrev IsNamed : Row → Type 0
+IsNamed r = row_named r.name ≡ Some r
+
+-- no two rows have one name
+all_named : Each IsNamed rows
+unfolding row_named
+all_named =
+    (refl, (refl, (refl, (refl, (refl, (refl, (refl, (refl, (refl, (refl, (refl, (refl, (refl, (refl, (refl, (refl, (refl, (refl, (refl, (refl, (refl, (refl, (refl, (refl, (refl, (refl, (refl, (refl, (refl, (refl, (refl, (refl, (refl, (refl, (refl, (refl, (refl, (refl, (refl, (refl, (refl, (refl, (refl, (refl, (refl, (refl, (refl, (refl, tt))))))))))))))))))))))))))))))))))))))))))))))))
+
+pub row_fits : (opcode : ℕ) (row : Row) → row_of opcode ≡ Some row → RowFits row opcode
+unfolding row_of
+row_fits opcode row h =
+    let f = found IsNamed rows opcode row all_named refl h in
+    let a = and_parts (is_plain_word row.name) _ f.2 in
+    let b = and_parts (not (starts_with ◌==◌ row.name (codes "."))) _ a.1 in
+    let c = and_parts (nat_le (length row.fields) 7) (has_operand row) b.1 in
+    record { same = f.0; named = f.1; plain = a.0; no_point = not-true _ b.0; few = leb-true _ 7 c.0; operand = c.1 }

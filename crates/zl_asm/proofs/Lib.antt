@@ -10,3 +10,6 @@ mod RoundRows
 mod RoundSource
 mod RoundHex
 mod RoundInstr
+mod RoundLines
+mod RoundLabels
+mod RoundDirectives

@@ -1,0 +1,235 @@
+-- The lines of the directives of an image are read as its fields.
+use Rattle.std.proofs.Common.{◌≡◌, ℕ, ◌+◌, ◌/◌, ◌%◌, ◌^◌, ◌<◌, ◌≤◌, Bool, true, false, ◌&&◌, ◌||◌, ◌==◌, not, eqb, List, [], ◌∷◌, ◌++◌, length, map, codes, decimal, Option, Some, None, refl, sym, ap, subst, ◌∙◌, nat_lt, nat_le, arith}
+use Rattle.std.specs.Prelude.{if◌then◌else◌, option_map, bit_and}
+use Rattle.std.specs.List.{list_all, starts_with}
+use Rattle.std.specs.Fmt.{digits}
+use Rattle.std.proofs.lemmas.Bool.{and_parts, and_from, leb-true, ltb-true, le-leb, lt-ltb, eqb-true}
+use Rattle.std.proofs.lemmas.Nat.{and_le_l}
+use Rattle.zl_rights.specs.declared.kind.Kind.{Kind}
+use Rattle.zl_rights.specs.declared.kind.Kind.TheVariants as kind
+use Rattle.zl_rights.specs.declared.policy.Condition.{Condition}
+use Rattle.zl_rights.specs.declared.policy.Condition.TheVariants as condition
+use Rattle.zl_rights.specs.Names.{kind_name, kind_named, condition_name, condition_named}
+use Rattle.zl_rights.specs.Numbers.{bits, within, condition_number}
+use Rattle.zl_code.specs.declared.image.Start.{Start}
+use Rattle.zl_code.specs.declared.image.SlotArray.{SlotArray}
+use Rattle.zl_code.specs.Image.{is_among, can_be_needed, need_if, needs_named}
+use Rattle.zl_code.specs.Spells.{rights_allowed, is_start_in_range, is_slot_in_range, are_needs, needs_byte}
+use Rattle.zl_code.proofs.ImageNeeds.{needs_at, needs_fit}
+use Rattle.zl_asm.specs.declared.directive.Directive.{Directive}
+use Rattle.zl_asm.specs.declared.directive.Directive.TheVariants as directive
+use Rattle.zl_asm.specs.Words.{is_word, words_from, words_of, number_of}
+use Rattle.zl_asm.specs.Lines.{Line, Declares, Label, kind_of, directive_of, label_of, line_of}
+use Rattle.zl_asm.specs.Canonical.{kind_text, label_text}
+use Rattle.zl_asm.proofs.RoundWords.{is_plain_word, words_of-space, words_of-alone}
+use Rattle.zl_asm.proofs.RoundNumbers.{number_of-decimal, plain-decimal}
+use Rattle.zl_asm.proofs.RoundLines.{is_printed, printed-plain, printed-append, Say, says_nothing, says_line}
+
+-- two, three and four words
+two_words : (a b : List ℕ) → is_plain_word a ≡ true → is_plain_word b ≡ true → words_of (a ++ (codes " " ++ b)) ≡ a ∷ b ∷ []
+two_words a b p q = words_of-space a b p ∙ ap (λ (ws : List (List ℕ)). a ∷ ws) (words_of-alone b q)
+
+three_words : (a b c : List ℕ) → is_plain_word a ≡ true → is_plain_word b ≡ true → is_plain_word c ≡ true → words_of (a ++ (codes " " ++ (b ++ (codes " " ++ c)))) ≡ a ∷ b ∷ c ∷ []
+three_words a b c p q r = words_of-space a (b ++ (codes " " ++ c)) p ∙ ap (λ (ws : List (List ℕ)). a ∷ ws) (two_words b c q r)
+
+four_words : (a b c d : List ℕ) → is_plain_word a ≡ true → is_plain_word b ≡ true → is_plain_word c ≡ true → is_plain_word d ≡ true
+    → words_of (a ++ (codes " " ++ (b ++ (codes " " ++ (c ++ (codes " " ++ d)))))) ≡ a ∷ b ∷ c ∷ d ∷ []
+four_words a b c d p q r s = words_of-space a (b ++ (codes " " ++ (c ++ (codes " " ++ d)))) p ∙ ap (λ (ws : List (List ℕ)). a ∷ ws) (three_words b c d q r s)
+
+-- ---- numbers
+
+pub mark_said : line_of (words_of (codes ".raw")) ≡ Some (Declares directive.Raw)
+unfolding words_from line_of directive_of is_word
+mark_said = refl
+
+pub memory_said : (n : ℕ) → n ≤ 65536 → line_of (words_of (codes ".memory " ++ decimal n)) ≡ Some (Declares (directive.Memory n))
+unfolding line_of directive_of is_word
+memory_said n le =
+    let small : n < 2 ^ 32 = omega arith in
+    let least : nat_le 0 n ≡ true = le-leb 0 n (omega arith) in
+    let most : nat_le n 65536 ≡ true = le-leb n 65536 le in
+    ap line_of (two_words (codes ".memory") (decimal n) refl (plain-decimal n small)) ∙ rw (number_of-decimal n small, least, most) refl
+
+pub budget_said : (n : ℕ) → 0 < n → n ≤ 1000000 → line_of (words_of (codes ".budget " ++ decimal n)) ≡ Some (Declares (directive.Budget n))
+unfolding line_of directive_of is_word
+budget_said n lt le =
+    let small : n < 2 ^ 32 = omega arith in
+    let least : nat_le 1 n ≡ true = le-leb 1 n (omega arith) in
+    let most : nat_le n 1000000 ≡ true = le-leb n 1000000 le in
+    ap line_of (two_words (codes ".budget") (decimal n) refl (plain-decimal n small)) ∙ rw (number_of-decimal n small, least, most) refl
+
+-- a number behind a directive's name is printed
+pub printed-decimal : (n : ℕ) → n < 2 ^ 32 → list_all is_printed (decimal n) ≡ true
+printed-decimal n lt = printed-plain (decimal n) (plain-decimal n lt)
+
+-- ---- needs
+
+-- what holds of a condition that an image can need
+record IsSaid (c : Condition) : Type 0 where
+  printed : list_all is_printed (codes ".need " ++ condition_name c) ≡ true
+  said : line_of (words_of (codes ".need " ++ condition_name c)) ≡ Some (Declares (directive.Need c))
+
+abbrev AllSaid : List Condition → Type 0
+AllSaid [] = Unit {0}
+AllSaid (c ∷ cs) = IsSaid c × AllSaid cs
+
+channel_said : IsSaid condition.NewChannel
+unfolding words_from line_of directive_of is_word condition_named
+channel_said = record { printed = refl; said = refl }
+
+event_said : IsSaid condition.NewEvent
+unfolding words_from line_of directive_of is_word condition_named
+event_said = record { printed = refl; said = refl }
+
+port_said : IsSaid condition.NewPort
+unfolding words_from line_of directive_of is_word condition_named
+port_said = record { printed = refl; said = refl }
+
+process_said : IsSaid condition.NewProcess
+unfolding words_from line_of directive_of is_word condition_named
+process_said = record { printed = refl; said = refl }
+
+said_if : (t : Bool) (c : Condition) (cs : List Condition) → IsSaid c → AllSaid cs → AllSaid (need_if t c cs)
+said_if true c cs h more = (h, more)
+said_if false c cs h more = more
+
+flags_said : (c e p q : Bool) → AllSaid (need_if c condition.NewChannel (need_if e condition.NewEvent (need_if p condition.NewPort (need_if q condition.NewProcess []))))
+flags_said c e p q = said_if c _ _ channel_said (said_if e _ _ event_said (said_if p _ _ port_said (said_if q _ _ process_said tt)))
+
+abbrev by_flags : Bool → Bool → Bool → Bool → List Condition
+by_flags c e p q = need_if c condition.NewChannel (need_if e condition.NewEvent (need_if p condition.NewPort (need_if q condition.NewProcess [])))
+
+flags_named : (c e p q : Bool) → needs_named (by_flags c e p q) ≡ by_flags c e p q
+flags_named true true true true = refl
+flags_named true true true false = refl
+flags_named true true false true = refl
+flags_named true true false false = refl
+flags_named true false true true = refl
+flags_named true false true false = refl
+flags_named true false false true = refl
+flags_named true false false false = refl
+flags_named false true true true = refl
+flags_named false true true false = refl
+flags_named false true false true = refl
+flags_named false true false false = refl
+flags_named false false true true = refl
+flags_named false false true false = refl
+flags_named false false false true = refl
+flags_named false false false false = refl
+
+-- needs in their order are those that are named
+pub needs_named-again : (needs : List Condition) → are_needs needs ≡ true → needs_named needs ≡ needs
+needs_named-again needs h =
+    subst (λ (cs : List Condition). needs_named cs ≡ cs) (needs_fit needs h).again
+    (let b = needs_byte needs in flags_named (b % 2 == 1) (b / 2 % 2 == 1) (b / 8 % 2 == 1) (b / 16 % 2 == 1))
+
+abbrev need_line : Condition → List ℕ
+need_line c = codes ".need " ++ condition_name c
+
+needs_say : (needs : List Condition) → AllSaid needs → Say (map need_line needs) (map (λ c. Declares (directive.Need c)) needs)
+needs_say [] h = says_nothing
+needs_say (c ∷ cs) h = says_line (need_line c) (map need_line cs) (Declares (directive.Need c)) (map (λ c. Declares (directive.Need c)) cs) h.0.printed h.0.said (needs_say cs h.1)
+
+pub needs_said : (needs : List Condition) → are_needs needs ≡ true → Say (map (λ c. codes ".need " ++ condition_name c) needs) (map (λ c. Declares (directive.Need c)) needs)
+needs_said needs h =
+    needs_say needs
+    (subst AllSaid (needs_fit needs h).again (let b = needs_byte needs in flags_said (b % 2 == 1) (b / 2 % 2 == 1) (b / 8 % 2 == 1) (b / 16 % 2 == 1)))
+
+-- ---- kinds and rights
+
+kind_again : (k : Option Kind) → kind_of (kind_text k) ≡ Some k
+unfolding kind_of is_word kind_named
+kind_again None = refl
+kind_again (Some kind.Process) = refl
+kind_again (Some kind.Channel) = refl
+kind_again (Some kind.Event) = refl
+kind_again (Some kind.Port) = refl
+kind_again (Some kind.Job) = refl
+
+plain_kind : (k : Option Kind) → is_plain_word (kind_text k) ≡ true
+plain_kind None = refl
+plain_kind (Some kind.Process) = refl
+plain_kind (Some kind.Channel) = refl
+plain_kind (Some kind.Event) = refl
+plain_kind (Some kind.Port) = refl
+plain_kind (Some kind.Job) = refl
+
+allowed_small : (k : Option Kind) → rights_allowed k < 2 ^ 32
+allowed_small None = omega arith
+allowed_small (Some kind.Process) = omega arith
+allowed_small (Some kind.Channel) = omega arith
+allowed_small (Some kind.Event) = omega arith
+allowed_small (Some kind.Port) = omega arith
+allowed_small (Some kind.Job) = omega arith
+
+within_small : (part whole : ℕ) → within part whole ≡ true → whole < 2 ^ 32 → part < 2 ^ 32
+within_small part whole h small =
+    let same : bit_and whole part ≡ part = eqb-true _ part h in
+    let le : bit_and whole part ≤ whole = and_le_l whole part in
+    omega arith
+
+-- ---- start handles
+
+abbrev start_line : Start → List ℕ
+start_line s = codes ".start " ++ (kind_text s.kind ++ (codes " " ++ decimal (bits s.rights)))
+
+start_said : (s : Start) → is_start_in_range s ≡ true → line_of (words_of (start_line s)) ≡ Some (Declares (directive.Start s))
+unfolding line_of directive_of is_word
+start_said s h =
+    let small = within_small (bits s.rights) (rights_allowed s.kind) h (allowed_small s.kind) in
+    ap line_of (three_words (codes ".start") (kind_text s.kind) (decimal (bits s.rights)) refl (plain_kind s.kind) (plain-decimal (bits s.rights) small))
+    ∙ rw (kind_again s.kind, number_of-decimal (bits s.rights) small, h) refl
+
+printed_rights : (k : Option Kind) (rest : List ℕ) → list_all is_printed rest ≡ true → list_all is_printed (kind_text k ++ (codes " " ++ rest)) ≡ true
+printed_rights k rest h = printed-append (kind_text k) (codes " " ++ rest) (printed-plain (kind_text k) (plain_kind k)) h
+
+pub starts_said : (starts : List Start) → list_all is_start_in_range starts ≡ true → Say (map (λ s. codes ".start " ++ (kind_text s.kind ++ (codes " " ++ decimal (bits s.rights)))) starts) (map (λ s. Declares (directive.Start s)) starts)
+starts_said [] h = says_nothing
+starts_said (s ∷ starts) h =
+    let p = and_parts (is_start_in_range s) (list_all is_start_in_range starts) h in
+    let small = within_small (bits s.rights) (rights_allowed s.kind) p.0 (allowed_small s.kind) in
+    says_line (start_line s) (map start_line starts) (Declares (directive.Start s)) (map (λ s. Declares (directive.Start s)) starts)
+    (printed_rights s.kind (decimal (bits s.rights)) (printed-decimal (bits s.rights) small)) (start_said s p.0) (starts_said starts p.1)
+
+-- ---- slot arrays
+
+abbrev slots_line : SlotArray → List ℕ
+slots_line s = codes ".slots " ++ (kind_text s.kind ++ (codes " " ++ (decimal s.length ++ (codes " " ++ decimal (bits s.rights)))))
+
+-- the ranges of a slot array
+record SlotRanges (s : SlotArray) : Type 0 where
+  least : nat_le 1 s.length ≡ true
+  most : nat_le s.length 256 ≡ true
+  length_small : s.length < 2 ^ 32
+  rights_small : bits s.rights < 2 ^ 32
+
+slot_ranges : (s : SlotArray) → is_slot_in_range s ≡ true → SlotRanges s
+slot_ranges s h =
+    let p = and_parts (nat_lt 0 s.length) (nat_le s.length 256 && within (bits s.rights) (rights_allowed s.kind)) h in
+    let q = and_parts (nat_le s.length 256) (within (bits s.rights) (rights_allowed s.kind)) p.1 in
+    let least : 0 < s.length = ltb-true 0 s.length p.0 in
+    let most : s.length ≤ 256 = leb-true s.length 256 q.0 in
+    record {
+      least = le-leb 1 s.length (omega arith);
+      most = q.0;
+      length_small = omega arith;
+      rights_small = within_small (bits s.rights) (rights_allowed s.kind) q.1 (allowed_small s.kind);
+    }
+
+slots_line_said : (s : SlotArray) → is_slot_in_range s ≡ true → line_of (words_of (slots_line s)) ≡ Some (Declares (directive.Slots s))
+unfolding line_of directive_of is_word
+slots_line_said s h =
+    let r = slot_ranges s h in
+    ap line_of
+    (four_words (codes ".slots") (kind_text s.kind) (decimal s.length) (decimal (bits s.rights)) refl (plain_kind s.kind) (plain-decimal s.length r.length_small) (plain-decimal (bits s.rights) r.rights_small))
+    ∙ rw (kind_again s.kind, number_of-decimal s.length r.length_small, r.least, r.most, number_of-decimal (bits s.rights) r.rights_small, h) refl
+
+pub slots_said : (slots : List SlotArray) → list_all is_slot_in_range slots ≡ true
+    → Say (map (λ s. codes ".slots " ++ (kind_text s.kind ++ (codes " " ++ (decimal s.length ++ (codes " " ++ decimal (bits s.rights)))))) slots) (map (λ s. Declares (directive.Slots s)) slots)
+slots_said [] h = says_nothing
+slots_said (s ∷ slots) h =
+    let p = and_parts (is_slot_in_range s) (list_all is_slot_in_range slots) h in
+    let r = slot_ranges s p.0 in
+    says_line (slots_line s) (map slots_line slots) (Declares (directive.Slots s)) (map (λ s. Declares (directive.Slots s)) slots)
+    (printed_rights s.kind (decimal s.length ++ (codes " " ++ decimal (bits s.rights))) (printed-append (decimal s.length) (codes " " ++ decimal (bits s.rights)) (printed-decimal s.length r.length_small) (printed-decimal (bits s.rights) r.rights_small)))
+    (slots_line_said s p.0) (slots_said slots p.1)

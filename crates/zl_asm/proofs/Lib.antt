@@ -13,3 +13,6 @@ mod RoundInstr
 mod RoundLines
 mod RoundLabels
 mod RoundDirectives
+mod RoundBody
+mod RoundListing
+mod RoundWhole

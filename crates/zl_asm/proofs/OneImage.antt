@@ -6,6 +6,7 @@ use Rattle.std.proofs.lemmas.Bool.{and_parts}
 use Rattle.zl_code.specs.Image.{Image}
 use Rattle.zl_code.specs.declared.instr.Instr.{Instr}
 use Rattle.zl_code.specs.Spells.{instr_bytes, is_in_range, is_instr_in_range, are_needs, is_start_in_range, is_slot_in_range}
+use Rattle.zl_code.proofs.ImageRanges.{ranges}
 use Rattle.zl_code.proofs.ImageTable.{instr_fits, read_instr}
 use Rattle.zl_asm.specs.Listing.{Listing}
 use Rattle.zl_asm.specs.Denotes.{fields_of, NoTextDenotesTwo}
@@ -33,19 +34,6 @@ image_again : (i : Image) → list_all (is_instr_in_range i.raw) i.code ≡ true
 unfolding image_of
 image_again i h = λ k. record i { code = code_again i.raw i.code h k }
 
--- of the ranges of an image, that of its instructions
-code_in_range : (i : Image) → is_in_range i ≡ true → list_all (is_instr_in_range i.raw) i.code ≡ true
-code_in_range i h =
-    let a = and_parts (nat_le (length i.code) 4096) _ h in
-    let b = and_parts (nat_le i.memory 65536) _ a.1 in
-    let c = and_parts (nat_lt 0 i.budget) _ b.1 in
-    let d = and_parts (nat_le i.budget 1000000) _ c.1 in
-    let e = and_parts (are_needs i.needs) _ d.1 in
-    let f = and_parts (nat_le (length i.starts) 7) _ e.1 in
-    let g = and_parts (nat_le (length i.slots) 8) _ f.1 in
-    let j = and_parts (list_all is_start_in_range i.starts) _ g.1 in
-    (and_parts (list_all is_slot_in_range i.slots) _ j.1).1
-
 unwrap : Listing → Option Listing → Listing
 unwrap l None = l
 unwrap l (Some m) = m
@@ -54,4 +42,4 @@ pub one_image : NoTextDenotesTwo
 unfolding unwrap
 one_image text i j h k =
     let same : fields_of i ≡ fields_of j = ap (unwrap (fields_of i)) (sym h.fields ∙ k.fields) in
-    sym (image_again i (code_in_range i h.in_range)) ∙ ap image_of same ∙ image_again j (code_in_range j k.in_range)
+    sym (image_again i (ranges i h.in_range).code) ∙ ap image_of same ∙ image_again j (ranges j k.in_range).code

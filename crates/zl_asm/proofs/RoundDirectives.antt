@@ -96,33 +96,6 @@ said_if false c cs h more = more
 flags_said : (c e p q : Bool) → AllSaid (need_if c condition.NewChannel (need_if e condition.NewEvent (need_if p condition.NewPort (need_if q condition.NewProcess []))))
 flags_said c e p q = said_if c _ _ channel_said (said_if e _ _ event_said (said_if p _ _ port_said (said_if q _ _ process_said tt)))
 
-abbrev by_flags : Bool → Bool → Bool → Bool → List Condition
-by_flags c e p q = need_if c condition.NewChannel (need_if e condition.NewEvent (need_if p condition.NewPort (need_if q condition.NewProcess [])))
-
-flags_named : (c e p q : Bool) → needs_named (by_flags c e p q) ≡ by_flags c e p q
-flags_named true true true true = refl
-flags_named true true true false = refl
-flags_named true true false true = refl
-flags_named true true false false = refl
-flags_named true false true true = refl
-flags_named true false true false = refl
-flags_named true false false true = refl
-flags_named true false false false = refl
-flags_named false true true true = refl
-flags_named false true true false = refl
-flags_named false true false true = refl
-flags_named false true false false = refl
-flags_named false false true true = refl
-flags_named false false true false = refl
-flags_named false false false true = refl
-flags_named false false false false = refl
-
--- needs in their order are those that are named
-pub needs_named-again : (needs : List Condition) → are_needs needs ≡ true → needs_named needs ≡ needs
-needs_named-again needs h =
-    subst (λ (cs : List Condition). needs_named cs ≡ cs) (needs_fit needs h).again
-    (let b = needs_byte needs in flags_named (b % 2 == 1) (b / 2 % 2 == 1) (b / 8 % 2 == 1) (b / 16 % 2 == 1))
-
 abbrev need_line : Condition → List ℕ
 need_line c = codes ".need " ++ condition_name c
 

@@ -4,13 +4,13 @@ use Rattle.std.specs.Prelude.{if◌then◌else◌, option_map, slice_index, is_s
 use Rattle.std.specs.List.{list_all, starts_with}
 use Rattle.std.proofs.Math.Nat.{pow-suc}
 use Rattle.std.proofs.lemmas.Bool.{and_parts, and_from, eq-eqb, not-false, not_from_false}
-use Rattle.std.proofs.lemmas.List.{length-take, length-drop}
+use Rattle.std.proofs.lemmas.List.{length-take, length-drop, get_or-drop}
 use Rattle.zl_code.specs.declared.image.DecodeFault.{DecodeFault}
 use Rattle.zl_code.specs.declared.image.DecodeFault.TheVariants as faults
 use Rattle.zl_code.specs.Instructions.{Row, Layout, layout, layout_of, row_of, row_named}
 use Rattle.zl_code.specs.Spells.{Reading, reading_of, registers_at, number_at, number_of, bytes_of, row_bytes, instr_fault, fault_by, fault_if, first_of, are_registers, names_registers, is_unused_zero, is_ending_clear}
 use Rattle.zl_code.proofs.ImageBytes.{IsBytes, list_all-from_IsBytes}
-use Rattle.zl_code.proofs.ImageInstr.{IsReadFrom, row_bytes-read}
+use Rattle.zl_code.proofs.InstrFacts.{no_fault-row, row_bytes-again}
 use Rattle.zl_asm.specs.Words.{is_word, words_of}
 use Rattle.zl_asm.specs.Lines.{Line, Code, Source, line_of, source_of, operands_of, unknown_of, is_unknown, then_with}
 use Rattle.zl_asm.specs.Listing.{resolved}
@@ -26,11 +26,7 @@ pub record IsInstr (raw : Bool) (bytes : List ℕ) : Type 0 where
   pub fits : IsBytes bytes
   pub fault : instr_fault raw bytes ≡ None
 
--- ---- what has no fault
-
-no_fault : (t : Bool) (f : DecodeFault) (rest : List (Option DecodeFault)) → first_of (fault_if (not t) f ∷ rest) ≡ None → (t ≡ true) × (first_of rest ≡ None)
-no_fault true f rest h = (refl, h)
-no_fault false f rest h = absurd cc
+-- ---- what was read
 
 numbers_small : (n : ℕ) (bytes : List ℕ) → IsBytes bytes → number_of (take n bytes) < 256 ^ n
 numbers_small zero bytes h = omega arith
@@ -45,36 +41,25 @@ numbers_small (suc n) (b ∷ bytes) h =
     omega (arith, pow-suc 256 n)
 
 fits_behind : (n : ℕ) (bytes : List ℕ) → IsBytes bytes → IsBytes (drop n bytes)
-fits_behind zero bytes h = h
-fits_behind (suc n) [] h = h
-fits_behind (suc n) (b ∷ bytes) h = fits_behind n bytes (λ i. h (suc i))
+fits_behind n bytes h i = rw get_or-drop (h (n + i))
 
--- what the row says of its bytes
-record Parts (row : Row) (bytes : List ℕ) : Type 0 where
-  whole : IsWhole row.ending (reading_of bytes)
-  clear : is_unused_zero (layout (length row.fields) row.ending) (reading_of bytes) ≡ true
+layout_at : (row : Row) (bytes : List ℕ) → row_of (slice_index bytes 0) ≡ Some row → layout_of (slice_index bytes 0) ≡ Some (layout (length row.fields) row.ending)
+layout_at row bytes here = ap (option_map (λ r. layout (length r.fields) r.ending)) here
 
-parts_of : (raw : Bool) (row : Row) (bytes : List ℕ) → row_of (slice_index bytes 0) ≡ Some row → IsInstr raw bytes → Parts row bytes
-unfolding instr_fault
-parts_of raw row bytes here h =
-    let r = reading_of bytes in
+-- what was read of bytes of this row
+pub whole_of : (raw : Bool) (row : Row) (bytes : List ℕ) → row_of (slice_index bytes 0) ≡ Some row → IsInstr raw bytes → IsWhole row.ending (reading_of bytes)
+whole_of raw row bytes here h =
     let l = layout (length row.fields) row.ending in
-    let by_row : fault_by raw r (Some l) ≡ None = ap (λ (o : Option Row). fault_by raw r (option_map (λ x. layout (length x.fields) x.ending) o)) (sym here) ∙ h.fault in
-    let a = no_fault (are_registers r.registers && names_registers row.ending r) faults.BadRegister (fault_if (not (is_unused_zero l r)) faults.UnusedField ∷ []) by_row in
-    let b = no_fault (is_unused_zero l r) faults.UnusedField [] a.1 in
-    let c = and_parts (are_registers r.registers) (names_registers row.ending r) a.0 in
+    let r = no_fault-row raw bytes l (layout_at row bytes here) h.fault in
     let len : length bytes ≡ 16 = h.len in
     record {
-      whole = record {
-        seven_there = omega (arith, length-take 7 (drop 1 bytes), length-drop 1 bytes);
-        registers = c.0;
-        imm = numbers_small 4 (drop 8 bytes) (fits_behind 8 bytes h.fits);
-        target = numbers_small 4 (drop 12 bytes) (fits_behind 12 bytes h.fits);
-        eight = omega (arith, length-drop 8 bytes);
-        named = c.1;
-        clear = (and_parts (list_all (λ x. x == 0) (drop l.registers r.registers)) (is_ending_clear l.ending r) b.0).1;
-      };
-      clear = b.0;
+      seven_there = omega (arith, length-take 7 (drop 1 bytes), length-drop 1 bytes);
+      registers = r.registers;
+      imm = numbers_small 4 (drop 8 bytes) (fits_behind 8 bytes h.fits);
+      target = numbers_small 4 (drop 12 bytes) (fits_behind 12 bytes h.fits);
+      eight = omega (arith, length-drop 8 bytes);
+      named = r.named;
+      clear = (and_parts (list_all (λ x. x == 0) (drop l.registers (reading_of bytes).registers)) (is_ending_clear l.ending (reading_of bytes)) r.unused).1;
     }
 
 -- ---- a line of operands
@@ -92,9 +77,9 @@ line_of-operands name row (word ∷ next ∷ words) s plain no_point named there
 row_said : (count : ℕ) (raw : Bool) (row : Row) (bytes : List ℕ) → row_of (slice_index bytes 0) ≡ Some row → IsInstr raw bytes → line_of (words_of (row_text count bytes (Some row))) ≡ Some (Code (source_read count row (reading_of bytes)))
 row_said count raw row bytes here h =
     let f = row_fits (slice_index bytes 0) row here in
-    let p = parts_of raw row bytes here h in
+    let w = whole_of raw row bytes here h in
     line_of-operands row.name row (operand_texts count row (reading_of bytes)) (source_read count row (reading_of bytes)) f.plain f.no_point f.named
-    (some_operand count row (reading_of bytes) p.whole.seven_there f.few f.operand) (plain_operands count row (reading_of bytes) p.whole) (source_of-texts count row (reading_of bytes) f.few p.whole)
+    (some_operand count row (reading_of bytes) w.seven_there f.few f.operand) (plain_operands count row (reading_of bytes) w) (source_of-texts count row (reading_of bytes) f.few w)
 
 -- bytes of an unknown one
 unknown_said : (bytes : List ℕ) → row_of (slice_index bytes 0) ≡ None → length bytes ≡ 16 → IsBytes bytes → line_of (words_of (codes ".bytes " ++ hex_text bytes)) ≡ Some (Code (record { bytes = bytes; label = None }))
@@ -131,7 +116,7 @@ instr_resolved labels count raw bytes h placed = by (row_of (slice_index bytes 0
     by None here stands = refl
     by (Some row) here stands =
         let f = row_fits (slice_index bytes 0) row here in
-        let p = parts_of raw row bytes here h in
-        let same : row_bytes row.opcode (layout (length row.fields) row.ending) (reading_of bytes) ≡ bytes =
-        row_bytes-read bytes row.opcode (layout (length row.fields) row.ending) (reading_of bytes) _ h.len h.fits f.same (record { registers = refl; imm = refl; target = refl; places = refl }) p.clear refl in
+        let l = layout (length row.fields) row.ending in
+        let same : row_bytes row.opcode l (reading_of bytes) ≡ bytes =
+        ap (λ (n : ℕ). row_bytes n l (reading_of bytes)) f.same ∙ row_bytes-again raw bytes l h.len h.fits (layout_at row bytes here) h.fault in
         source_resolved labels count row.opcode (length row.fields) row.ending (reading_of bytes) stands ∙ ap (λ (xs : List ℕ). Some xs) same

@@ -6,6 +6,7 @@ use Rattle.std.proofs.lemmas.Bool.{and_parts, and_from, eqb-true, leb-true, case
 use Rattle.zl_code.specs.declared.layout.Ending.{Ending}
 use Rattle.zl_code.specs.declared.layout.Ending.TheVariants as ending
 use Rattle.zl_code.specs.Instructions.{Row, rows, row_among, row_of, row_named}
+use Rattle.zl_code.proofs.InstrTable.{row_named-of}
 use Rattle.zl_asm.proofs.RoundWords.{is_plain_word}
 
 -- an instruction has an operand at least
@@ -24,37 +25,23 @@ pub record RowFits (row : Row) (opcode : ℕ) : Type 0 where
 abbrev test : Row → Bool
 test row = is_plain_word row.name && (not (starts_with ◌==◌ row.name (codes ".")) && (nat_le (length row.fields) 7 && has_operand row))
 
--- a fact of each row
-abbrev Each : (Row → Type 0) → List Row → Type 0
-Each P [] = Unit {0}
-Each P (r ∷ rs) = P r × Each P rs
-
 -- what holds of each row holds of the one that is found
-found : (P : Row → Type 0) (rs : List Row) (opcode : ℕ) (row : Row) → Each P rs → list_all test rs ≡ true → row_among rs opcode ≡ Some row
-    → (row.opcode ≡ opcode) × P row × (test row ≡ true)
-found P [] opcode row each all h = absurd cc
-found P (r ∷ rs) opcode row each all h = by (λ here. found P rs opcode row each.1 all_parts.1 here) (r.opcode == opcode) refl h
+found : (rs : List Row) (opcode : ℕ) (row : Row) → list_all test rs ≡ true → row_among rs opcode ≡ Some row → (row.opcode ≡ opcode) × (test row ≡ true)
+found [] opcode row all h = absurd cc
+found (r ∷ rs) opcode row all h =
+    let p = and_parts (test r) (list_all test rs) all in
+    by p.0 (λ here. found rs opcode row p.1 here) (r.opcode == opcode) refl h
   where
-    all_parts : (test r ≡ true) × (list_all test rs ≡ true)
-    all_parts = and_parts (test r) (list_all test rs) all
-    by : (row_among rs opcode ≡ Some row → (row.opcode ≡ opcode) × P row × (test row ≡ true)) → (t : Bool) → (r.opcode == opcode) ≡ t → (if t then Some r else row_among rs opcode) ≡ Some row → (row.opcode ≡ opcode) × P row × (test row ≡ true)
-    by rest true e here = let same : r ≡ row = cc in subst (λ (x : Row). (x.opcode ≡ opcode) × P x × (test x ≡ true)) same (eqb-true r.opcode opcode e, each.0, all_parts.0)
-    by rest false e here = rest here
-
-abbrev IsNamed : Row → Type 0
-IsNamed r = row_named r.name ≡ Some r
-
--- no two rows have one name
-all_named : Each IsNamed rows
-unfolding row_named
-all_named =
-    (refl, (refl, (refl, (refl, (refl, (refl, (refl, (refl, (refl, (refl, (refl, (refl, (refl, (refl, (refl, (refl, (refl, (refl, (refl, (refl, (refl, (refl, (refl, (refl, (refl, (refl, (refl, (refl, (refl, (refl, (refl, (refl, (refl, (refl, (refl, (refl, (refl, (refl, (refl, (refl, (refl, (refl, (refl, (refl, (refl, (refl, (refl, (refl, tt))))))))))))))))))))))))))))))))))))))))))))))))
+    by : test r ≡ true → (row_among rs opcode ≡ Some row → (row.opcode ≡ opcode) × (test row ≡ true)) → (t : Bool) → (r.opcode == opcode) ≡ t → (if t then Some r else row_among rs opcode) ≡ Some row
+        → (row.opcode ≡ opcode) × (test row ≡ true)
+    by first rest true e here = let same : r ≡ row = cc in subst (λ (x : Row). (x.opcode ≡ opcode) × (test x ≡ true)) same (eqb-true r.opcode opcode e, first)
+    by first rest false e here = rest here
 
 pub row_fits : (opcode : ℕ) (row : Row) → row_of opcode ≡ Some row → RowFits row opcode
 unfolding row_of
 row_fits opcode row h =
-    let f = found IsNamed rows opcode row all_named refl h in
-    let a = and_parts (is_plain_word row.name) _ f.2 in
+    let f = found rows opcode row refl h in
+    let a = and_parts (is_plain_word row.name) _ f.1 in
     let b = and_parts (not (starts_with ◌==◌ row.name (codes "."))) _ a.1 in
     let c = and_parts (nat_le (length row.fields) 7) (has_operand row) b.1 in
-    record { same = f.0; named = f.1; plain = a.0; no_point = not-true _ b.0; few = leb-true _ 7 c.0; operand = c.1 }
+    record { same = f.0; named = row_named-of opcode row h; plain = a.0; no_point = not-true _ b.0; few = leb-true _ 7 c.0; operand = c.1 }

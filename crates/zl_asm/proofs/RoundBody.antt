@@ -1,0 +1,69 @@
+-- The lines of labels and instructions say those labels and instructions.
+use Rattle.std.proofs.Common.{◌≡◌, ℕ, zero, suc, ◌+◌, ◌-◌, ◌^◌, ◌<◌, ◌≤◌, Bool, true, false, ◌&&◌, ◌==◌, not, List, [], ◌∷◌, ◌++◌, length, map, take, drop, codes, Option, Some, None, refl, sym, ap, ◌∙◌, arith}
+use Rattle.std.specs.Prelude.{if◌then◌else◌, slice_index}
+use Rattle.std.specs.List.{list_all, starts_with}
+use Rattle.std.proofs.lemmas.Bool.{and_from}
+use Rattle.std.proofs.lemmas.List.{length-append, take_at, drop_at}
+use Rattle.std.proofs.lemmas.List.Folds.{list_all-append}
+use Rattle.zl_code.specs.Instructions.{Row, row_of}
+use Rattle.zl_code.specs.Spells.{reading_of}
+use Rattle.zl_code.proofs.ImageBytes.{list_all-from_IsBytes}
+use Rattle.zl_asm.specs.Words.{is_word, words_of, is_name}
+use Rattle.zl_asm.specs.Lines.{Line, Label, Code, label_of, line_of}
+use Rattle.zl_asm.specs.Canonical.{label_text, is_target, hex_text, row_text, instr_text, operand_texts, code_lines_from}
+use Rattle.zl_asm.proofs.RoundWords.{is_plain, is_plain_word, plain_all, words_of-alone}
+use Rattle.zl_asm.proofs.RoundNumbers.{plain-label, is_name-label}
+use Rattle.zl_asm.proofs.RoundHex.{plain_word-hex}
+use Rattle.zl_asm.proofs.RoundRows.{row_fits}
+use Rattle.zl_asm.proofs.RoundSource.{plain_operands}
+use Rattle.zl_asm.proofs.RoundInstr.{IsInstr, whole_of, source_said, instr_said}
+use Rattle.zl_asm.proofs.RoundLines.{is_printed, printed-plain, printed-append, printed-joined, Say, says_nothing, says_line}
+use Rattle.zl_asm.proofs.RoundLabels.{AllInstr, code_said_from}
+
+-- ---- labels
+
+plain_push : (word : List ℕ) (b : ℕ) → is_plain_word word ≡ true → is_plain b ≡ true → is_plain_word (word ++ (b ∷ [])) ≡ true
+plain_push [] b h k = absurd cc
+plain_push (x ∷ word) b h k = list_all-append is_plain (x ∷ word) (b ∷ []) ∙ and_from _ _ h (and_from _ _ k refl)
+
+label_again : (name : List ℕ) → is_name name ≡ true → label_of (name ++ codes ":") ≡ Some name
+unfolding label_of is_word
+label_again name h =
+    let len : length name ≡ length (name ++ codes ":") - 1 = omega (arith, length-append name (codes ":")) in
+    rw (drop_at name (codes ":") _ len, take_at name (codes ":") _ len, h) refl
+
+abbrev label_line : ℕ → List ℕ
+label_line n = label_text n ++ codes ":"
+
+plain_label_line : (n : ℕ) → n < 2 ^ 32 → is_plain_word (label_line n) ≡ true
+plain_label_line n lt = plain_push (label_text n) 58 (plain-label n lt) refl
+
+label_said : (n : ℕ) → n < 2 ^ 32 → line_of (words_of (label_line n)) ≡ Some (Label (label_text n))
+unfolding line_of
+label_said n lt = ap line_of (words_of-alone (label_line n) (plain_label_line n lt)) ∙ rw (label_again (label_text n) (is_name-label n lt)) refl
+
+-- ---- instructions
+
+printed_instr : (count : ℕ) (raw : Bool) (bytes : List ℕ) → IsInstr raw bytes → list_all is_printed (instr_text count bytes) ≡ true
+printed_instr count raw bytes h = by (row_of (slice_index bytes 0)) refl
+  where
+    by : (o : Option Row) → row_of (slice_index bytes 0) ≡ o → list_all is_printed (row_text count bytes o) ≡ true
+    by None here = let len = h.len in printed-plain (hex_text bytes) (plain_word-hex bytes (omega arith) (list_all-from_IsBytes bytes h.fits))
+    by (Some row) here =
+        printed-append row.name _ (printed-plain row.name (row_fits (slice_index bytes 0) row here).plain)
+        (printed-joined (operand_texts count row (reading_of bytes)) (plain_operands count row (reading_of bytes) (whole_of raw row bytes here h)))
+
+pub code_says : (raw : Bool) (code : List (List ℕ)) (n : ℕ) (rest : List (List ℕ)) → n + length rest ≤ 2 ^ 32 → AllInstr raw rest → Say (code_lines_from code n rest) (code_said_from code n rest)
+unfolding code_lines_from code_said_from
+code_says raw code n [] le all = says_nothing
+code_says raw code n (bytes ∷ rest) le all =
+    by (is_target code n)
+    (says_line (instr_text (length code) bytes) (code_lines_from code (suc n) rest) (Code (source_said (length code) bytes)) (code_said_from code (suc n) rest)
+    (printed_instr (length code) raw bytes all.0) (instr_said (length code) raw bytes all.0) (code_says raw code (suc n) rest (omega arith) all.1))
+  where
+    by : (t : Bool) → Say (instr_text (length code) bytes ∷ code_lines_from code (suc n) rest) (Code (source_said (length code) bytes) ∷ code_said_from code (suc n) rest)
+        → Say ((if t then label_line n ∷ [] else []) ++ (instr_text (length code) bytes ∷ code_lines_from code (suc n) rest)) ((if t then Label (label_text n) ∷ [] else []) ++ (Code (source_said (length code) bytes) ∷ code_said_from code (suc n) rest))
+    by true h =
+        says_line (label_line n) (instr_text (length code) bytes ∷ code_lines_from code (suc n) rest) (Label (label_text n)) (Code (source_said (length code) bytes) ∷ code_said_from code (suc n) rest)
+        (printed-plain (label_line n) (plain_label_line n (omega arith))) (label_said n (omega arith)) h
+    by false h = h

@@ -1,11 +1,10 @@
 -- The fields that a text gives are those of one image at most.
-use Rattle.std.proofs.Common.{◌≡◌, Bool, true, List, [], ◌∷◌, map, Option, Some, None, refl, sym, ap, ◌∙◌, length}
-use Rattle.std.specs.Prelude.{nat_le, nat_lt}
+use Rattle.std.proofs.Common.{◌≡◌, Bool, true, List, [], ◌∷◌, map, Option, Some, None, refl, sym, ap, ◌∙◌}
 use Rattle.std.specs.List.{list_all}
 use Rattle.std.proofs.lemmas.Bool.{and_parts}
 use Rattle.zl_code.specs.Image.{Image}
 use Rattle.zl_code.specs.declared.instr.Instr.{Instr}
-use Rattle.zl_code.specs.Spells.{instr_bytes, is_in_range, is_instr_in_range, are_needs, is_start_in_range, is_slot_in_range}
+use Rattle.zl_code.specs.Spells.{instr_bytes, is_instr_in_range}
 use Rattle.zl_code.proofs.ImageRanges.{ranges}
 use Rattle.zl_code.proofs.ImageTable.{instr_fits, read_instr}
 use Rattle.zl_asm.specs.Listing.{Listing}

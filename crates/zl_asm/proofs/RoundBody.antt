@@ -1,7 +1,7 @@
 -- The lines of labels and instructions say those labels and instructions.
-use Rattle.std.proofs.Common.{◌≡◌, ℕ, zero, suc, ◌+◌, ◌-◌, ◌^◌, ◌<◌, ◌≤◌, Bool, true, false, ◌&&◌, ◌==◌, not, List, [], ◌∷◌, ◌++◌, length, map, take, drop, codes, Option, Some, None, refl, sym, ap, ◌∙◌, arith}
+use Rattle.std.proofs.Common.{◌≡◌, ℕ, suc, ◌+◌, ◌-◌, ◌^◌, ◌<◌, ◌≤◌, Bool, true, false, List, [], ◌∷◌, ◌++◌, length, codes, Option, Some, None, refl, ap, ◌∙◌, arith}
 use Rattle.std.specs.Prelude.{if◌then◌else◌, slice_index}
-use Rattle.std.specs.List.{list_all, starts_with}
+use Rattle.std.specs.List.{list_all}
 use Rattle.std.proofs.lemmas.Bool.{and_from}
 use Rattle.std.proofs.lemmas.List.{length-append, take_at, drop_at}
 use Rattle.std.proofs.lemmas.List.Folds.{list_all-append}
@@ -9,9 +9,9 @@ use Rattle.zl_code.specs.Instructions.{Row, row_of}
 use Rattle.zl_code.specs.Spells.{reading_of}
 use Rattle.zl_code.proofs.ImageBytes.{list_all-from_IsBytes}
 use Rattle.zl_asm.specs.Words.{is_word, words_of, is_name}
-use Rattle.zl_asm.specs.Lines.{Line, Label, Code, label_of, line_of}
+use Rattle.zl_asm.specs.Lines.{Label, Code, label_of, line_of}
 use Rattle.zl_asm.specs.Canonical.{label_text, is_target, hex_text, row_text, instr_text, operand_texts, code_lines_from}
-use Rattle.zl_asm.proofs.RoundWords.{is_plain, is_plain_word, plain_all, words_of-alone}
+use Rattle.zl_asm.proofs.RoundWords.{is_plain, is_plain_word, words_of-alone}
 use Rattle.zl_asm.proofs.RoundNumbers.{plain-label, is_name-label}
 use Rattle.zl_asm.proofs.RoundHex.{plain_word-hex}
 use Rattle.zl_asm.proofs.RoundRows.{row_fits}

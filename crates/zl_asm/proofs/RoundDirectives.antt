@@ -1,26 +1,24 @@
 -- The lines of the directives of an image are read as its fields.
-use Rattle.std.proofs.Common.{◌≡◌, ℕ, ◌+◌, ◌/◌, ◌%◌, ◌^◌, ◌<◌, ◌≤◌, Bool, true, false, ◌&&◌, ◌||◌, ◌==◌, not, eqb, List, [], ◌∷◌, ◌++◌, length, map, codes, decimal, Option, Some, None, refl, sym, ap, subst, ◌∙◌, nat_lt, nat_le, arith}
-use Rattle.std.specs.Prelude.{if◌then◌else◌, option_map, bit_and}
-use Rattle.std.specs.List.{list_all, starts_with}
-use Rattle.std.specs.Fmt.{digits}
-use Rattle.std.proofs.lemmas.Bool.{and_parts, and_from, leb-true, ltb-true, le-leb, lt-ltb, eqb-true}
+use Rattle.std.proofs.Common.{◌≡◌, ℕ, ◌/◌, ◌%◌, ◌^◌, ◌<◌, ◌≤◌, Bool, true, false, ◌&&◌, ◌==◌, List, [], ◌∷◌, ◌++◌, map, codes, decimal, Option, Some, None, refl, ap, subst, ◌∙◌, nat_lt, nat_le, arith}
+use Rattle.std.specs.Prelude.{bit_and}
+use Rattle.std.specs.List.{list_all}
+use Rattle.std.proofs.lemmas.Bool.{and_parts, leb-true, ltb-true, le-leb, eqb-true}
 use Rattle.std.proofs.lemmas.Nat.{and_le_l}
 use Rattle.zl_rights.specs.declared.kind.Kind.{Kind}
 use Rattle.zl_rights.specs.declared.kind.Kind.TheVariants as kind
 use Rattle.zl_rights.specs.declared.policy.Condition.{Condition}
 use Rattle.zl_rights.specs.declared.policy.Condition.TheVariants as condition
-use Rattle.zl_rights.specs.Names.{kind_name, kind_named, condition_name, condition_named}
-use Rattle.zl_rights.specs.Numbers.{bits, within, condition_number}
+use Rattle.zl_rights.specs.Names.{kind_named, condition_name, condition_named}
+use Rattle.zl_rights.specs.Numbers.{bits, within}
 use Rattle.zl_code.specs.declared.image.Start.{Start}
 use Rattle.zl_code.specs.declared.image.SlotArray.{SlotArray}
-use Rattle.zl_code.specs.Image.{is_among, can_be_needed, need_if, needs_named}
+use Rattle.zl_code.specs.Image.{need_if}
 use Rattle.zl_code.specs.Spells.{rights_allowed, is_start_in_range, is_slot_in_range, are_needs, needs_byte}
-use Rattle.zl_code.proofs.ImageNeeds.{needs_at, needs_fit}
-use Rattle.zl_asm.specs.declared.directive.Directive.{Directive}
+use Rattle.zl_code.proofs.ImageNeeds.{needs_fit}
 use Rattle.zl_asm.specs.declared.directive.Directive.TheVariants as directive
-use Rattle.zl_asm.specs.Words.{is_word, words_from, words_of, number_of}
-use Rattle.zl_asm.specs.Lines.{Line, Declares, Label, kind_of, directive_of, label_of, line_of}
-use Rattle.zl_asm.specs.Canonical.{kind_text, label_text}
+use Rattle.zl_asm.specs.Words.{is_word, words_from, words_of}
+use Rattle.zl_asm.specs.Lines.{Declares, kind_of, directive_of, line_of}
+use Rattle.zl_asm.specs.Canonical.{kind_text}
 use Rattle.zl_asm.proofs.RoundWords.{is_plain_word, words_of-space, words_of-alone}
 use Rattle.zl_asm.proofs.RoundNumbers.{number_of-decimal, plain-decimal}
 use Rattle.zl_asm.proofs.RoundLines.{is_printed, printed-plain, printed-append, Say, says_nothing, says_line}

@@ -1,23 +1,21 @@
 -- The line of an instruction is read as its bytes.
-use Rattle.std.proofs.Common.{◌≡◌, ℕ, zero, suc, ◌+◌, ◌*◌, ◌^◌, ◌<◌, ◌≤◌, Bool, true, false, ◌&&◌, ◌||◌, ◌==◌, not, eqb, List, [], ◌∷◌, ◌++◌, length, take, drop, codes, Option, Some, None, refl, sym, ap, subst, ◌∙◌, nat_lt, arith, get_or}
-use Rattle.std.specs.Prelude.{if◌then◌else◌, option_map, slice_index, is_some}
+use Rattle.std.proofs.Common.{◌≡◌, ℕ, zero, suc, ◌+◌, ◌^◌, ◌<◌, Bool, true, false, ◌==◌, List, [], ◌∷◌, ◌++◌, length, take, drop, codes, Option, Some, None, refl, ap, ◌∙◌, arith}
+use Rattle.std.specs.Prelude.{option_map, slice_index}
 use Rattle.std.specs.List.{list_all, starts_with}
 use Rattle.std.proofs.Math.Nat.{pow-suc}
-use Rattle.std.proofs.lemmas.Bool.{and_parts, and_from, eq-eqb, not-false, not_from_false}
+use Rattle.std.proofs.lemmas.Bool.{and_parts, eq-eqb}
 use Rattle.std.proofs.lemmas.List.{length-take, length-drop, get_or-drop}
-use Rattle.zl_code.specs.declared.image.DecodeFault.{DecodeFault}
-use Rattle.zl_code.specs.declared.image.DecodeFault.TheVariants as faults
-use Rattle.zl_code.specs.Instructions.{Row, Layout, layout, layout_of, row_of, row_named}
-use Rattle.zl_code.specs.Spells.{Reading, reading_of, registers_at, number_at, number_of, bytes_of, row_bytes, instr_fault, fault_by, fault_if, first_of, are_registers, names_registers, is_unused_zero, is_ending_clear}
+use Rattle.zl_code.specs.Instructions.{Row, layout, layout_of, row_of, row_named}
+use Rattle.zl_code.specs.Spells.{reading_of, number_of, row_bytes, instr_fault, is_ending_clear}
 use Rattle.zl_code.proofs.ImageBytes.{IsBytes, list_all-from_IsBytes}
 use Rattle.zl_code.proofs.InstrFacts.{no_fault-row, row_bytes-again}
 use Rattle.zl_asm.specs.Words.{is_word, words_of}
-use Rattle.zl_asm.specs.Lines.{Line, Code, Source, line_of, source_of, operands_of, unknown_of, is_unknown, then_with}
+use Rattle.zl_asm.specs.Lines.{Code, Source, line_of, source_of, unknown_of}
 use Rattle.zl_asm.specs.Listing.{resolved}
 use Rattle.zl_asm.specs.Canonical.{joined, operand_texts, row_text, instr_text, hex_text, aims}
 use Rattle.zl_asm.proofs.RoundWords.{is_plain_word, with_commas, words_of-operands, operands_of-commas, words_of-space, words_of-alone}
 use Rattle.zl_asm.proofs.RoundHex.{hex_again, plain_word-hex}
-use Rattle.zl_asm.proofs.RoundRows.{RowFits, row_fits}
+use Rattle.zl_asm.proofs.RoundRows.{row_fits}
 use Rattle.zl_asm.proofs.RoundSource.{IsWhole, IsPlaced, source_read, source_of-texts, plain_operands, some_operand, source_resolved}
 
 -- bytes of an instruction without a fault

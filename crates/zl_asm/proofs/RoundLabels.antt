@@ -1,12 +1,12 @@
 -- Labels stand once for the number of their instruction.
-use Rattle.std.proofs.Common.{◌≡◌, ◌≢◌, ℕ, zero, suc, ◌+◌, ◌^◌, ◌<◌, ◌≤◌, Bool, true, false, ◌&&◌, ◌||◌, ◌==◌, not, eqb, List, [], ◌∷◌, ◌++◌, length, map, Option, Some, None, refl, sym, ap, subst, ◌∙◌, nat_lt, arith, inl, inr}
-use Rattle.std.specs.Prelude.{if◌then◌else◌, option_map, slice_index, is_some}
-use Rattle.std.specs.List.{list_any, find}
+use Rattle.std.proofs.Common.{◌≡◌, ◌≢◌, ℕ, suc, ◌+◌, ◌^◌, ◌<◌, ◌≤◌, Bool, true, false, ◌==◌, List, [], ◌∷◌, ◌++◌, length, map, Some, None, refl, ap, ◌∙◌, arith, inl, inr}
+use Rattle.std.specs.Prelude.{if◌then◌else◌, slice_index}
+use Rattle.std.specs.List.{list_any}
 use Rattle.std.specs.Cmp.Lexicographic.{pointwise, bytes_decides}
 use Rattle.std.proofs.lemmas.Bool.{and_from, cases_Bool, cases_eq, eq-eqb, or_left, or_right, ltb-true}
 use Rattle.zl_code.specs.Instructions.{row_of}
 use Rattle.zl_code.specs.Spells.{reading_of}
-use Rattle.zl_asm.specs.Lines.{Line, Blank, Label, Code, Source, all_of, onto_all}
+use Rattle.zl_asm.specs.Lines.{Line, Blank, Label, Code, all_of, onto_all}
 use Rattle.zl_asm.specs.Listing.{labels_from, position_of, names_once, resolved}
 use Rattle.zl_asm.specs.Canonical.{label_text, is_target, aims, aims_at}
 use Rattle.zl_asm.proofs.RoundNumbers.{label_text-injective}

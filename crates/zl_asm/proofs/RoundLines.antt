@@ -1,13 +1,12 @@
 -- Lines of printed bytes, each ended by a line feed, are found again in the text.
-use Rattle.std.proofs.Common.{◌≡◌, ℕ, ◌+◌, ◌<◌, ◌≤◌, Bool, true, false, ◌&&◌, ◌==◌, not, eqb, List, [], ◌∷◌, ◌++◌, length, codes, Option, Some, None, refl, sym, ap, ◌∙◌, nat_lt, arith, append_assoc}
-use Rattle.std.specs.Prelude.{if◌then◌else◌}
-use Rattle.std.specs.List.{list_all, flat_map, slice_split}
+use Rattle.std.proofs.Common.{◌≡◌, ℕ, ◌<◌, Bool, true, false, ◌&&◌, ◌==◌, not, List, [], ◌∷◌, ◌++◌, codes, Option, Some, None, refl, ap, ◌∙◌, nat_lt, arith, append_assoc}
+use Rattle.std.specs.List.{list_all, flat_map}
 use Rattle.std.proofs.lemmas.Bool.{and_parts, and_from, ltb-true, lt-ltb, ne_eqb}
 use Rattle.std.proofs.lemmas.List.Folds.{list_all-append}
 use Rattle.std.proofs.lemmas.List.Splits.{slice_split-cons_yes, slice_split-cons_no}
 use Rattle.zl_asm.specs.Words.{lines_of, is_ascii, words_from, words_of}
 use Rattle.zl_asm.specs.Lines.{Line, Blank, line_of, all_of, onto_all}
-use Rattle.zl_asm.specs.Listing.{Listing, lines_said, listing_from, listing_of}
+use Rattle.zl_asm.specs.Listing.{Listing, listing_from, listing_of}
 use Rattle.zl_asm.specs.Canonical.{joined}
 use Rattle.zl_asm.proofs.RoundWords.{is_plain, is_plain_word, plain_all}
 use Rattle.zl_asm.proofs.RoundNumbers.{all_of_kind}

@@ -1,14 +1,11 @@
 -- Numbers, registers and labels as they are written are read again.
-use Rattle.std.proofs.Common.{◌≡◌, ℕ, zero, suc, ◌+◌, ◌-◌, ◌*◌, ◌/◌, ◌%◌, ◌^◌, ◌<◌, ◌≤◌, Bool, true, false, ◌&&◌, ◌||◌, ◌==◌, not, eqb, List, [], ◌∷◌, ◌++◌, length, codes, decimal, Option, Some, None, refl, sym, ap, ◌∙◌, nat_lt, nat_le, arith}
-use Rattle.std.specs.Prelude.{if◌then◌else◌}
+use Rattle.std.proofs.Common.{◌≡◌, ℕ, ◌+◌, ◌-◌, ◌*◌, ◌/◌, ◌%◌, ◌^◌, ◌<◌, ◌≤◌, Bool, true, false, ◌&&◌, ◌||◌, ◌==◌, List, [], ◌∷◌, ◌++◌, length, codes, decimal, Option, Some, None, refl, ap, ◌∙◌, nat_lt, nat_le, arith}
 use Rattle.std.specs.List.{list_all, starts_with}
-use Rattle.std.specs.Fmt.{digits}
-use Rattle.std.proofs.lemmas.Bool.{and_parts, and_from, and_right, le-leb, leb-true, lt-ltb, ltb-true, ne_eqb, not_from_false, eqb-true, or_left, or_right, lt-leb, and_left}
-use Rattle.std.proofs.lemmas.Bool.Decides.{nat_tests}
+use Rattle.std.proofs.lemmas.Bool.{and_parts, and_from, and_right, le-leb, leb-true, lt-ltb, ne_eqb, or_left, or_right, lt-leb, and_left}
 use Rattle.std.proofs.lemmas.Fmt.{decimal_by_steps, decimal_injective, length-decimal-le}
 use Rattle.std.proofs.lemmas.List.Folds.{list_all-append}
-use Rattle.zl_asm.specs.Words.{is_word, digit_of, longer, value_from, value_of, number_of, register_of, is_name, is_name_byte}
-use Rattle.zl_asm.specs.Canonical.{register_text, label_text, target_text}
+use Rattle.zl_asm.specs.Words.{digit_of, longer, value_from, value_of, number_of, is_name, is_name_byte}
+use Rattle.zl_asm.specs.Canonical.{label_text}
 use Rattle.zl_asm.proofs.RoundWords.{is_plain, is_plain_word}
 
 abbrev pub is_digit : ℕ → Bool

@@ -1,18 +1,17 @@
 -- The operands of an instruction as they are written give its bytes again.
-use Rattle.std.proofs.Common.{◌≡◌, ℕ, zero, suc, ◌+◌, ◌-◌, ◌*◌, ◌^◌, ◌<◌, ◌≤◌, Bool, true, false, ◌&&◌, ◌||◌, ◌==◌, not, eqb, List, [], ◌∷◌, ◌++◌, length, map, take, drop, replicate, filter, codes, decimal, Option, Some, None, refl, sym, ap, subst, ◌∙◌, nat_lt, nat_le, arith, inl, inr, append_assoc}
-use Rattle.std.specs.Prelude.{if◌then◌else◌, option_map, slice_index, is_some, min}
-use Rattle.std.specs.List.{list_all, starts_with}
-use Rattle.std.proofs.lemmas.Bool.{and_parts, and_from, eqb-true, leb-true, eq-eqb, cases_Bool, not-true}
+use Rattle.std.proofs.Common.{◌≡◌, ℕ, zero, suc, ◌+◌, ◌^◌, ◌<◌, ◌≤◌, Bool, true, false, ◌||◌, ◌==◌, List, ◌∷◌, ◌++◌, length, map, take, drop, replicate, filter, decimal, Some, None, refl, sym, ap, ◌∙◌, nat_lt, arith, append_assoc}
+use Rattle.std.specs.Prelude.{if◌then◌else◌}
+use Rattle.std.specs.List.{list_all}
+use Rattle.std.proofs.lemmas.Bool.{and_from, eq-eqb}
 use Rattle.std.proofs.lemmas.List.{length-map, length-take, length-append, length-replicate, take_at, drop_at, length-take-le}
 use Rattle.std.proofs.lemmas.List.Folds.{list_all-append}
 use Rattle.zl_code.specs.declared.layout.Ending.{Ending}
 use Rattle.zl_code.specs.declared.layout.Ending.TheVariants as ending
-use Rattle.zl_code.specs.Instructions.{Row, Layout, layout}
-use Rattle.zl_code.specs.Spells.{Reading, seven, bytes_of, row_bytes, ending_bytes, are_registers, are_places, is_packed, names_registers, is_ending_clear}
-use Rattle.zl_asm.specs.Words.{number_of, is_name, register_of}
-use Rattle.zl_asm.specs.Lines.{Source, Tail, tail, tail_to, tail_of, registers_of, source_of, source_with, all_of, places_of, then_with}
+use Rattle.zl_code.specs.Instructions.{Row, layout}
+use Rattle.zl_code.specs.Spells.{Reading, seven, bytes_of, row_bytes, are_registers, names_registers, is_ending_clear}
+use Rattle.zl_asm.specs.Lines.{Source, Tail, tail, tail_to, tail_of, registers_of, source_of, source_with}
 use Rattle.zl_asm.specs.Listing.{with_target, resolved, position_of}
-use Rattle.zl_asm.specs.Canonical.{register_text, label_text, target_text, tail_texts, operand_texts}
+use Rattle.zl_asm.specs.Canonical.{register_text, label_text, tail_texts, operand_texts}
 use Rattle.zl_asm.proofs.RoundWords.{is_plain_word}
 use Rattle.zl_asm.proofs.RoundNumbers.{number_of-decimal, no_name-decimal, is_name-label, plain-decimal, plain-label}
 use Rattle.zl_asm.proofs.RoundRegisters.{is_taken, registers_again, plain-registers, are_registers-take, are_registers-taken, places_of-taken}

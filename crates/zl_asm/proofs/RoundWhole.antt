@@ -1,26 +1,21 @@
 -- The text of an image denotes it.
-use Rattle.std.proofs.Common.{◌≡◌, ℕ, zero, suc, ◌+◌, ◌^◌, ◌<◌, ◌≤◌, Bool, true, false, ◌&&◌, not, List, [], ◌∷◌, ◌++◌, length, map, codes, decimal, Option, Some, None, IsTrue, refl, sym, ap, ◌∙◌, arith, append-nil, append_assoc}
-use Rattle.std.specs.Prelude.{if◌then◌else◌, is_some, nat_le}
+use Rattle.std.proofs.Common.{◌≡◌, ℕ, ◌≤◌, Bool, true, false, not, List, [], ◌∷◌, ◌++◌, length, map, codes, decimal, Some, refl, ap, ◌∙◌, arith, append-nil, append_assoc}
+use Rattle.std.specs.Prelude.{if◌then◌else◌, is_some}
 use Rattle.std.specs.List.{list_all, flat_map}
 use Rattle.std.proofs.lemmas.Bool.{and_parts, and_from, le-leb}
 use Rattle.std.proofs.lemmas.List.{length-map}
 use Rattle.std.proofs.lemmas.List.Folds.{list_all-append}
 use Rattle.std.proofs.lemmas.Grind.{flat_map-append}
-use Rattle.zl_rights.specs.declared.policy.Condition.{Condition}
-use Rattle.zl_rights.specs.Names.{condition_name}
-use Rattle.zl_code.specs.declared.image.Start.{Start}
-use Rattle.zl_code.specs.declared.image.SlotArray.{SlotArray}
 use Rattle.zl_code.specs.declared.instr.Instr.{Instr}
 use Rattle.zl_code.specs.Image.{Image, needs_named}
-use Rattle.zl_code.specs.Spells.{instr_bytes, instr_fault, is_in_range, is_instr_in_range}
+use Rattle.zl_code.specs.Spells.{instr_bytes, instr_fault, is_instr_in_range}
 use Rattle.zl_code.proofs.ImageNeeds.{needs_named-needs}
 use Rattle.zl_code.proofs.ImageRanges.{Ranges, ranges}
 use Rattle.zl_code.proofs.InstrFacts.{instr_bytes-no_fault, length-instr_bytes, IsBytes-instr_bytes}
-use Rattle.zl_asm.specs.declared.directive.Directive.{Directive}
 use Rattle.zl_asm.specs.declared.directive.Directive.TheVariants as directive
-use Rattle.zl_asm.specs.Lines.{Line, Blank, Declares, Source, all_of}
-use Rattle.zl_asm.specs.Listing.{Listing, mark_in, memory_in, budget_in, need_in, start_in, slots_in, source_in, given, declares, directives_first, labels_from, names_once, resolved, is_listing, listing_from, listing_of}
-use Rattle.zl_asm.specs.Denotes.{Denotes, fields_of}
+use Rattle.zl_asm.specs.Lines.{Line, Blank, Declares, all_of}
+use Rattle.zl_asm.specs.Listing.{mark_in, memory_in, budget_in, need_in, start_in, slots_in, source_in, given, declares, labels_from, names_once, resolved, listing_from, listing_of}
+use Rattle.zl_asm.specs.Denotes.{fields_of}
 use Rattle.zl_asm.specs.Canonical.{directive_lines, code_lines, text_of, EachTextDenotes}
 use Rattle.zl_asm.proofs.RoundLines.{Say, says_nothing, says_line, says_both, listing_of-lines}
 use Rattle.zl_asm.proofs.RoundDirectives.{mark_said, memory_said, budget_said, printed-decimal, needs_said, starts_said, slots_said}

@@ -1,8 +1,7 @@
 -- The words of a line that was written with spaces and commas between plain words.
-use Rattle.std.proofs.Common.{◌≡◌, ℕ, Bool, true, false, ◌&&◌, ◌==◌, not, eqb, List, [], ◌∷◌, ◌++◌, codes, Option, Some, None, refl, sym, ap, ◌∙◌, nat_lt, arith, append_assoc, append-nil}
-use Rattle.std.specs.Prelude.{option_map, if◌then◌else◌}
-use Rattle.std.specs.List.{list_all, starts_with}
-use Rattle.std.proofs.lemmas.Bool.{and_parts, eqb-true, not-true}
+use Rattle.std.proofs.Common.{◌≡◌, ℕ, Bool, true, false, ◌&&◌, ◌==◌, not, List, [], ◌∷◌, ◌++◌, codes, Some, refl, sym, ap, ◌∙◌, nat_lt, append_assoc, append-nil}
+use Rattle.std.specs.List.{list_all}
+use Rattle.std.proofs.lemmas.Bool.{and_parts, not-true}
 use Rattle.zl_asm.specs.Words.{is_word, comma, word_before, words_from, words_of}
 use Rattle.zl_asm.specs.Lines.{operands_after, operands_of}
 use Rattle.zl_asm.specs.Canonical.{joined}

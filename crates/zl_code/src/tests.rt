@@ -266,6 +266,66 @@ fn each_byte_changed(rt: HostRuntime) -> Result<(), Fail> {
     Ok(())
 }
 
+/// The image of `DECLARED`, one thing after the other.
+fn declared_again(alloc: Global) -> Result<Vec<u8>, DecodeFault> {
+    let declared = decode(alloc, &DECLARED)?;
+    let mut image = Image::new(alloc);
+    image.set_budget(100);
+    for condition in [
+        Condition::NewProcess,
+        Condition::NewEvent,
+        Condition::NewAny,
+        Condition::NewPort,
+        Condition::NewChannel,
+        Condition::NewEvent,
+    ] {
+        image.add_need(condition);
+    }
+    for start in declared.starts() {
+        if start.is_in_range() && image.starts().len() < Image::MOST_STARTS {
+            image.push_start(*start)?;
+        }
+    }
+    for array in declared.slots() {
+        if array.is_in_range() && image.slots().len() < Image::MOST_SLOT_ARRAYS {
+            image.push_slots(*array)?;
+        }
+    }
+    for instr in declared.code() {
+        let again = Instr::from_bytes(false, instr.to_bytes())?;
+        if image.len() < Image::MOST_INSTRUCTIONS {
+            image.push_instr(again)?;
+        }
+    }
+    Ok(encode(alloc, &image)?)
+}
+
+/// It passes whichever allocation is refused: the answer is the image or `NoMemory`.
+#[test]
+fn built_one_by_one(rt: HostRuntime) {
+    match declared_again(rt.alloc()) {
+        Ok(bytes) => assert_eq!(rt; bytes.as_slice(), DECLARED.as_slice()),
+        Err(fault) => assert_eq!(rt; fault, DecodeFault::NoMemory),
+    }
+}
+
+#[test]
+fn rows_by_name(rt: HostRuntime) {
+    assert!(rt;
+        matches!(
+            Row::named(b"chan_write"),
+            Some(Row {
+                opcode: 68,
+                registers: 4,
+                ending: Ending::Handles,
+                ..
+            })
+        )
+    );
+    assert!(rt; Row::named(b"chan").is_none());
+    assert!(rt; Row::of_opcode(0x53).is_some_and(|row| row.name == "process_exit"));
+}
+
 /// It passes whichever allocation is refused: the answer is the image or `NoMemory`.
 #[test]
 fn refused_memory(rt: HostRuntime) {

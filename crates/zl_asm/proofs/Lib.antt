@@ -16,3 +16,5 @@ mod RoundDirectives
 mod RoundBody
 mod RoundListing
 mod RoundWhole
+mod Joined
+mod Laid

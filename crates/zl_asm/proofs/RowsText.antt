@@ -1,5 +1,5 @@
 -- Worked examples of the assembler's text, by computation.
-use Rattle.std.proofs.Common.{◌≡◌, ℕ, List, [], ◌∷◌, ◌++◌, refl}
+use Rattle.std.proofs.Common.{◌≡◌, ℕ, List, [], ◌∷◌, refl}
 use Rattle.std.specs.Prelude.{codes, true, false, Some, None}
 use Rattle.std.specs.Fmt.{digits}
 use Rattle.zl_code.specs.Instructions.{row_of, row_named}
@@ -12,7 +12,7 @@ use Rattle.zl_code.proofs.Stored.{image}
 use Rattle.zl_asm.specs.Words.{is_word, words_from, digit_of, value_from, number_of, register_of, is_name, hex_bytes}
 use Rattle.zl_asm.specs.Lines.{kind_of, directive_of, operands_after, operands_of, all_of, tail_of, source_of, unknown_of, label_of, line_of}
 use Rattle.zl_asm.specs.Listing.{directives_first, labels_from, names_once, listing_from, listing_of}
-use Rattle.zl_asm.specs.Denotes.{Denotes, fields_of}
+use Rattle.zl_asm.specs.Denotes.{Denotes}
 use Rattle.zl_asm.specs.Canonical.{joined, tail_texts, code_lines_from, text_of}
 
 -- all that the reading of a text unfolds

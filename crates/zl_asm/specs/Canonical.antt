@@ -1,5 +1,5 @@
 -- The text of an image as the disassembler lays it out.
-use Rattle.std.specs.Prelude.{ℕ, zero, suc, ◌≡◌, ◌+◌, ◌/◌, ◌%◌, Bool, true, false, ◌&&◌, not, ◌==◌, nat_lt, List, [], ◌∷◌, ◌++◌, codes, map, filter, length, take, drop, slice_index, Option, Some, None, if◌then◌else◌, IsTrue}
+use Rattle.std.specs.Prelude.{ℕ, suc, ◌+◌, ◌/◌, ◌%◌, Bool, true, false, ◌&&◌, not, ◌==◌, nat_lt, List, [], ◌∷◌, ◌++◌, codes, map, filter, length, take, slice_index, Option, Some, None, if◌then◌else◌, IsTrue}
 use Rattle.std.specs.List.{flat_map, list_any}
 use Rattle.std.specs.Fmt.{decimal}
 use Rattle.zl_rights.specs.declared.kind.Kind.{Kind}

@@ -5,3 +5,4 @@ pub mod Listing
 pub mod Denotes
 pub mod Canonical
 pub mod Causes
+pub mod Pieces

@@ -1,5 +1,5 @@
 -- What all lines of a program's text give together: the fields of an image.
-use Rattle.std.specs.Prelude.{ℕ, zero, suc, Bool, true, false, ◌&&◌, not, ◌==◌, nat_le, List, [], ◌∷◌, ◌++◌, map, length, take, drop, Option, Some, None, is_some, if◌then◌else◌}
+use Rattle.std.specs.Prelude.{ℕ, suc, Bool, true, false, ◌&&◌, not, ◌==◌, nat_le, List, [], ◌∷◌, ◌++◌, length, take, Option, Some, None, is_some, if◌then◌else◌}
 use Rattle.std.specs.Option.{option_map}
 use Rattle.std.specs.List.{flat_map, find, list_all}
 use Rattle.std.specs.Cmp.Lexicographic.{pointwise}
@@ -8,10 +8,9 @@ use Rattle.zl_code.specs.declared.image.Start.{Start}
 use Rattle.zl_code.specs.declared.image.SlotArray.{SlotArray}
 use Rattle.zl_code.specs.Image.{needs_named}
 use Rattle.zl_code.specs.Spells.{bytes_of, instr_fault}
-use Rattle.zl_asm.specs.declared.directive.Directive.{Directive}
 use Rattle.zl_asm.specs.declared.directive.Directive.TheVariants as directive
 use Rattle.zl_asm.specs.Words.{lines_of, words_of, is_ascii}
-use Rattle.zl_asm.specs.Lines.{Line, Blank, Declares, Label, Code, Source, line_of, all_of, if_fits, then_with}
+use Rattle.zl_asm.specs.Lines.{Line, Declares, Label, Code, Source, line_of, all_of, if_fits, then_with}
 
 -- the fields of an image, each instruction as its 16 bytes
 pub record Listing : Type 0 where

@@ -1,5 +1,4 @@
 -- What the lines that were read stand for.
-use Rattle.std.specs.Prelude.{Option, Some, None}
 use Rattle.std.specs.Option.{option_map}
 use Rattle.zl_asm.specs.declared.line.Line.{Line as ReadLine}
 use Rattle.zl_asm.specs.declared.line.Line.TheVariants as read

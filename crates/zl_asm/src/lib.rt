@@ -2,10 +2,12 @@
 #![tactic(auto)]
 
 mod directive;
+mod disassembling;
 mod fault;
 pub mod laws;
 mod line;
 mod numbers;
 mod words;
 
+pub use disassembling::disassemble;
 pub use fault::{AsmCause, AsmFault};

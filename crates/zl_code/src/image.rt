@@ -1,5 +1,6 @@
-ghost use Rattle.std.specs.Prelude.{◌≡◌, ◌≤◌, ◌<◌, ◌==◌, length, OnSome};
+ghost use Rattle.std.specs.Prelude.{◌≡◌, ◌≤◌, ◌<◌, ◌==◌, length, OnSome, IsTrue};
 ghost use Rattle.zl_code.specs.Image.{instr_at, local_at, call_at, is_among};
+ghost use Rattle.zl_code.specs.Spells.{is_in_range};
 ghost use Rattle.zl_code.specs.declared.image.DecodeFault.TheVariants.{NoMemory};
 
 use crate::instr::{CallInstr, Instr, LocalInstr};
@@ -152,6 +153,8 @@ impl Image {
     pub fn code(&self) -> &[Instr]
         ensures value { result.now ≡ self.now.code }
         ensures most { length result.now ≤ 4096 }
+        // What is public of the invariant: each field is in its range.
+        ensures in_range { IsTrue (is_in_range self.now) }
     {
         &self.code
     }

@@ -1,0 +1,163 @@
+-- The text of an image, piece by piece.
+use Rattle.std.proofs.Common.{◌≡◌, ℕ, suc, ◌+◌, ◌<◌, Bool, true, false, ◌||◌, cond, List, [], ◌∷◌, ◌++◌, codes, length, map, take, drop, get_or, refl, sym, ap, ◌∙◌, arith, IsTrue, append_assoc, append-nil}
+use Rattle.std.specs.List.{flat_map, list_any}
+use Rattle.std.specs.Fmt.{decimal}
+use Rattle.std.proofs.lemmas.Grind.{flat_map-append}
+use Rattle.std.proofs.lemmas.List.{take_more, at_drop_more}
+use Rattle.zl_rights.specs.declared.policy.Condition.{Condition}
+use Rattle.zl_rights.specs.declared.policy.Condition.TheVariants as condition
+use Rattle.zl_rights.specs.Names.{condition_name}
+use Rattle.zl_rights.specs.Numbers.{bits}
+use Rattle.zl_code.specs.declared.image.Start.{Start}
+use Rattle.zl_code.specs.declared.image.SlotArray.{SlotArray}
+use Rattle.zl_code.specs.Image.{Image, is_among, needs_named}
+use Rattle.zl_code.specs.Spells.{instr_bytes, is_in_range}
+use Rattle.zl_code.proofs.ImageNeeds.{needs_named-needs}
+use Rattle.zl_code.proofs.ImageRanges.{ranges}
+use Rattle.zl_asm.specs.Canonical.{kind_text, label_text, directive_lines, is_target, aims_at, label_lines, instr_text, code_lines_from, code_lines, text_of}
+use Rattle.zl_asm.specs.Pieces.{ended, fields_text, need_text, needs_text, start_text, slots_text, directives_text, line_text, TargetsAre}
+
+-- ---- instructions
+
+label_ended : (n : ℕ) (is_target : Bool) → ended (cond is_target ((label_text n ++ codes ":") ∷ []) []) ≡ cond is_target (label_text n ++ codes ":\n") []
+label_ended n true = append-nil ((label_text n ++ codes ":") ++ codes "\n") ∙ append_assoc (label_text n) (codes ":") (codes "\n")
+label_ended n false = refl
+
+-- the next instruction, and the others
+next_line : (code : List (List ℕ)) (n : ℕ) (bytes : List ℕ) (rest : List (List ℕ))
+    → ended (code_lines_from code n (bytes ∷ rest)) ≡ line_text (length code) n (is_target code n) bytes ++ ended (code_lines_from code (suc n) rest)
+unfolding code_lines_from
+next_line code n bytes rest =
+    let line = instr_text (length code) bytes in
+    let others = ended (code_lines_from code (suc n) rest) in
+    flat_map-append (λ l. l ++ codes "\n") (label_lines code n) (line ∷ code_lines_from code (suc n) rest)
+    ∙ ap (λ (x : List ℕ). x ++ ((line ++ codes "\n") ++ others)) (label_ended n (is_target code n))
+    ∙ sym (append_assoc (cond (is_target code n) (label_text n ++ codes ":\n") []) (line ++ codes "\n") others)
+
+module _ (code : List (List ℕ)) (i : ℕ) (d : List ℕ) (within : i < length code) where
+  -- one more line was written
+  pub line_written : (start text new : List ℕ) → text ++ ended (code_lines_from code i (drop i code)) ≡ start → new ≡ text ++ line_text (length code) i (is_target code i) (get_or code i d)
+      → new ++ ended (code_lines_from code (i + 1) (drop (i + 1) code)) ≡ start
+  line_written start text new before written =
+      let here : code_lines_from code i (drop i code) ≡ code_lines_from code i (get_or code i d ∷ drop (i + 1) code) = at_drop_more (code_lines_from code i) code i d within in
+      let step : i + 1 ≡ suc i = omega arith in
+      ap (λ (x : List ℕ). x ++ ended (code_lines_from code (i + 1) (drop (i + 1) code))) written
+      ∙ append_assoc text (line_text (length code) i (is_target code i) (get_or code i d)) (ended (code_lines_from code (i + 1) (drop (i + 1) code)))
+      ∙ (λ k. text ++ (line_text (length code) i (is_target code i) (get_or code i d) ++ ended (code_lines_from code (step k) (drop (i + 1) code))))
+      ∙ ap (λ (x : List ℕ). text ++ x) (sym (next_line code i (get_or code i d) (drop (i + 1) code)) ∙ ap ended (sym here))
+      ∙ before
+
+-- ---- targets
+
+any_more : (p : List ℕ → Bool) (xs : List (List ℕ)) (x : List ℕ) → list_any p (xs ++ (x ∷ [])) ≡ (list_any p xs || p x)
+any_more p [] x = or_false (p x)
+  where
+    or_false : (b : Bool) → (b || false) ≡ b
+    or_false true = refl
+    or_false false = refl
+any_more p (y ∷ xs) x = by (p y) (any_more p xs x)
+  where
+    by : (b : Bool) → list_any p (xs ++ (x ∷ [])) ≡ (list_any p xs || p x) → (b || list_any p (xs ++ (x ∷ []))) ≡ ((b || list_any p xs) || p x)
+    by true e = refl
+    by false e = e
+
+-- one more instruction was looked at
+pub targets_more : (old new : List Bool) (code : List (List ℕ)) (count i : ℕ) (d : List ℕ) → i < length code → TargetsAre old (take i code) count → length new ≡ length old
+    → ((n : ℕ) → n < length old → get_or new n false ≡ (get_or old n false || aims_at n (get_or code i d))) → TargetsAre new (take (i + 1) code) count
+targets_more old new code count i d within before len each = record {
+  len = len ∙ before.len;
+  each = λ n below.
+      each n (omega (arith, before.len)) ∙ ap (λ (b : Bool). b || aims_at n (get_or code i d)) (before.each n below)
+      ∙ sym (ap (λ (xs : List (List ℕ)). is_target xs n) (take_more code i d within) ∙ any_more (aims_at n) (take i code) (get_or code i d));
+}
+
+-- ---- directives
+
+mapped_ended : {X : Type 0} (line text : X → List ℕ) → ((x : X) → line x ++ codes "\n" ≡ text x) → (xs : List X) → ended (map line xs) ≡ flat_map text xs
+mapped_ended line text same [] = refl
+mapped_ended line text same (x ∷ xs) = λ k. same x k ++ mapped_ended line text same xs k
+
+need_ended : (c : Condition) → (codes ".need " ++ condition_name c) ++ codes "\n" ≡ need_text c
+need_ended c = append_assoc (codes ".need ") (condition_name c) (codes "\n")
+
+start_ended : (s : Start) → (codes ".start " ++ (kind_text s.kind ++ (codes " " ++ decimal (bits s.rights)))) ++ codes "\n" ≡ start_text s
+start_ended s =
+    append_assoc (codes ".start ") (kind_text s.kind ++ (codes " " ++ decimal (bits s.rights))) (codes "\n")
+    ∙ ap (λ (x : List ℕ). codes ".start " ++ x) (append_assoc (kind_text s.kind) (codes " " ++ decimal (bits s.rights)) (codes "\n")
+    ∙ ap (λ (x : List ℕ). kind_text s.kind ++ x) (append_assoc (codes " ") (decimal (bits s.rights)) (codes "\n")))
+
+slots_ended : (s : SlotArray) → (codes ".slots " ++ (kind_text s.kind ++ (codes " " ++ (decimal s.length ++ (codes " " ++ decimal (bits s.rights)))))) ++ codes "\n" ≡ slots_text s
+slots_ended s =
+    let rights = decimal (bits s.rights) in
+    append_assoc (codes ".slots ") (kind_text s.kind ++ (codes " " ++ (decimal s.length ++ (codes " " ++ rights)))) (codes "\n")
+    ∙ ap (λ (x : List ℕ). codes ".slots " ++ x) (append_assoc (kind_text s.kind) (codes " " ++ (decimal s.length ++ (codes " " ++ rights))) (codes "\n")
+    ∙ ap (λ (x : List ℕ). kind_text s.kind ++ x) (append_assoc (codes " ") (decimal s.length ++ (codes " " ++ rights)) (codes "\n")
+    ∙ ap (λ (x : List ℕ). codes " " ++ x) (append_assoc (decimal s.length) (codes " " ++ rights) (codes "\n")
+    ∙ ap (λ (x : List ℕ). decimal s.length ++ x) (append_assoc (codes " ") rights (codes "\n")))))
+
+-- the lines of the needs that are among some
+filtered_needs : (a b c d : Bool) → flat_map need_text (cond a (condition.NewChannel ∷ cond b (condition.NewEvent ∷ cond c (condition.NewPort ∷ cond d (condition.NewProcess ∷ []) []) (cond d (condition.NewProcess ∷ []) [])) (cond c (condition.NewPort ∷ cond d (condition.NewProcess ∷ []) []) (cond d (condition.NewProcess ∷ []) []))) (cond b (condition.NewEvent ∷ cond c (condition.NewPort ∷ cond d (condition.NewProcess ∷ []) []) (cond d (condition.NewProcess ∷ []) [])) (cond c (condition.NewPort ∷ cond d (condition.NewProcess ∷ []) []) (cond d (condition.NewProcess ∷ []) []))))
+    ≡ cond a (need_text condition.NewChannel) [] ++ (cond b (need_text condition.NewEvent) [] ++ (cond c (need_text condition.NewPort) [] ++ cond d (need_text condition.NewProcess) []))
+filtered_needs true true true true = refl
+filtered_needs true true true false = refl
+filtered_needs true true false true = refl
+filtered_needs true true false false = refl
+filtered_needs true false true true = refl
+filtered_needs true false true false = refl
+filtered_needs true false false true = refl
+filtered_needs true false false false = refl
+filtered_needs false true true true = refl
+filtered_needs false true true false = refl
+filtered_needs false true false true = refl
+filtered_needs false true false false = refl
+filtered_needs false false true true = refl
+filtered_needs false false true false = refl
+filtered_needs false false false true = refl
+filtered_needs false false false false = refl
+
+needs_ended : (needs : List Condition) → needs_named needs ≡ needs → ended (map (λ c. codes ".need " ++ condition_name c) needs) ≡ needs_text needs
+needs_ended needs same =
+    mapped_ended (λ c. codes ".need " ++ condition_name c) need_text need_ended needs
+    ∙ ap (flat_map need_text) (sym same)
+    ∙ filtered_needs (is_among needs condition.NewChannel) (is_among needs condition.NewEvent) (is_among needs condition.NewPort) (is_among needs condition.NewProcess)
+
+both_ended : (front back : List (List ℕ)) → ended (front ++ back) ≡ ended front ++ ended back
+both_ended front back = flat_map-append (λ line. line ++ codes "\n") front back
+
+numbers_ended : (memory budget rest : List ℕ) → ((codes ".memory " ++ memory) ++ codes "\n") ++ (((codes ".budget " ++ budget) ++ codes "\n") ++ rest)
+    ≡ (codes ".memory " ++ (memory ++ (codes "\n.budget " ++ (budget ++ codes "\n")))) ++ rest
+numbers_ended memory budget rest =
+    append_assoc (codes ".memory " ++ memory) (codes "\n") (((codes ".budget " ++ budget) ++ codes "\n") ++ rest)
+    ∙ append_assoc (codes ".memory ") memory (codes "\n" ++ (((codes ".budget " ++ budget) ++ codes "\n") ++ rest))
+    ∙ ap (λ (x : List ℕ). codes ".memory " ++ (memory ++ (codes "\n" ++ x))) (append_assoc (codes ".budget " ++ budget) (codes "\n") rest
+    ∙ append_assoc (codes ".budget ") budget (codes "\n" ++ rest)
+    ∙ ap (λ (x : List ℕ). codes ".budget " ++ x) (sym (append_assoc budget (codes "\n") rest)))
+    ∙ sym (ap (λ (x : List ℕ). codes ".memory " ++ x) (append_assoc memory (codes "\n.budget " ++ (budget ++ codes "\n")) rest))
+
+fields_ended : (raw : Bool) (memory budget rest : List ℕ) → ended (cond raw (codes ".raw" ∷ []) []) ++ (((codes ".memory " ++ memory) ++ codes "\n") ++ (((codes ".budget " ++ budget) ++ codes "\n") ++ rest))
+    ≡ (cond raw (codes ".raw\n") [] ++ (codes ".memory " ++ (memory ++ (codes "\n.budget " ++ (budget ++ codes "\n"))))) ++ rest
+fields_ended true memory budget rest = ap (λ (x : List ℕ). codes ".raw\n" ++ x) (numbers_ended memory budget rest)
+fields_ended false memory budget rest = numbers_ended memory budget rest
+
+pub directives_ended : (i : Image) → needs_named i.needs ≡ i.needs → ended (directive_lines i) ≡ directives_text i
+directives_ended i same =
+    let needs = map (λ c. codes ".need " ++ condition_name c) i.needs in
+    let starts = map (λ s. codes ".start " ++ (kind_text s.kind ++ (codes " " ++ decimal (bits s.rights)))) i.starts in
+    let slots = map (λ s. codes ".slots " ++ (kind_text s.kind ++ (codes " " ++ (decimal s.length ++ (codes " " ++ decimal (bits s.rights)))))) i.slots in
+    let lists : ended (needs ++ (starts ++ slots)) ≡ needs_text i.needs ++ (flat_map start_text i.starts ++ flat_map slots_text i.slots) =
+    both_ended needs (starts ++ slots)
+    ∙ (λ k. needs_ended i.needs same k ++ both_ended starts slots k)
+    ∙ (λ k. needs_text i.needs ++ (mapped_ended {X = Start} (λ s. codes ".start " ++ (kind_text s.kind ++ (codes " " ++ decimal (bits s.rights)))) start_text start_ended i.starts k ++ mapped_ended {X = SlotArray} (λ s. codes ".slots " ++ (kind_text s.kind ++ (codes " " ++ (decimal s.length ++ (codes " " ++ decimal (bits s.rights)))))) slots_text slots_ended i.slots k)) in
+    both_ended (cond i.raw (codes ".raw" ∷ []) []) ((codes ".memory " ++ decimal i.memory) ∷ (codes ".budget " ++ decimal i.budget) ∷ (needs ++ (starts ++ slots)))
+    ∙ fields_ended i.raw (decimal i.memory) (decimal i.budget) (ended (needs ++ (starts ++ slots)))
+    ∙ ap (λ (x : List ℕ). fields_text i.raw i.memory i.budget ++ x) lists
+
+-- the whole text
+pub text_written : (i : Image) (first last : List ℕ) → needs_named i.needs ≡ i.needs → first ≡ [] ++ directives_text i → last ≡ first ++ ended (code_lines (map instr_bytes i.code)) → last ≡ text_of i
+unfolding text_of
+text_written i first last same a b =
+    b ∙ ap (λ (x : List ℕ). x ++ ended (code_lines (map instr_bytes i.code))) (a ∙ sym (directives_ended i same)) ∙ sym (both_ended (directive_lines i) (code_lines (map instr_bytes i.code)))
+
+-- the needs of an image in range are in their order
+pub needs_in_range : (i : Image) → IsTrue (is_in_range i) → needs_named i.needs ≡ i.needs
+needs_in_range i h = needs_named-needs i.needs (ranges i h).needs

@@ -1,0 +1,6 @@
+use Rattle.std.proofs.Common.{◌≡◌, ◌++◌, take, string_bytes}
+use Rattle.zl_asm.specs.Canonical.{hex_text}
+use Rattle.zl_asm.proofs.disassembling.push_bytes.Given as goal
+
+abbrev pub invariant-loop-byte : goal.invariant-loop-byte
+invariant-loop-byte l = string_bytes l.text ≡ string_bytes l.fn.text ++ hex_text (take l.byte-index l.bytes)

@@ -1,0 +1,10 @@
+use Rattle.std.proofs.Common.{◌≡◌, ◌++◌, map, drop, string_bytes}
+use Rattle.zl_code.specs.Spells.{instr_bytes}
+use Rattle.zl_asm.specs.Canonical.{code_lines_from, code_lines}
+use Rattle.zl_asm.specs.Pieces.{ended}
+use Rattle.zl_asm.proofs.disassembling.push_code.Given as goal
+
+abbrev pub invariant-loop-n : goal.invariant-loop-n
+invariant-loop-n l =
+    string_bytes l.text ++ ended (code_lines_from (map instr_bytes l.code) l.n (drop l.n (map instr_bytes l.code)))
+    ≡ string_bytes l.fn.text ++ ended (code_lines (map instr_bytes l.code))

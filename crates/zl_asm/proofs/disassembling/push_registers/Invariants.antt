@@ -1,0 +1,6 @@
+use Rattle.std.proofs.Common.{◌≡◌, ◌++◌, codes, map, take, string_bytes}
+use Rattle.zl_asm.specs.Canonical.{joined, register_text}
+use Rattle.zl_asm.proofs.disassembling.push_registers.Given as goal
+
+abbrev pub invariant-loop-place : goal.invariant-loop-place
+invariant-loop-place l = string_bytes l.text ≡ string_bytes l.fn.text ++ joined (codes ", ") (map register_text (take l.place l.registers))

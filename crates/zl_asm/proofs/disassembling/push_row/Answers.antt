@@ -1,0 +1,15 @@
+use Rattle.std.proofs.Common.{◌≡◌, length, take, string_bytes, arith}
+use Rattle.std.proofs.lemmas.List.{length-take-le}
+use Rattle.zl_code.specs.Spells.{reading_of}
+use Rattle.zl_asm.specs.Canonical.{tail_texts}
+use Rattle.zl_asm.proofs.Joined.{row_written}
+use Rattle.zl_asm.proofs.disassembling.push_row.Goals as goal
+
+pub returns : goal.returns
+returns c =
+    let registers = c.registers_in-registers.result in
+    let len : length (take c.args.row.registers registers) ≡ c.args.row.registers = length-take-le c.args.row.registers registers (omega (arith, c.requires)) in
+    let read : registers ≡ (reading_of c.args.bytes).registers = c.registers_in-registers.ensures in
+    rw read at (row_written (string_bytes c.args.text.now) c.args.row.name.now (string_bytes c.push_str.new.self) (string_bytes c.push_str-2.new.self) (string_bytes c.push_registers.new.text) (string_bytes c.push_tail.new.text) (take c.args.row.registers registers) c.separator_behind.result.now (tail_texts c.args.count c.args.row.ending (reading_of c.args.bytes))
+    (c.in_ok-push_str.ensures {u = tt}).bytes (c.in_ok-push_str-2.ensures {u = tt}).bytes (c.in_ok-push_registers.ensures {u = tt}) (c.in_ok-push_tail.ensures {u = tt})
+    (rw len c.separator_behind.ensures))

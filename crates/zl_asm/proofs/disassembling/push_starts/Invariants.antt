@@ -1,0 +1,7 @@
+use Rattle.std.proofs.Common.{◌≡◌, ◌++◌, take, string_bytes}
+use Rattle.std.specs.List.{flat_map}
+use Rattle.zl_asm.specs.Pieces.{start_text}
+use Rattle.zl_asm.proofs.disassembling.push_starts.Given as goal
+
+abbrev pub invariant-loop-start : goal.invariant-loop-start
+invariant-loop-start l = string_bytes l.text ≡ string_bytes l.fn.text ++ flat_map start_text (take l.start-index l.starts)

@@ -1,0 +1,7 @@
+use Rattle.std.proofs.Common.{length, map, take}
+use Rattle.zl_code.specs.Spells.{instr_bytes}
+use Rattle.zl_asm.specs.Pieces.{TargetsAre}
+use Rattle.zl_asm.proofs.disassembling.targets_of.Given as goal
+
+abbrev pub invariant-loop-instr : goal.invariant-loop-instr
+invariant-loop-instr l = TargetsAre l.targets.items (take l.instr-index (map instr_bytes l.code)) (length l.code)

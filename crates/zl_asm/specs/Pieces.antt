@@ -1,0 +1,62 @@
+-- The pieces of a text as the disassembler writes them, each line with its end.
+use Rattle.std.specs.Prelude.{ℕ, ◌≡◌, ◌<◌, Bool, false, List, [], ◌∷◌, ◌++◌, codes, map, length, take, get_or, if◌then◌else◌}
+use Rattle.std.specs.List.{flat_map}
+use Rattle.std.specs.Fmt.{decimal}
+use Rattle.zl_rights.specs.declared.policy.Condition.{Condition}
+use Rattle.zl_rights.specs.declared.policy.Condition.TheVariants as condition
+use Rattle.zl_rights.specs.Names.{condition_name}
+use Rattle.zl_rights.specs.Numbers.{bits}
+use Rattle.zl_code.specs.declared.image.Start.{Start}
+use Rattle.zl_code.specs.declared.image.SlotArray.{SlotArray}
+use Rattle.zl_code.specs.declared.layout.Ending.{Ending}
+use Rattle.zl_code.specs.Image.{Image, is_among}
+use Rattle.zl_code.specs.Spells.{reading_of}
+use Rattle.zl_asm.specs.Canonical.{kind_text, label_text, joined, register_text, tail_texts, instr_text, is_target}
+
+-- each line with its end
+abbrev pub ended : List (List ℕ) → List ℕ
+ended lines = flat_map (λ line. line ++ codes "\n") lines
+
+abbrev pub fields_text : Bool → ℕ → ℕ → List ℕ
+fields_text raw memory budget =
+    (if raw then codes ".raw\n" else []) ++ (codes ".memory " ++ (decimal memory ++ (codes "\n.budget " ++ (decimal budget ++ codes "\n"))))
+
+abbrev pub need_text : Condition → List ℕ
+need_text c = codes ".need " ++ (condition_name c ++ codes "\n")
+
+abbrev pub start_text : Start → List ℕ
+start_text s = codes ".start " ++ (kind_text s.kind ++ (codes " " ++ (decimal (bits s.rights) ++ codes "\n")))
+
+abbrev pub slots_text : SlotArray → List ℕ
+slots_text s = codes ".slots " ++ (kind_text s.kind ++ (codes " " ++ (decimal s.length ++ (codes " " ++ (decimal (bits s.rights) ++ codes "\n")))))
+
+-- the line of a need that is among these
+abbrev pub need_if_among : List Condition → Condition → List ℕ
+need_if_among needs c = if is_among needs c then need_text c else []
+
+abbrev pub needs_text : List Condition → List ℕ
+needs_text needs =
+    need_if_among needs condition.NewChannel
+    ++ (need_if_among needs condition.NewEvent ++ (need_if_among needs condition.NewPort ++ need_if_among needs condition.NewProcess))
+
+abbrev pub directives_text : Image → List ℕ
+directives_text i = fields_text i.raw i.memory i.budget ++ (needs_text i.needs ++ (flat_map start_text i.starts ++ flat_map slots_text i.slots))
+
+-- operands behind others, from which the separator parts them
+abbrev pub behind : List ℕ → List (List ℕ) → List ℕ
+behind separator [] = []
+behind separator (word ∷ words) = separator ++ joined (codes ", ") (word ∷ words)
+
+-- an instruction of a row with this name, so many registers and this ending
+abbrev pub laid_out : ℕ → List ℕ → ℕ → Ending → List ℕ → List ℕ
+laid_out count name registers ending bytes =
+    name ++ (codes " " ++ joined (codes ", ") (map register_text (take registers (reading_of bytes).registers) ++ tail_texts count ending (reading_of bytes)))
+
+-- the line of instruction n, behind its label where a target names it
+abbrev pub line_text : ℕ → ℕ → Bool → List ℕ → List ℕ
+line_text count n is_target bytes = (if is_target then label_text n ++ codes ":\n" else []) ++ (instr_text count bytes ++ codes "\n")
+
+-- these marks say which of so many instructions a target of the code names
+pub record TargetsAre (targets : List Bool) (code : List (List ℕ)) (count : ℕ) : Type 0 where
+  pub len : length targets ≡ count
+  pub each : (n : ℕ) → n < count → get_or targets n false ≡ is_target code n

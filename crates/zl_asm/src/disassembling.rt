@@ -1,0 +1,370 @@
+//! The disassembler: an image to its text.
+
+ghost use Rattle.std.specs.Prelude.{◌≡◌, ◌≤◌, ◌<◌, ◌++◌, ◌∷◌, [], codes, map, filter, not, ◌==◌, length, take, IfOk, OnOk, IfSome, string_bytes, ℕ, ◌||◌, true, false, get_or, slice_index, IfNone, if◌then◌else◌};
+ghost use Rattle.std.specs.List.{flat_map};
+ghost use Rattle.zl_code.specs.Image.{is_among};
+ghost use Rattle.zl_code.specs.Instructions.{row_of};
+ghost use Rattle.zl_code.specs.Spells.{instr_bytes, reading_of};
+ghost use Rattle.zl_asm.specs.Denotes.{Denotes};
+ghost use Rattle.zl_asm.specs.Canonical.{kind_text, label_text, joined, register_text, target_text, tail_texts, instr_text, hex_text, hex_digit, aims, aims_at, code_lines, text_of};
+ghost use Rattle.zl_asm.specs.Pieces.{ended, fields_text, need_if_among, needs_text, start_text, slots_text, directives_text, behind, laid_out, line_text, TargetsAre};
+
+use bitflags::Flags;
+use std::alloc::{AllocError, Global};
+use zl_code::{Ending, Image, Instr, Row, SlotArray, Start};
+use zl_rights::{Condition, Kind};
+
+/// How many bytes an instruction has.
+const INSTR_LEN: usize = 16;
+
+/// The place of a list of handles that has no register.
+const NO_REGISTER: u8 = 0xff;
+
+/// Adds the marks and numbers of the image.
+fn push_fields(text: &mut String, image: &Image) -> Result<(), AllocError>
+    ensures { OnOk result (string_bytes text.new ≡ string_bytes text.old ++ fields_text image.now.raw image.now.memory image.now.budget) }
+{
+    if image.is_raw() {
+        text.push_str(".raw\n")?;
+    }
+    let memory = image.memory();
+    let budget = image.budget();
+    write!(text, ".memory {memory}\n.budget {budget}\n")
+}
+
+/// Adds the line of the need, if the image has it.
+fn push_need(text: &mut String, image: &Image, condition: Condition) -> Result<(), AllocError>
+    ensures { OnOk result (string_bytes text.new ≡ string_bytes text.old ++ need_if_among image.now.needs condition) }
+{
+    if !image.needs(condition) {
+        return Ok(());
+    }
+    let name = condition.name();
+    write!(text, ".need {name}\n")
+}
+
+/// Adds the lines of the needs.
+fn push_needs(text: &mut String, image: &Image) -> Result<(), AllocError>
+    ensures { OnOk result (string_bytes text.new ≡ string_bytes text.old ++ needs_text image.now.needs) }
+{
+    push_need(text, image, Condition::NewChannel)?;
+    push_need(text, image, Condition::NewEvent)?;
+    push_need(text, image, Condition::NewPort)?;
+    push_need(text, image, Condition::NewProcess)
+}
+
+/// The name of the kind; `any` where it is none in particular.
+fn kind_name(kind: Option<Kind>) -> &'static str
+    ensures { result.now ≡ kind_text kind }
+{
+    match kind {
+        Some(kind) => kind.name(),
+        None => "any",
+    }
+}
+
+/// Adds the line of a start handle.
+fn push_start(text: &mut String, start: Start) -> Result<(), AllocError>
+    ensures { OnOk result (string_bytes text.new ≡ string_bytes text.old ++ start_text start) }
+{
+    let kind = kind_name(start.kind);
+    let rights = start.rights.bits();
+    write!(text, ".start {kind} {rights}\n")
+}
+
+/// Adds the lines of the start handles.
+fn push_starts(text: &mut String, starts: &[Start]) -> Result<(), AllocError>
+    ensures { OnOk result (string_bytes text.new ≡ string_bytes text.old ++ flat_map start_text starts.now) }
+{
+    for start in starts {
+        push_start(text, *start)?;
+    }
+    Ok(())
+}
+
+/// Adds the line of a slot array.
+fn push_array(text: &mut String, array: SlotArray) -> Result<(), AllocError>
+    ensures { OnOk result (string_bytes text.new ≡ string_bytes text.old ++ slots_text array) }
+{
+    let kind = kind_name(array.kind);
+    let len = array.length;
+    let rights = array.rights.bits();
+    write!(text, ".slots {kind} {len} {rights}\n")
+}
+
+/// Adds the lines of the slot arrays.
+fn push_slots(text: &mut String, slots: &[SlotArray]) -> Result<(), AllocError>
+    ensures { OnOk result (string_bytes text.new ≡ string_bytes text.old ++ flat_map slots_text slots.now) }
+{
+    for array in slots {
+        push_array(text, *array)?;
+    }
+    Ok(())
+}
+
+/// Adds the lines of the directives.
+fn push_directives(text: &mut String, image: &Image) -> Result<(), AllocError>
+    ensures { OnOk result (string_bytes text.new ≡ string_bytes text.old ++ directives_text image.now) }
+{
+    push_fields(text, image)?;
+    push_needs(text, image)?;
+    push_starts(text, image.starts())?;
+    push_slots(text, image.slots())
+}
+
+/// The digit of a number below 16.
+fn hex_digit(number: u8) -> char
+    requires { number < 16 }
+    ensures { result ≡ hex_digit number }
+{
+    char::from(if number < 10 {
+        b'0' + number
+    } else {
+        b'a' - 10 + number
+    })
+}
+
+/// Adds the digits of the byte.
+fn push_hex(text: &mut String, byte: u8) -> Result<(), AllocError>
+    ensures { OnOk result (string_bytes text.new ≡ string_bytes text.old ++ hex_text (byte ∷ [])) }
+{
+    text.push(hex_digit(byte / 16))?;
+    text.push(hex_digit(byte % 16))
+}
+
+/// Adds the digits of the bytes.
+fn push_bytes(text: &mut String, bytes: &[u8]) -> Result<(), AllocError>
+    ensures { OnOk result (string_bytes text.new ≡ string_bytes text.old ++ hex_text bytes.now) }
+{
+    for byte in bytes {
+        push_hex(text, *byte)?;
+    }
+    Ok(())
+}
+
+/// The registers in the bytes of an instruction.
+fn registers_in(bytes: [u8; INSTR_LEN]) -> [u8; 7]
+    ensures { result ≡ (reading_of bytes).registers }
+{
+    let [_, a, b, c, d, e, f, g, _, _, _, _, _, _, _, _] = bytes;
+    [a, b, c, d, e, f, g]
+}
+
+/// The numbers in the last eight bytes of an instruction.
+fn numbers_in(bytes: [u8; INSTR_LEN]) -> (u32, u32)
+    ensures imm { result.0 ≡ (reading_of bytes).imm }
+    ensures target { result.1 ≡ (reading_of bytes).target }
+{
+    let [_, _, _, _, _, _, _, _, i0, i1, i2, i3, t0, t1, t2, t3] = bytes;
+    let imm = u32::from_le_bytes([i0, i1, i2, i3]);
+    let target = u32::from_le_bytes([t0, t1, t2, t3]);
+    (imm, target)
+}
+
+/// The places of a list of handles in the last eight bytes.
+fn places_in(bytes: [u8; INSTR_LEN]) -> [u8; 8]
+    ensures { result ≡ (reading_of bytes).places }
+{
+    let [_, _, _, _, _, _, _, _, a, b, c, d, e, f, g, h] = bytes;
+    [a, b, c, d, e, f, g, h]
+}
+
+/// Adds the target: a label among so many instructions, and else a number.
+fn push_target(text: &mut String, count: usize, target: u32) -> Result<(), AllocError>
+    ensures { OnOk result (string_bytes text.new ≡ string_bytes text.old ++ target_text count target) }
+{
+    if (target as usize) < count {
+        write!(text, "l{target}")
+    } else {
+        write!(text, "{target}")
+    }
+}
+
+/// What stands between so many registers and the operand behind them.
+fn separator_behind(registers: usize) -> &'static str
+    ensures { result.now ≡ (if registers == 0 then [] else codes ", ") }
+{
+    if registers == 0 { "" } else { ", " }
+}
+
+/// Adds the register behind the separator.
+fn push_register(text: &mut String, separator: &str, register: u8) -> Result<(), AllocError>
+    ensures { OnOk result (string_bytes text.new ≡ string_bytes text.old ++ (separator.now ++ register_text register)) }
+{
+    write!(text, "{separator}r{register}")
+}
+
+/// Adds the registers, with commas between them.
+fn push_registers(text: &mut String, registers: &[u8]) -> Result<(), AllocError>
+    ensures { OnOk result (string_bytes text.new ≡ string_bytes text.old ++ joined (codes ", ") (map register_text registers.now)) }
+{
+    for (place, register) in registers.iter().enumerate() {
+        push_register(text, separator_behind(place), *register)?;
+    }
+    Ok(())
+}
+
+/// Adds the registers of a list of handles, the first of them behind the separator.
+fn push_places<'a>(text: &mut String, separator: &'a str, places: &[u8]) -> Result<(), AllocError>
+    ensures { OnOk result (string_bytes text.new ≡ string_bytes text.old ++ behind separator.now (map register_text (filter (λ place. not (place == 255)) places.now))) }
+{
+    let mut between = separator;
+    for place in places {
+        if *place != NO_REGISTER {
+            push_register(text, between, *place)?;
+            between = ", ";
+        }
+    }
+    Ok(())
+}
+
+/// Adds the operands behind the registers, from which the separator parts them.
+#[tactic(auto, unfolding(crate::specs::Canonical::tail_texts, crate::specs::Canonical::joined))]
+fn push_tail(
+    text: &mut String,
+    separator: &str,
+    count: usize,
+    ending: Ending,
+    bytes: [u8; INSTR_LEN],
+) -> Result<(), AllocError>
+    ensures { OnOk result (string_bytes text.new ≡ string_bytes text.old ++ behind separator.now (tail_texts count ending (reading_of bytes))) }
+{
+    let (imm, target) = numbers_in(bytes);
+    match ending {
+        Ending::Nothing => Ok(()),
+        Ending::Number | Ending::Room => write!(text, "{separator}{imm}"),
+        Ending::Target => {
+            text.push_str(separator)?;
+            push_target(text, count, target)
+        }
+        Ending::Both => {
+            write!(text, "{separator}{imm}, ")?;
+            push_target(text, count, target)
+        }
+        Ending::Handles => push_places(text, separator, &places_in(bytes)),
+    }
+}
+
+/// Adds an instruction of the row.
+fn push_row(
+    text: &mut String,
+    count: usize,
+    row: Row,
+    bytes: [u8; INSTR_LEN],
+) -> Result<(), AllocError>
+    requires { row.registers ≤ 7 }
+    ensures { OnOk result (string_bytes text.new ≡ string_bytes text.old ++ laid_out count row.name.now row.registers row.ending bytes) }
+{
+    let registers = registers_in(bytes);
+    text.push_str(row.name)?;
+    text.push_str(" ")?;
+    push_registers(text, &registers[..row.registers])?;
+    push_tail(
+        text,
+        separator_behind(row.registers),
+        count,
+        row.ending,
+        bytes,
+    )?;
+    Ok(())
+}
+
+/// Adds the digits of an instruction with an unknown opcode.
+fn push_unknown(text: &mut String, bytes: [u8; INSTR_LEN]) -> Result<(), AllocError>
+    ensures { OnOk result (string_bytes text.new ≡ string_bytes text.old ++ (codes ".bytes " ++ hex_text bytes)) }
+{
+    text.push_str(".bytes ")?;
+    push_bytes(text, &bytes)
+}
+
+/// Adds an instruction, one of so many.
+fn push_instr(text: &mut String, count: usize, bytes: [u8; INSTR_LEN]) -> Result<(), AllocError>
+    ensures { OnOk result (string_bytes text.new ≡ string_bytes text.old ++ instr_text count bytes) }
+{
+    match Row::of_opcode(bytes[0]) {
+        Some(row) => push_row(text, count, row, bytes),
+        None => push_unknown(text, bytes),
+    }
+}
+
+/// Adds the line of instruction n, behind its label where a target names it.
+fn push_line(
+    text: &mut String,
+    count: usize,
+    n: usize,
+    is_target: bool,
+    instr: Instr,
+) -> Result<(), AllocError>
+    ensures { OnOk result (string_bytes text.new ≡ string_bytes text.old ++ line_text count n is_target (instr_bytes instr)) }
+{
+    if is_target {
+        write!(text, "l{n}:\n")?;
+    }
+    push_instr(text, count, instr.to_bytes())?;
+    text.push_str("\n")
+}
+
+/// Adds the lines of the instructions; `targets` says which of them a target names.
+fn push_code(text: &mut String, code: &[Instr], targets: &[bool]) -> Result<(), AllocError>
+    requires { TargetsAre targets.now (map instr_bytes code.now) (length code.now) }
+    ensures { OnOk result (string_bytes text.new ≡ string_bytes text.old ++ ended (code_lines (map instr_bytes code.now))) }
+{
+    for (n, instr) in code.iter().enumerate() {
+        push_line(text, code.len(), n, targets[n], *instr)?;
+    }
+    Ok(())
+}
+
+/// The target of the instruction, if it has one.
+fn target_of(bytes: [u8; INSTR_LEN]) -> Option<u32>
+    ensures target { IfSome result (λ target. (aims (row_of (slice_index bytes 0)) ≡ true) × (target ≡ (reading_of bytes).target)) }
+    ensures none { IfNone result (aims (row_of (slice_index bytes 0)) ≡ false) }
+{
+    let (_, target) = numbers_in(bytes);
+    match Row::of_opcode(bytes[0])?.ending {
+        Ending::Target | Ending::Both => Some(target),
+        Ending::Nothing | Ending::Number | Ending::Room | Ending::Handles => None,
+    }
+}
+
+/// Marks the target of the instruction, where it is one of those that are marked so.
+fn mark(targets: &mut Vec<bool>, instr: Instr)
+    ensures len { length targets.new.items ≡ length targets.old.items }
+    ensures marked { (n : ℕ) → n < length targets.old.items → get_or targets.new.items n false ≡ (get_or targets.old.items n false || aims_at n (instr_bytes instr)) }
+{
+    let Some(target) = target_of(instr.to_bytes()) else {
+        return;
+    };
+    let place = target as usize;
+    if place < targets.len() {
+        targets[place] = true;
+    }
+}
+
+/// Which of the instructions a target names.
+fn targets_of(alloc: Global, code: &[Instr]) -> Result<Vec<bool>, AllocError>
+    ensures { IfOk result (λ targets. TargetsAre targets.items (map instr_bytes code.now) (length code.now)) }
+{
+    let mut targets = vec![in alloc; false; code.len()]?;
+    for instr in code {
+        mark(&mut targets, *instr);
+    }
+    Ok(targets)
+}
+
+/// The text of the image: its directives in the order of the grammar, with `.memory` and `.budget`
+/// always there, and then its instructions, with a label `lN:` before instruction N where a target
+/// names it. The error says that memory was refused. The layout is own profile.
+pub fn disassemble(alloc: Global, image: &Image) -> Result<String, AllocError>
+    // It is laid out so.
+    ensures text { IfOk result (λ text. string_bytes text ≡ text_of image.now) }
+    // And it denotes the image.
+    ensures denotes { IfOk result (λ text. Denotes (string_bytes text) image.now) }
+{
+    let mut text = String::new(alloc);
+    push_directives(&mut text, image)?;
+    let code = image.code();
+    let targets = targets_of(alloc, code)?;
+    push_code(&mut text, code, targets.as_slice())?;
+    Ok(text)
+}

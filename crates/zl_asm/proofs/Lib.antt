@@ -1,5 +1,8 @@
 mod RowsText
 pub mod ListingBytes
+mod Answered
+mod LineOperands
+mod WordsHex
 mod WordsNumber
 mod WordsSplit
 mod OneImage

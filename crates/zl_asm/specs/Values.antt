@@ -3,7 +3,8 @@ use Rattle.std.specs.Option.{option_map}
 use Rattle.zl_asm.specs.declared.line.Line.{Line as ReadLine}
 use Rattle.zl_asm.specs.declared.line.Line.TheVariants as read
 use Rattle.zl_asm.specs.declared.line.Source.{Source as ReadSource}
-use Rattle.zl_asm.specs.Lines.{Line, Blank, Declares, Label, Code, Source}
+use Rattle.zl_asm.specs.declared.operands.Tail.{Tail as ReadTail}
+use Rattle.zl_asm.specs.Lines.{Line, Blank, Declares, Label, Code, Source, Tail}
 
 abbrev pub source_value : ReadSource → Source
 source_value s = record { bytes = s.bytes; label = option_map (λ name. name.now) s.label }
@@ -13,3 +14,6 @@ line_value read.Blank = Blank
 line_value (read.Declares d) = Declares d
 line_value (read.Label name) = Label name.now
 line_value (read.Code s) = Code (source_value s)
+
+abbrev pub tail_value : ReadTail → Tail
+tail_value t = record { bytes = t.bytes; label = option_map (λ name. name.now) t.label }

@@ -1,5 +1,8 @@
 ghost use Rattle.std.specs.Prelude.{◌≡◌};
 ghost use Rattle.zl_asm.specs.Causes.{cause_name};
+ghost use Rattle.zl_asm.specs.declared.fault.AsmCause.TheVariants.{NoMemory};
+
+use std::alloc::{AllocError, AllocFailed};
 
 /// Why a text denotes no image, or want of memory.
 #[derive(Clone, Copy, PartialEq, Eq, Debug)]
@@ -44,5 +47,21 @@ impl AsmCause {
             AsmCause::Limit => "Limit",
             AsmCause::NoMemory => "NoMemory",
         }
+    }
+}
+
+impl From<AllocError> for AsmCause {
+    ghost from_gives = { λ _ cause. cause ≡ NoMemory };
+
+    fn from(_error: AllocError) -> AsmCause {
+        AsmCause::NoMemory
+    }
+}
+
+impl<T: Drop> From<AllocFailed<T>> for AsmCause {
+    ghost from_gives = { λ _ cause. cause ≡ NoMemory };
+
+    fn from(_error: AllocFailed<T>) -> AsmCause {
+        AsmCause::NoMemory
     }
 }

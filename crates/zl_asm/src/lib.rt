@@ -7,6 +7,7 @@ mod fault;
 pub mod laws;
 mod line;
 mod numbers;
+mod operands;
 mod words;
 
 pub use disassembling::disassemble;

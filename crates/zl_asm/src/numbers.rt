@@ -1,28 +1,29 @@
 //! Numbers, registers, names and hexadecimal digits.
-ghost use Rattle.std.specs.Prelude.{◌≡◌, ◌<◌, Some, IfSome};
+ghost use Rattle.std.specs.Prelude.{◌≡◌, ◌<◌, ◌==◌, [], ◌∷◌, length, Some, IfSome};
+ghost use Rattle.std.specs.Option.{option_map};
 ghost use Rattle.std.specs.List.{list_all};
-ghost use Rattle.zl_asm.specs.Words.{digit_of, longer, value_of, number_of, register_of, is_name_byte, is_name};
-
-use zl_code::Register;
+ghost use Rattle.zl_asm.specs.Words.{digit_of, longer, value_of, number_of, register_of, is_name_byte, is_name, byte_before, hex_bytes};
+ghost use Rattle.zl_asm.specs.Lines.{if_fits};
 
 /// The value of a hexadecimal digit, in capital letters or not.
 #[tactic(auto, unfolding(crate::specs::Words::digit_of))]
-fn digit(byte: u8) -> Option<u32>
+fn digit(byte: u8) -> Option<u8>
     ensures value { result ≡ digit_of byte }
     ensures below { IfSome result (λ digit. digit < 16) }
 {
     match byte {
-        b'0'..=b'9' => Some(u32::from(byte - b'0')),
-        b'a'..=b'f' => Some(u32::from(byte - b'a' + 10)),
-        b'A'..=b'F' => Some(u32::from(byte - b'A' + 10)),
+        b'0'..=b'9' => Some(byte - b'0'),
+        b'a'..=b'f' => Some(byte - b'a' + 10),
+        b'A'..=b'F' => Some(byte - b'A' + 10),
         _ => None,
     }
 }
 
 /// The number with one more digit of the base at its end, if it is one and has 32 bits.
-fn longer(base: u32, value: u32, digit: u32) -> Option<u32>
+fn longer(base: u32, value: u32, digit: u8) -> Option<u32>
     ensures { result ≡ longer base value (Some digit) }
 {
+    let digit = u32::from(digit);
     if digit < base {
         value.checked_mul(base)?.checked_add(digit)
     } else {
@@ -93,4 +94,28 @@ fn are_of_name(bytes: &[u8]) -> bool
     ensures { result ≡ list_all is_name_byte bytes.now }
 {
     bytes.iter().all(|byte| byte.is_ascii_lowercase() || byte.is_ascii_digit() || *byte == b'_')
+}
+
+/// The 16 bytes that the hexadecimal digits spell, two digits a byte, if they spell so many.
+pub(crate) fn sixteen_bytes(digits: &[u8]) -> Option<[u8; 16]>
+    ensures { result ≡ if_fits (λ bytes. length bytes == 16) (hex_bytes digits.now) }
+{
+    if digits.len() != 32 {
+        return None;
+    }
+    let mut bytes = [0; 16];
+    for i in 0..16 {
+        let Some(byte) = byte_of(digits[2 * i], digits[2 * i + 1]) else {
+            return None;
+        };
+        bytes[i] = byte;
+    }
+    Some(bytes)
+}
+
+/// The byte of two hexadecimal digits.
+fn byte_of(high: u8, low: u8) -> Option<u8>
+    ensures { option_map (λ byte. byte ∷ []) result ≡ byte_before (digit_of high) (digit_of low) (Some []) }
+{
+    Some(digit(high)? * 16 + digit(low)?)
 }

@@ -1,0 +1,44 @@
+use Rattle.std.proofs.Common.{◌≡◌, ◌≤◌, map, true, Some, refl, sym, ap, ◌∙◌, inr, arith}
+use Rattle.std.proofs.lemmas.List.{map-append}
+use Rattle.std.proofs.lemmas.Bool.Decides.{nat_tests}
+use Rattle.zl_asm.specs.Lines.{operands_of}
+use Rattle.zl_asm.proofs.LineOperands.{texts, no_words, at_first, one_more, at_comma, at_words, at_last, at_last_comma, at_end}
+use Rattle.zl_asm.proofs.operands.split_operands.Goals as goal
+use Rattle.zl_asm.proofs.operands.split_operands.Goals.{then-is-via-then-is, then-is-via-else-is+then-not-is}
+
+pub returns-then-is_empty-clause-ok : goal.returns-then-is_empty-clause-ok
+returns-then-is_empty-clause-ok c = rw c.clear.ensures.items (no_words c.args.words.now (grind (arith, nat_tests, c.if-is_empty.ensures)))
+
+pub loop-rest-init : goal.loop-rest-init
+loop-rest-init c = rw c.clear.ensures.items (at_first c.args.words.now (grind (arith, nat_tests, c.if-is_empty.ensures)))
+
+pub returns-then-is-clause-err : goal.returns-then-is-clause-err
+returns-then-is-clause-err c =
+    let whole = operands_of (texts c.args.words.now) in
+    let said = texts c.loop-rest.operands.items in
+    inr (elim c.then-is.branch [
+      | then-is-via-then-is w ↦ at_comma whole said c.loop-rest.rest.now _ c.in-len2-up.len_at_least (sym w.if-is.ensures) c.loop-rest.invariant
+      | then-is-via-else-is+then-not-is w ↦ at_words whole said c.loop-rest.rest.now _ c.in-len2-up.len_at_least (sym w.if-is.ensures) (sym w.if-not-is.ensures) c.loop-rest.invariant
+    ])
+
+pub loop-rest-preserved : goal.loop-rest-preserved
+loop-rest-preserved c =
+    let whole = operands_of (texts c.args.words.now) in
+    let said = texts c.loop-rest.operands.items in
+    rw (c.in_ok-push.ensures.items, map-append)
+    (one_more whole said c.loop-rest.rest.now _ c.in-len2-up.len_at_least (sym c.if-is.ensures) (sym c.if-not-is.ensures) c.loop-rest.invariant)
+
+pub returns-in_ok-push-in-len1-clause-ok : goal.returns-in_ok-push-in-len1-clause-ok
+returns-in_ok-push-in-len1-clause-ok c =
+    let whole = operands_of (texts c.args.words.now) in
+    let said = texts c.loop-rest.operands.items in
+    rw (c.in_ok-push-in-len1.ensures.items, map-append)
+    (at_last whole said c.loop-rest.rest.now _ c.in-len1.len_at_least c.in_default.len_below (sym c.if-not-is-2.ensures) c.loop-rest.invariant)
+
+pub returns-in_default-rest-clause-err : goal.returns-in_default-rest-clause-err
+returns-in_default-rest-clause-err c =
+    inr (at_end (operands_of (texts c.args.words.now)) (texts c.loop-rest.operands.items) c.loop-rest.rest.now c.in_default-rest.len_below c.loop-rest.invariant)
+
+pub returns-in_default-rest-2-clause-err : goal.returns-in_default-rest-2-clause-err
+returns-in_default-rest-2-clause-err c =
+    inr (at_last_comma (operands_of (texts c.args.words.now)) (texts c.loop-rest.operands.items) c.loop-rest.rest.now _ c.in-len1.len_at_least c.in_default.len_below (sym c.if-not-is-2.ensures) c.loop-rest.invariant)

@@ -1,0 +1,10 @@
+use Rattle.std.proofs.Common.{◌≡◌, ◌++◌, length, map}
+use Rattle.std.specs.Option.{option_map}
+use Rattle.zl_asm.specs.Lines.{operands_of, operands_after}
+use Rattle.zl_asm.proofs.operands.split_operands.Given as goal
+
+abbrev pub invariant-loop-rest : goal.invariant-loop-rest
+invariant-loop-rest l = operands_of (map (λ w. w.now) l.words) ≡ option_map (λ more. map (λ w. w.now) l.operands.items ++ more) (operands_after (map (λ w. w.now) l.rest))
+
+abbrev pub decreases-loop-rest : goal.decreases-loop-rest
+decreases-loop-rest l = length l.rest

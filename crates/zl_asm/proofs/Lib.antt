@@ -1,6 +1,7 @@
 mod RowsText
 pub mod ListingBytes
 mod Answered
+mod LineNames
 mod LineOperands
 mod WordsHex
 mod WordsNumber

@@ -1,5 +1,20 @@
-use zl_code::{SlotArray, Start};
-use zl_rights::Condition;
+ghost use Rattle.std.specs.Prelude.{◌≡◌, [], ◌∷◌, map, Some};
+ghost use Rattle.std.specs.Option.{option_map};
+ghost use Rattle.std.specs.Result.{result_ok};
+ghost use Rattle.zl_code.specs.Image.{is_among, can_be_needed};
+ghost use Rattle.zl_asm.specs.Words.{number_of};
+ghost use Rattle.zl_asm.specs.Lines.{number_within, need_of, kind_of, start_with, slots_with, directive_of};
+
+use crate::fault::AsmCause;
+use crate::numbers::{number, spells_number};
+use crate::operands::{misfit, number_operand};
+use crate::words::is;
+use bitflags::Flags;
+use zl_code::{Image, SlotArray, Start};
+use zl_rights::{Condition, Kind, Rights};
+
+/// The longest slot array.
+const MOST_SLOTS: u32 = 256;
 
 /// A line that declares a field of the image.
 #[derive(Clone, Copy)]
@@ -10,4 +25,144 @@ pub(crate) enum Directive {
     Need(Condition),
     Start(Start),
     Slots(SlotArray),
+}
+
+/// The directive of this name with these operands.
+#[tactic(auto, unfolding(crate::specs::Lines::directive_of))]
+pub(crate) fn directive_of(name: &[u8], operands: &[&[u8]]) -> Result<Directive, AsmCause>
+    ensures { result_ok result ≡ directive_of name.now (map (λ word. word.now) operands.now) }
+{
+    match operands {
+        [] => {
+            if is(name, b".raw") {
+                Ok(Directive::Raw)
+            } else {
+                Err(misplaced(name, operands))
+            }
+        }
+        [operand] => directive_with(name, operand),
+        [kind, rights] => {
+            if is(name, b".start") {
+                Ok(Directive::Start(start_of(kind, rights)?))
+            } else {
+                Err(misplaced(name, operands))
+            }
+        }
+        [kind, length, rights] => {
+            if is(name, b".slots") {
+                Ok(Directive::Slots(slots_of(kind, length, rights)?))
+            } else {
+                Err(misplaced(name, operands))
+            }
+        }
+        _ => Err(misplaced(name, operands)),
+    }
+}
+
+/// The directive of this name with one operand.
+#[tactic(auto, unfolding(crate::specs::Lines::directive_of))]
+fn directive_with(name: &[u8], operand: &[u8]) -> Result<Directive, AsmCause>
+    ensures { result_ok result ≡ directive_of name.now (operand.now ∷ []) }
+{
+    if is(name, b".memory") {
+        Ok(Directive::Memory(number_within(0, Image::MOST_MEMORY, operand)?))
+    } else if is(name, b".budget") {
+        Ok(Directive::Budget(number_within(1, Image::MOST_BUDGET, operand)?))
+    } else if is(name, b".need") {
+        Ok(Directive::Need(need_of(operand)?))
+    } else {
+        Err(misplaced(name, &[operand]))
+    }
+}
+
+/// The cause of operands that no directive of the name has.
+fn misplaced(name: &[u8], operands: &[&[u8]]) -> AsmCause {
+    let names: &[&[u8]] = &[
+        b".raw", b".memory", b".budget", b".need", b".start", b".slots",
+    ];
+    if !names.iter().any(|known| is(name, known)) {
+        return misfit(name, AsmCause::UnknownName);
+    }
+    for operand in operands {
+        let cause = misfit(operand, AsmCause::Operand);
+        if cause != AsmCause::Operand {
+            return cause;
+        }
+    }
+    AsmCause::Operand
+}
+
+/// The number of the word, from least to most.
+fn number_within(least: u32, most: u32, word: &[u8]) -> Result<u32, AsmCause>
+    ensures { result_ok result ≡ number_within least most word.now }
+{
+    match number(word) {
+        Some(number) if least <= number && number <= most => Ok(number),
+        None if !spells_number(word) => Err(misfit(word, AsmCause::Operand)),
+        _ => Err(AsmCause::Limit),
+    }
+}
+
+/// The condition of the word, if an image can need it.
+fn need_of(word: &[u8]) -> Result<Condition, AsmCause>
+    ensures { result_ok result ≡ need_of word.now }
+{
+    match Condition::named(word) {
+        Some(condition) if can_be_needed(condition) => Ok(condition),
+        Some(_) => Err(AsmCause::Operand),
+        None => Err(misfit(word, AsmCause::UnknownName)),
+    }
+}
+
+fn can_be_needed(condition: Condition) -> bool
+    ensures { result ≡ is_among can_be_needed condition }
+{
+    match condition {
+        Condition::NewChannel | Condition::NewEvent | Condition::NewPort | Condition::NewProcess =>
+            true,
+        Condition::BadHandle | Condition::WrongObject | Condition::NewAny => false,
+    }
+}
+
+/// The kind of the word, where `any` is no kind in particular.
+#[tactic(auto, unfolding(crate::specs::Lines::kind_of))]
+fn kind_of(word: &[u8]) -> Result<Option<Kind>, AsmCause>
+    ensures { result_ok result ≡ kind_of word.now }
+{
+    if is(word, b"any") {
+        return Ok(None);
+    }
+    match Kind::named(word) {
+        Some(kind) => Ok(Some(kind)),
+        None => Err(misfit(word, AsmCause::UnknownName)),
+    }
+}
+
+fn start_of(kind: &[u8], rights: &[u8]) -> Result<Start, AsmCause>
+    ensures { result_ok result ≡ start_with (kind_of kind.now) (number_of rights.now) }
+{
+    let start = Start {
+        kind: kind_of(kind)?,
+        rights: Rights::from_bits_retain(number_operand(rights)?),
+    };
+    if start.is_in_range() {
+        Ok(start)
+    } else {
+        Err(AsmCause::Operand)
+    }
+}
+
+fn slots_of(kind: &[u8], length: &[u8], rights: &[u8]) -> Result<SlotArray, AsmCause>
+    ensures { result_ok result ≡ slots_with (kind_of kind.now) (number_within 1 256 length.now) (number_of rights.now) }
+{
+    let slots = SlotArray {
+        kind: kind_of(kind)?,
+        length: number_within(1, MOST_SLOTS, length)? as u16,
+        rights: Rights::from_bits_retain(number_operand(rights)?),
+    };
+    if slots.is_in_range() {
+        Ok(slots)
+    } else {
+        Err(AsmCause::Operand)
+    }
 }

@@ -1,4 +1,16 @@
-use crate::directive::Directive;
+ghost use Rattle.std.specs.Prelude.{◌≡◌, ◌⊎◌, map, Some, None, IfOk, IfErr};
+ghost use Rattle.std.specs.Option.{option_map};
+ghost use Rattle.std.specs.Result.{result_ok};
+ghost use Rattle.zl_asm.specs.Lines.{label_of, unknown_of, instruction_of, point_line, line_of};
+ghost use Rattle.zl_asm.specs.Values.{source_value, line_value};
+ghost use Rattle.zl_asm.specs.declared.fault.AsmCause.TheVariants.{NoMemory};
+
+use crate::directive::{Directive, directive_of};
+use crate::fault::AsmCause;
+use crate::numbers::{is_name, sixteen_bytes};
+use crate::operands::{misfit, source_of, split_operands};
+use crate::words::is;
+use zl_code::Row;
 
 /// An instruction: its 16 bytes, with the target 0 where a label names it.
 #[derive(Clone, Copy)]
@@ -15,4 +27,75 @@ pub(crate) enum Line<'a> {
     /// The name of a label.
     Label(&'a [u8]),
     Code(Source<'a>),
+}
+
+/// What the words of a line say. `operands` is room for operands.
+#[tactic(auto, unfolding(crate::specs::Lines::line_of))]
+pub(crate) fn line_of<'a>(
+    words: &[&'a [u8]],
+    operands: &mut Vec<&'a [u8]>,
+) -> Result<Line<'a>, AsmCause>
+    ensures ok { IfOk result (λ line. line_of (map (λ word. word.now) words.now) ≡ Some (line_value line)) }
+    ensures err { IfErr result (λ cause. (cause ≡ NoMemory) ⊎ (line_of (map (λ word. word.now) words.now) ≡ None)) }
+{
+    match words {
+        [] => Ok(Line::Blank),
+        [name, operands @ ..] if name.starts_with(b".") => point_line(name, operands),
+        [word] if let Some(name) = label_of(word) => Ok(Line::Label(name)),
+        [name, rest @ ..] => Ok(Line::Code(instruction_of(name, rest, operands)?)),
+    }
+}
+
+/// What a line says that begins with a point.
+fn point_line<'a>(name: &[u8], operands: &[&'a [u8]]) -> Result<Line<'a>, AsmCause>
+    ensures { option_map line_value (result_ok result) ≡ point_line name.now (map (λ word. word.now) operands.now) }
+{
+    if is(name, b".bytes") {
+        Ok(Line::Code(unknown_of(operands)?))
+    } else {
+        Ok(Line::Declares(directive_of(name, operands)?))
+    }
+}
+
+/// The instruction with an unknown opcode of these operands.
+#[tactic(auto, unfolding(crate::specs::Lines::unknown_of))]
+fn unknown_of<'a>(operands: &[&'a [u8]]) -> Result<Source<'a>, AsmCause>
+    ensures { option_map source_value (result_ok result) ≡ unknown_of (map (λ word. word.now) operands.now) }
+{
+    let [digits] = operands else {
+        return Err(AsmCause::Operand);
+    };
+    match sixteen_bytes(digits) {
+        Some(bytes) if Row::of_opcode(bytes[0]).is_none() => Ok(Source { bytes, label: None }),
+        _ => Err(misfit(digits, AsmCause::Operand)),
+    }
+}
+
+/// The name in `name:`.
+#[tactic(auto, unfolding(crate::specs::Lines::label_of))]
+fn label_of<'a>(word: &'a [u8]) -> Option<&'a [u8]>
+    ensures { option_map (λ name. name.now) result ≡ label_of word.now }
+{
+    let (last, name) = word.split_last()?;
+    if *last == b':' && is_name(name) {
+        Some(name)
+    } else {
+        None
+    }
+}
+
+/// The instruction of a mnemonic and the words behind it.
+fn instruction_of<'a>(
+    name: &[u8],
+    words: &[&'a [u8]],
+    operands: &mut Vec<&'a [u8]>,
+) -> Result<Source<'a>, AsmCause>
+    ensures ok { IfOk result (λ source. instruction_of name.now (map (λ word. word.now) words.now) ≡ Some (source_value source)) }
+    ensures err { IfErr result (λ cause. (cause ≡ NoMemory) ⊎ (instruction_of name.now (map (λ word. word.now) words.now) ≡ None)) }
+{
+    let Some(row) = Row::named(name) else {
+        return Err(misfit(name, AsmCause::UnknownName));
+    };
+    split_operands(operands, words)?;
+    source_of(&row, operands)
 }

@@ -119,3 +119,15 @@ fn byte_of(high: u8, low: u8) -> Option<u8>
 {
     Some(digit(high)? * 16 + digit(low)?)
 }
+
+/// Whether the word spells a number, however large.
+pub(crate) fn spells_number(word: &[u8]) -> bool {
+    let (base, digits) = match word {
+        [b'0', b'x', digits @ ..] => (16, digits),
+        digits => (10, digits),
+    };
+    !digits.is_empty()
+        && digits
+            .iter()
+            .all(|byte| digit(*byte).is_some_and(|digit| digit < base))
+}

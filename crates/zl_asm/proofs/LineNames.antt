@@ -1,0 +1,63 @@
+-- The name of a label, and the row of a mnemonic.
+use Rattle.std.proofs.Common.{◌≡◌, ◌≢◌, ℕ, suc, ◌+◌, ◌-◌, ◌<◌, ◌≤◌, true, false, eqb, List, [], ◌∷◌, ◌++◌, length, length-append, take, drop, get_or, Option, Some, None, refl, sym, ap, ◌∙◌, arith}
+use Rattle.std.specs.Option.{option_map}
+use Rattle.std.proofs.lemmas.List.{drop_at, take_at}
+use Rattle.std.proofs.lemmas.Bool.Decides.{nat_tests}
+use Rattle.zl_code.specs.declared.layout.Ending.{Ending}
+use Rattle.zl_code.specs.Instructions.{Row, layout}
+use Rattle.zl_asm.specs.Words.{is_word, is_name}
+use Rattle.zl_asm.specs.Lines.{Source, if_fits, then_with, label_of, registers_of, tail_of, source_with, source_of}
+
+-- ---- labels
+
+is_colon : (byte : ℕ) → byte ≡ 58 → is_word (byte ∷ []) (58 ∷ []) ≡ true
+unfolding is_word
+is_colon byte e = rw e refl
+
+is_no_colon : (byte : ℕ) → byte ≢ 58 → is_word (byte ∷ []) (58 ∷ []) ≡ false
+unfolding is_word
+is_no_colon byte e = let test : eqb byte 58 ≡ false = grind (arith, nat_tests) in rw test refl
+
+-- a colon stands behind the name
+pub with_colon : (word name : List ℕ) (last : ℕ) → word ≡ name ++ last ∷ [] → last ≡ 58 → label_of word ≡ if_fits is_name (Some name)
+unfolding label_of
+with_colon word name last whole e =
+    let count : length name ≡ length word - 1 = omega (arith, ap (λ (x : List ℕ). length x) whole, length-append name (last ∷ [])) in
+    let back : drop (length word - 1) word ≡ last ∷ [] = ap (λ (x : List ℕ). drop (length word - 1) x) whole ∙ drop_at name (last ∷ []) (length word - 1) count in
+    let front : take (length word - 1) word ≡ name = ap (λ (x : List ℕ). take (length word - 1) x) whole ∙ take_at name (last ∷ []) (length word - 1) count in
+    rw (back, is_colon last e, front) refl
+
+-- another byte stands there
+pub no_colon : (word name : List ℕ) (last : ℕ) → word ≡ name ++ last ∷ [] → last ≢ 58 → None ≡ label_of word
+unfolding label_of
+no_colon word name last whole e =
+    let count : length name ≡ length word - 1 = omega (arith, ap (λ (x : List ℕ). length x) whole, length-append name (last ∷ [])) in
+    let back : drop (length word - 1) word ≡ last ∷ [] = ap (λ (x : List ℕ). drop (length word - 1) x) whole ∙ drop_at name (last ∷ []) (length word - 1) count in
+    rw (back, is_no_colon last e) refl
+
+pub no_byte : (word : List ℕ) → length word ≡ 0 → None ≡ label_of word
+unfolding label_of is_word
+no_byte [] none = refl
+no_byte (b ∷ word) none = absurd (omega arith)
+
+-- a name, or another word before the colon
+pub as_name : (name : List ℕ) → is_name name ≡ true → if_fits is_name (Some name) ≡ Some name
+as_name name e = rw e refl
+
+pub as_none : (name : List ℕ) → is_name name ≡ false → if_fits is_name (Some name) ≡ None
+as_none name e = rw e refl
+
+-- ---- mnemonics
+
+-- the instruction of the row that was found
+pub by_row : (o : Option Row) (opcode registers : ℕ) (kind : Ending) (operands : Option (List (List ℕ)))
+    → Some opcode ≡ option_map (λ r. r.opcode) o → Some (layout registers kind) ≡ option_map (λ r. layout (length r.fields) r.ending) o
+    → then_with o (λ r. then_with operands (source_of r)) ≡ then_with operands (λ ws. source_with opcode (registers_of registers (take registers ws)) (tail_of kind (drop registers ws)))
+unfolding source_of
+by_row None opcode registers kind operands p q = absurd (cc)
+by_row (Some r) opcode registers kind operands p q =
+    let a : opcode ≡ r.opcode = cc in
+    let whole : layout registers kind ≡ layout (length r.fields) r.ending = cc in
+    let b : registers ≡ length r.fields = ap (λ l. l.registers) whole in
+    let e : kind ≡ r.ending = ap (λ l. l.ending) whole in
+    λ i. then_with operands (λ ws. source_with (sym a i) (registers_of (sym b i) (take (sym b i) ws)) (tail_of (sym e i) (drop (sym b i) ws)))

@@ -12,3 +12,6 @@ mod words;
 
 pub use disassembling::disassemble;
 pub use fault::{AsmCause, AsmFault};
+
+#[cfg(test)]
+mod line_tests;

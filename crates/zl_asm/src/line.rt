@@ -40,7 +40,7 @@ pub(crate) fn line_of<'a>(
 {
     match words {
         [] => Ok(Line::Blank),
-        [name, operands @ ..] if name.starts_with(b".") => point_line(name, operands),
+        [name, rest @ ..] if name.starts_with(b".") => point_line(name, rest),
         [word] if let Some(name) = label_of(word) => Ok(Line::Label(name)),
         [name, rest @ ..] => Ok(Line::Code(instruction_of(name, rest, operands)?)),
     }

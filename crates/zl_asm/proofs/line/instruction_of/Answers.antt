@@ -3,7 +3,7 @@ use Rattle.std.specs.Option.{option_map}
 use Rattle.std.specs.Result.{result_ok}
 use Rattle.zl_code.specs.Instructions.{row_named}
 use Rattle.zl_asm.specs.declared.fault.AsmCause.TheVariants.{NoMemory}
-use Rattle.zl_asm.specs.Lines.{Source, operands_of, instruction_of, then_with, registers_of, tail_of, source_with}
+use Rattle.zl_asm.specs.Lines.{operands_of, instruction_of, then_with, registers_of, tail_of, source_with}
 use Rattle.zl_asm.specs.Values.{source_value}
 use Rattle.zl_asm.proofs.Answered.{value_if_ok, none_if_err}
 use Rattle.zl_asm.proofs.LineNames.{by_row}

@@ -1,4 +1,4 @@
-use Rattle.std.proofs.Common.{◌≢◌, sym, ap, ◌∙◌, arith}
+use Rattle.std.proofs.Common.{sym, ap, ◌∙◌}
 use Rattle.std.specs.Option.{option_map}
 use Rattle.zl_asm.proofs.LineNames.{with_colon, no_colon, no_byte, as_name, as_none}
 use Rattle.zl_asm.proofs.line.label_of.Goals as goal

@@ -1,4 +1,4 @@
-use Rattle.std.proofs.Common.{◌≡◌, ◌++◌, length, map, take, drop}
+use Rattle.std.proofs.Common.{◌≡◌, ◌++◌, map, take, drop}
 use Rattle.std.specs.Option.{option_map}
 use Rattle.zl_asm.specs.Words.{register_of}
 use Rattle.zl_asm.specs.Lines.{all_of}

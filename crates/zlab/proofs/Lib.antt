@@ -16,3 +16,4 @@ pub mod LineDigits
 pub mod ReadingOn
 pub mod InOrder
 pub mod WholeBlocks
+pub mod CommandLine

@@ -7,3 +7,4 @@ pub mod Output
 pub mod Lines
 pub mod Scenario
 pub mod Reading
+pub mod Words

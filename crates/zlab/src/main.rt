@@ -1,4 +1,4 @@
-//! The program: a scenario and a schedule on standard input, the trace on standard output.
+//! The program: its command line, the trace of standard input, and its exit status.
 #![tactic(auto)]
 
 mod engine;
@@ -10,21 +10,36 @@ mod system;
 #[cfg(test)]
 mod tests;
 mod text;
+mod words;
 
 use engine::step_engine;
 use fault::{EngineFault, Verdict};
+use std::alloc::AllocError;
 use std::process::ExitCode;
 use std::rt::Env;
 use std::{env, io};
 use thiserror::Error;
+use words::{Task, WordFault};
 
 /// Why the program ends without an answer.
 #[derive(Debug, Drop, Error)]
 pub enum Failure {
-    #[error("usage: zlab < INPUT, where INPUT is a scenario, a line `--` and a schedule")]
-    Words,
+    #[error(transparent)]
+    Words(WordFault),
     #[error(transparent)]
     Engine(EngineFault),
+}
+
+impl From<WordFault> for Failure {
+    fn from(fault: WordFault) -> Failure {
+        Failure::Words(fault)
+    }
+}
+
+impl From<AllocError> for Failure {
+    fn from(_refused: AllocError) -> Failure {
+        Failure::Words(WordFault::NoMemory)
+    }
 }
 
 fn main(rt: HostRuntime) -> ExitCode {
@@ -39,28 +54,37 @@ fn main(rt: HostRuntime) -> ExitCode {
 }
 
 fn run<R: AllocGlobal + Env + Input + Print>(rt: &R) -> Result<Verdict, Failure> {
-    if has_words(rt)? {
-        return Err(Failure::Words);
+    let all = all_words(rt)?;
+    let words = all.get(1..).unwrap_or(&[]);
+    if let Some(text) = words::help(rt.alloc(), words)? {
+        return match print!(rt; "{text}") {
+            Ok(()) => Ok(Verdict::Done),
+            Err(_) => Err(Failure::Engine(EngineFault::Write)),
+        };
     }
-    step_engine(rt.alloc(), &mut rt.reader(), &mut io::writer(rt)).map_err(Failure::Engine)
+    match words::words(rt.alloc(), words)? {
+        Task::Input => {
+            step_engine(rt.alloc(), &mut rt.reader(), &mut io::writer(rt)).map_err(Failure::Engine)
+        }
+    }
 }
 
-/// Whether there are words after the program's name.
-fn has_words<R: AllocGlobal + Env>(rt: &R) -> Result<bool, Failure> {
+/// The program's name and the words after it.
+fn all_words<R: AllocGlobal + Env>(rt: &R) -> Result<Vec<String>, Failure> {
     match env::args(rt) {
-        Ok(words) => Ok(words.len() > 1),
+        Ok(words) => Ok(words.collect(rt.alloc())?),
         Err(fault) if fault.kind() == io::ErrorKind::OutOfMemory => {
-            Err(Failure::Engine(EngineFault::NoMemory))
+            Err(Failure::Words(WordFault::NoMemory))
         }
-        // A word that isn't UTF-8 is a word.
-        Err(_) => Ok(true),
+        // A word that isn't UTF-8 is in no form.
+        Err(_) => Err(Failure::Words(WordFault::Usage)),
     }
 }
 
 fn status_of(failure: &Failure) -> u8 {
     match failure {
-        Failure::Words => 2,
+        Failure::Words(WordFault::Usage) => 2,
         Failure::Engine(EngineFault::Read | EngineFault::Write) => 3,
-        Failure::Engine(EngineFault::NoMemory) => 4,
+        Failure::Words(WordFault::NoMemory) | Failure::Engine(EngineFault::NoMemory) => 4,
     }
 }

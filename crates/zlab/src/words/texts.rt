@@ -1,0 +1,39 @@
+//! The texts of the help, which `clap` puts together with what it knows of the commands.
+
+/// What the program is.
+pub const ABOUT: &str = "\
+A lab for small processes on a model of Zircon's handles: it runs their programs under a schedule,
+and writes every system call with its answer, in the order in which they were made.";
+
+/// The forms of the command line, and the exit statuses.
+pub const FORMS: &str = "\
+The form of a command line:
+  zlab < INPUT
+      Without words, reads standard input: a scenario, a line `--` and a schedule. Runs the scenario
+      along the schedule and writes the trace, or `refused LINE CAUSE` for the first faulty line.
+      Example: zlab < examples/event.zls
+
+Not built yet (a wrong command line for now):
+  zlab step SCENARIO SCHEDULE
+      Does what zlab does without words, with the scenario and the schedule in two files.
+      Example: zlab step pair.zls turns.txt
+  zlab asm IN OUT
+      Assembles the text in the file IN, and writes the image to the file OUT.
+      Example: zlab asm ping.zasm ping.zli
+  zlab check IMAGE
+      Says whether the verifier accepts the image of a program.
+      Example: zlab check ping.zli
+  zlab run SCENARIO --workers N --limit M
+      Runs the scenario on N threads, for at most M items of trace.
+      Example: zlab run pair.zls --workers 4 --limit 1000
+  zlab replay SCENARIO TRACE
+      Says whether the scenario can have a trace, or which of its items can't come.
+      Example: zlab replay pair.zls pair.trace
+
+Exit status:
+  0  done, or accepted
+  1  refused, undecodable, or a trace that differs
+  2  a wrong command line
+  3  a fault of reading or writing
+  4  no memory
+For 2, 3 and 4 one line on standard error says why.";

@@ -64,6 +64,9 @@ impl Model for Image {
 }
 
 impl Image {
+    ghost use Rattle.std.specs.Prelude.{IsTrue};
+    ghost use Rattle.zl_code.specs.Spells.{is_in_range};
+
     /// The most instructions that an image has.
     pub const MOST_INSTRUCTIONS: usize = 4096;
 
@@ -138,6 +141,7 @@ impl Image {
     pub fn len(&self) -> usize
         ensures value { result ≡ length self.now.code }
         ensures most { result ≤ 4096 }
+        ensures in_range { IsTrue (is_in_range self.now) }
     {
         self.code.len()
     }

@@ -22,3 +22,11 @@ mod RoundListing
 mod RoundWhole
 mod Joined
 mod Laid
+mod Labels
+mod ListingRefused
+mod ListingText
+mod DraftHolds
+mod DraftRefuses
+mod DraftAdds
+mod DraftLines
+mod DraftGives

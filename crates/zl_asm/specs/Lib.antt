@@ -6,3 +6,4 @@ pub mod Denotes
 pub mod Canonical
 pub mod Causes
 pub mod Pieces
+pub mod Draft

@@ -1,16 +1,20 @@
 //! The assembler: the text of a program to its image, and back.
 #![tactic(auto)]
 
+mod assembling;
 mod directive;
 mod disassembling;
+mod draft;
 mod fault;
 pub mod laws;
 mod line;
 mod numbers;
 mod operands;
+mod resolving;
 mod words;
 
 pub use disassembling::disassemble;
+pub use assembling::{assemble, assemble_bytes};
 pub use fault::{AsmCause, AsmFault};
 
 #[cfg(test)]

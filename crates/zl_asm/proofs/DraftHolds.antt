@@ -1,0 +1,320 @@
+-- What a draft holds after one line more.
+use Rattle.std.proofs.Common.{append-nil, ◌≡◌, ℕ, ◌+◌, Bool, true, false, ◌&&◌, ◌||◌, not, cond, List, [], ◌∷◌, ◌++◌, length, filter, ◌==◌, Some, None, refl, sym, ap, subst, ◌∙◌, true≢false, arith}
+use Rattle.std.specs.List.{flat_map, list_any, list_all}
+use Rattle.std.proofs.lemmas.Grind.{flat_map-append}
+use Rattle.std.proofs.lemmas.Bool.{eqb-true}
+use Rattle.std.proofs.lemmas.List.Folds.{list_all-append, list_any-append}
+use Rattle.zl_rights.specs.declared.policy.Condition.{Condition}
+use Rattle.zl_rights.specs.declared.policy.Condition.TheVariants as condition
+use Rattle.zl_rights.specs.Numbers.{condition_number}
+use Rattle.zl_code.specs.Image.{Image, needs_named, is_among, can_be_needed}
+use Rattle.zl_code.specs.declared.image.Start.{Start}
+use Rattle.zl_code.specs.declared.image.SlotArray.{SlotArray}
+use Rattle.zl_asm.specs.declared.directive.Directive.{Directive}
+use Rattle.zl_asm.specs.declared.directive.Directive.TheVariants as directive
+use Rattle.zl_asm.specs.Lines.{Line, Blank, Declares, Label, Code, Source}
+use Rattle.zl_asm.specs.Listing.{mark_in, memory_in, budget_in, need_in, start_in, slots_in, source_in, given, declares, is_body, directives_first, labels_from, position_of, names_once}
+use Rattle.zl_asm.specs.Draft.{IsGiven, Held, IsHeldOf, Holds}
+use Rattle.zl_asm.proofs.Labels.{labels_from-append, once-more}
+
+-- ---- what one line more gives
+
+kept : {X : Type 0} (f : Line → List X) (said : List Line) (line : Line) → f line ≡ [] → flat_map f (said ++ line ∷ []) ≡ flat_map f said
+kept f said line e = flat_map-append f said (line ∷ []) ∙ ap (λ (xs : List _). flat_map f said ++ (xs ++ [])) e ∙ append-nil _
+
+added : {X : Type 0} (f : Line → List X) (said : List Line) (line : Line) (x : X) → f line ≡ x ∷ [] → flat_map f (said ++ line ∷ []) ≡ flat_map f said ++ x ∷ []
+added f said line x e = flat_map-append f said (line ∷ []) ∙ ap (λ (xs : List _). flat_map f said ++ (xs ++ [])) e
+
+same_given : {X : Type 0} (has : Bool) (value usual : X) (xs ys : List X) → xs ≡ ys → IsGiven has value usual ys → IsGiven has value usual xs
+same_given has value usual xs ys e h = subst (IsGiven has value usual) (sym e) h
+
+-- ---- the order of lines
+
+chosen : (b : Bool) (x y v w : Bool) → (x ≡ true → v ≡ true) → (y ≡ true → w ≡ true) → cond b x y ≡ true → cond b v w ≡ true
+chosen true x y v w f g e = f e
+chosen false x y v w f g e = g e
+
+always : (b : Bool) → cond b true true ≡ true
+always true = refl
+always false = refl
+
+-- a line that declares nothing can stand anywhere
+order-more : (said : List Line) (line : Line) → declares line ≡ false → directives_first said ≡ true → directives_first (said ++ line ∷ []) ≡ true
+unfolding directives_first
+order-more [] line e h = always (is_body line)
+order-more (x ∷ said) line e h =
+    chosen (is_body x) (list_all (λ l. not (declares l)) said) (directives_first said) _ _
+    (λ k. list_all-append (λ l. not (declares l)) said (line ∷ []) ∙ (λ i. k i && (not (e i) && true)))
+    (order-more said line e) h
+
+-- a directive behind directives
+order-declared : (said : List Line) (d : Directive) → list_any is_body said ≡ false → directives_first (said ++ Declares d ∷ []) ≡ true
+unfolding directives_first
+order-declared [] d e = refl
+order-declared (x ∷ said) d e = by (is_body x) (order-declared said d) e
+  where
+    by : (b : Bool) → (list_any is_body said ≡ false → directives_first (said ++ Declares d ∷ []) ≡ true) → (b || list_any is_body said) ≡ false → cond b (list_all (λ l. not (declares l)) (said ++ Declares d ∷ [])) (directives_first (said ++ Declares d ∷ [])) ≡ true
+    by true more h = absurd (true≢false h)
+    by false more h = more h
+
+no_body-more : (said : List Line) (line : Line) → is_body line ≡ false → list_any is_body (said ++ line ∷ []) ≡ list_any is_body said
+no_body-more said line e = list_any-append is_body said (line ∷ []) ∙ (λ i. list_any is_body said || (e i || false)) ∙ nothing (list_any is_body said)
+  where
+    nothing : (b : Bool) → (b || false) ≡ b
+    nothing true = refl
+    nothing false = refl
+
+body-more : (said : List Line) (line : Line) → is_body line ≡ true → list_any is_body (said ++ line ∷ []) ≡ true
+body-more said line e = list_any-append is_body said (line ∷ []) ∙ (λ i. list_any is_body said || (e i || false)) ∙ all (list_any is_body said)
+  where
+    all : (b : Bool) → (b || true) ≡ true
+    all true = refl
+    all false = refl
+
+-- ---- labels
+
+no_label : (said : List Line) (line : Line) → ((n : ℕ) → labels_from n (line ∷ []) ≡ []) → labels_from 0 (said ++ line ∷ []) ≡ labels_from 0 said
+no_label said line e = labels_from-append 0 said (line ∷ []) ∙ ap (λ (l : List (List ℕ × ℕ)). labels_from 0 said ++ l) (e _) ∙ append-nil _
+
+none_declared : (said : List Line) (d : Directive) → labels_from 0 (said ++ Declares d ∷ []) ≡ labels_from 0 said
+unfolding labels_from
+none_declared said d = no_label said (Declares d) (λ n. refl)
+
+none_in_code : (said : List Line) (s : Source) → labels_from 0 (said ++ Code s ∷ []) ≡ labels_from 0 said
+unfolding labels_from
+none_in_code said s = no_label said (Code s) (λ n. refl)
+
+none_in_blank : (said : List Line) → labels_from 0 (said ++ Blank ∷ []) ≡ labels_from 0 said
+unfolding labels_from
+none_in_blank said = no_label said Blank (λ n. refl)
+
+one_label : (said : List Line) (name : List ℕ) → labels_from 0 (said ++ Label name ∷ []) ≡ labels_from 0 said ++ (name, 0 + length (flat_map source_in said)) ∷ []
+unfolding labels_from
+one_label said name = labels_from-append 0 said (Label name ∷ [])
+
+-- ---- needs
+
+same_number : (named : List Condition) (x k : Condition) → (condition_number x == condition_number k) ≡ true → is_among named x ≡ is_among named k
+same_number named x k e = ap (λ (n : ℕ). list_any (λ y. condition_number y == n) named) (eqb-true _ _ e)
+
+and_false : (a : Bool) → (a && false) ≡ false
+and_false true = refl
+and_false false = refl
+
+and_true : (a : Bool) → (a && true) ≡ a
+and_true true = refl
+and_true false = refl
+
+-- those among others that are named
+among-filter : (named xs : List Condition) (k : Condition) → is_among (filter (λ c. is_among named c) xs) k ≡ (is_among named k && is_among xs k)
+among-filter named [] k = sym (and_false (is_among named k))
+among-filter named (x ∷ xs) k = by (is_among named x) refl (condition_number x == condition_number k) refl (among-filter named xs k)
+  where
+    by : (p : Bool) → is_among named x ≡ p → (q : Bool) → (condition_number x == condition_number k) ≡ q → is_among (filter (λ c. is_among named c) xs) k ≡ (is_among named k && is_among xs k)
+        → is_among (cond p (x ∷ filter (λ c. is_among named c) xs) (filter (λ c. is_among named c) xs)) k ≡ (is_among named k && (q || is_among xs k))
+    by true e true f rest = rw (f, sym (same_number named x k f) ∙ e) refl
+    by true e false f rest = rw (f, rest) refl
+    by false e true f rest = let none : is_among named k ≡ false = sym (same_number named x k f) ∙ e in rw (rest, none) refl
+    by false e false f rest = rest
+
+swapped : (a b : Bool) → (a || b) ≡ (b || (a || false))
+swapped true true = refl
+swapped true false = refl
+swapped false true = refl
+swapped false false = refl
+
+abbrev choose : (channel event port process : Bool) → Condition → Bool
+choose channel event port process condition.NewChannel = channel
+choose channel event port process condition.NewEvent = event
+choose channel event port process condition.NewPort = port
+choose channel event port process condition.NewProcess = process
+choose channel event port process _ = false
+
+-- one need more
+needs-more : (xs : List Condition) (c : Condition) → needs_named (c ∷ needs_named xs) ≡ needs_named (xs ++ c ∷ [])
+needs-more xs c = λ i. filter (choose (at condition.NewChannel refl i) (at condition.NewEvent refl i) (at condition.NewPort refl i) (at condition.NewProcess refl i)) can_be_needed
+  where
+    at : (k : Condition) → is_among can_be_needed k ≡ true → is_among (c ∷ needs_named xs) k ≡ is_among (xs ++ c ∷ []) k
+    at k can =
+        ap (λ (b : Bool). (condition_number c == condition_number k) || b) (among-filter xs can_be_needed k ∙ ap (λ (b : Bool). is_among xs k && b) can ∙ and_true _)
+        ∙ swapped _ _
+        ∙ sym (list_any-append (λ x. condition_number x == condition_number k) xs (c ∷ []))
+
+-- ---- what was given
+
+none_given : {X : Type 0} (has : Bool) (value usual : X) (xs : List X) → has ≡ false → IsGiven has value usual xs → xs ≡ []
+none_given true value usual xs e h = absurd (true≢false e)
+none_given false value usual xs e h = h.0
+
+pub one_given : {X : Type 0} (has : Bool) (value usual : X) (xs : List X) → has ≡ true → IsGiven has value usual xs → xs ≡ value ∷ []
+one_given true value usual xs e h = h
+one_given false value usual xs e h = absurd (true≢false (sym e))
+
+pub given_is : {X : Type 0} (has : Bool) (value usual : X) (xs : List X) → IsGiven has value usual xs → given xs usual ≡ Some value
+given_is true value usual xs h = rw h refl
+given_is false value usual xs h = rw (h.0, h.1) refl
+
+-- the first value
+first_given : {X : Type 0} (f : Line → List X) (said : List Line) (line : Line) (x : X) → flat_map f said ≡ [] → f line ≡ x ∷ [] → flat_map f (said ++ line ∷ []) ≡ x ∷ []
+first_given f said line x none e = added f said line x e ∙ ap (λ (l : List _). l ++ x ∷ []) none
+
+-- ---- one directive more
+
+pub mark_held : (d : Held) (image : Image) → image ≡ record d.image { raw = true } → d.has_body ≡ false → d.image.raw ≡ false → Holds d (Declares directive.Raw) (record d { image = image })
+mark_held d image e first none = subst (λ (im : Image). Holds d (Declares directive.Raw) (record d { image = im })) (sym e) (λ said h. record {
+  order = order-declared said directive.Raw (sym h.body ∙ first);
+  body = h.body ∙ sym (no_body-more said (Declares directive.Raw) refl);
+  mark = first_given mark_in said (Declares directive.Raw) true (none_given d.image.raw d.image.raw false _ none h.mark) refl;
+  memory = same_given _ _ _ _ _ (kept memory_in said (Declares directive.Raw) refl) h.memory;
+  budget = same_given _ _ _ _ _ (kept budget_in said (Declares directive.Raw) refl) h.budget;
+  needs = h.needs ∙ ap needs_named (sym (kept need_in said (Declares directive.Raw) refl));
+  starts = h.starts ∙ sym (kept start_in said (Declares directive.Raw) refl);
+  slots = h.slots ∙ sym (kept slots_in said (Declares directive.Raw) refl);
+  labels = h.labels ∙ sym (none_declared said directive.Raw);
+  once = ap names_once (none_declared said directive.Raw) ∙ h.once;
+  sources = h.sources ∙ sym (kept source_in said (Declares directive.Raw) refl);
+})
+
+pub memory_held : (d : Held) (image : Image) (n : ℕ) → image ≡ record d.image { memory = n } → d.has_body ≡ false → d.has_memory ≡ false → Holds d (Declares (directive.Memory n)) (record d { image = image; has_memory = true })
+memory_held d image n e first none = subst (λ (im : Image). Holds d (Declares (directive.Memory n)) (record d { image = im; has_memory = true })) (sym e) (λ said h. record {
+  order = order-declared said (directive.Memory n) (sym h.body ∙ first);
+  body = h.body ∙ sym (no_body-more said (Declares (directive.Memory n)) refl);
+  mark = same_given _ _ _ _ _ (kept mark_in said (Declares (directive.Memory n)) refl) h.mark;
+  memory = first_given memory_in said (Declares (directive.Memory n)) n (none_given d.has_memory d.image.memory 0 _ none h.memory) refl;
+  budget = same_given _ _ _ _ _ (kept budget_in said (Declares (directive.Memory n)) refl) h.budget;
+  needs = h.needs ∙ ap needs_named (sym (kept need_in said (Declares (directive.Memory n)) refl));
+  starts = h.starts ∙ sym (kept start_in said (Declares (directive.Memory n)) refl);
+  slots = h.slots ∙ sym (kept slots_in said (Declares (directive.Memory n)) refl);
+  labels = h.labels ∙ sym (none_declared said (directive.Memory n));
+  once = ap names_once (none_declared said (directive.Memory n)) ∙ h.once;
+  sources = h.sources ∙ sym (kept source_in said (Declares (directive.Memory n)) refl);
+})
+
+pub budget_held : (d : Held) (image : Image) (n : ℕ) → image ≡ record d.image { budget = n } → d.has_body ≡ false → d.has_budget ≡ false → Holds d (Declares (directive.Budget n)) (record d { image = image; has_budget = true })
+budget_held d image n e first none = subst (λ (im : Image). Holds d (Declares (directive.Budget n)) (record d { image = im; has_budget = true })) (sym e) (λ said h. record {
+  order = order-declared said (directive.Budget n) (sym h.body ∙ first);
+  body = h.body ∙ sym (no_body-more said (Declares (directive.Budget n)) refl);
+  mark = same_given _ _ _ _ _ (kept mark_in said (Declares (directive.Budget n)) refl) h.mark;
+  memory = same_given _ _ _ _ _ (kept memory_in said (Declares (directive.Budget n)) refl) h.memory;
+  budget = first_given budget_in said (Declares (directive.Budget n)) n (none_given d.has_budget d.image.budget 1 _ none h.budget) refl;
+  needs = h.needs ∙ ap needs_named (sym (kept need_in said (Declares (directive.Budget n)) refl));
+  starts = h.starts ∙ sym (kept start_in said (Declares (directive.Budget n)) refl);
+  slots = h.slots ∙ sym (kept slots_in said (Declares (directive.Budget n)) refl);
+  labels = h.labels ∙ sym (none_declared said (directive.Budget n));
+  once = ap names_once (none_declared said (directive.Budget n)) ∙ h.once;
+  sources = h.sources ∙ sym (kept source_in said (Declares (directive.Budget n)) refl);
+})
+
+pub need_held : (d : Held) (image : Image) (c : Condition) → image ≡ record d.image { needs = needs_named (c ∷ d.image.needs) } → d.has_body ≡ false → Holds d (Declares (directive.Need c)) (record d { image = image })
+need_held d image c e first = subst (λ (im : Image). Holds d (Declares (directive.Need c)) (record d { image = im })) (sym e) (λ said h. record {
+  order = order-declared said (directive.Need c) (sym h.body ∙ first);
+  body = h.body ∙ sym (no_body-more said (Declares (directive.Need c)) refl);
+  mark = same_given _ _ _ _ _ (kept mark_in said (Declares (directive.Need c)) refl) h.mark;
+  memory = same_given _ _ _ _ _ (kept memory_in said (Declares (directive.Need c)) refl) h.memory;
+  budget = same_given _ _ _ _ _ (kept budget_in said (Declares (directive.Need c)) refl) h.budget;
+  needs = ap (λ (l : List Condition). needs_named (c ∷ l)) h.needs ∙ needs-more (flat_map need_in said) c ∙ ap needs_named (sym (added need_in said (Declares (directive.Need c)) c refl));
+  starts = h.starts ∙ sym (kept start_in said (Declares (directive.Need c)) refl);
+  slots = h.slots ∙ sym (kept slots_in said (Declares (directive.Need c)) refl);
+  labels = h.labels ∙ sym (none_declared said (directive.Need c));
+  once = ap names_once (none_declared said (directive.Need c)) ∙ h.once;
+  sources = h.sources ∙ sym (kept source_in said (Declares (directive.Need c)) refl);
+})
+
+pub starts_held : (d : Held) (image : Image) (s : Start) → image ≡ record d.image { starts = d.image.starts ++ (s ∷ []) } → d.has_body ≡ false → Holds d (Declares (directive.Start s)) (record d { image = image })
+starts_held d image s e first = subst (λ (im : Image). Holds d (Declares (directive.Start s)) (record d { image = im })) (sym e) (λ said h. record {
+  order = order-declared said (directive.Start s) (sym h.body ∙ first);
+  body = h.body ∙ sym (no_body-more said (Declares (directive.Start s)) refl);
+  mark = same_given _ _ _ _ _ (kept mark_in said (Declares (directive.Start s)) refl) h.mark;
+  memory = same_given _ _ _ _ _ (kept memory_in said (Declares (directive.Start s)) refl) h.memory;
+  budget = same_given _ _ _ _ _ (kept budget_in said (Declares (directive.Start s)) refl) h.budget;
+  needs = h.needs ∙ ap needs_named (sym (kept need_in said (Declares (directive.Start s)) refl));
+  starts = ap (λ (l : List Start). l ++ s ∷ []) h.starts ∙ sym (added start_in said (Declares (directive.Start s)) s refl);
+  slots = h.slots ∙ sym (kept slots_in said (Declares (directive.Start s)) refl);
+  labels = h.labels ∙ sym (none_declared said (directive.Start s));
+  once = ap names_once (none_declared said (directive.Start s)) ∙ h.once;
+  sources = h.sources ∙ sym (kept source_in said (Declares (directive.Start s)) refl);
+})
+
+pub slots_held : (d : Held) (image : Image) (s : SlotArray) → image ≡ record d.image { slots = d.image.slots ++ (s ∷ []) } → d.has_body ≡ false → Holds d (Declares (directive.Slots s)) (record d { image = image })
+slots_held d image s e first = subst (λ (im : Image). Holds d (Declares (directive.Slots s)) (record d { image = im })) (sym e) (λ said h. record {
+  order = order-declared said (directive.Slots s) (sym h.body ∙ first);
+  body = h.body ∙ sym (no_body-more said (Declares (directive.Slots s)) refl);
+  mark = same_given _ _ _ _ _ (kept mark_in said (Declares (directive.Slots s)) refl) h.mark;
+  memory = same_given _ _ _ _ _ (kept memory_in said (Declares (directive.Slots s)) refl) h.memory;
+  budget = same_given _ _ _ _ _ (kept budget_in said (Declares (directive.Slots s)) refl) h.budget;
+  needs = h.needs ∙ ap needs_named (sym (kept need_in said (Declares (directive.Slots s)) refl));
+  starts = h.starts ∙ sym (kept start_in said (Declares (directive.Slots s)) refl);
+  slots = ap (λ (l : List SlotArray). l ++ s ∷ []) h.slots ∙ sym (added slots_in said (Declares (directive.Slots s)) s refl);
+  labels = h.labels ∙ sym (none_declared said (directive.Slots s));
+  once = ap names_once (none_declared said (directive.Slots s)) ∙ h.once;
+  sources = h.sources ∙ sym (kept source_in said (Declares (directive.Slots s)) refl);
+})
+
+-- ---- one line more behind
+
+pub blank_held : (d : Held) → Holds d Blank d
+blank_held d = λ said h. record {
+  order = order-more said Blank refl h.order;
+  body = h.body ∙ sym (no_body-more said Blank refl);
+  mark = same_given _ _ _ _ _ (kept mark_in said Blank refl) h.mark;
+  memory = same_given _ _ _ _ _ (kept memory_in said Blank refl) h.memory;
+  budget = same_given _ _ _ _ _ (kept budget_in said Blank refl) h.budget;
+  needs = h.needs ∙ ap needs_named (sym (kept need_in said Blank refl));
+  starts = h.starts ∙ sym (kept start_in said Blank refl);
+  slots = h.slots ∙ sym (kept slots_in said Blank refl);
+  labels = h.labels ∙ sym (none_in_blank said);
+  once = ap names_once (none_in_blank said) ∙ h.once;
+  sources = h.sources ∙ sym (kept source_in said Blank refl);
+}
+
+counted : {xs ys : List Source} → xs ≡ ys → length xs ≡ 0 + length ys
+counted e = omega (arith, ap length e)
+
+pub label_held : (d : Held) (name : List ℕ) → position_of d.labels name ≡ None → Holds d (Label name) (record d { has_body = true; labels = d.labels ++ (name, length d.sources) ∷ [] })
+label_held d name free = λ said h. record {
+  order = order-more said (Label name) refl h.order;
+  body = sym (body-more said (Label name) refl);
+  mark = same_given _ _ _ _ _ (kept mark_in said (Label name) refl) h.mark;
+  memory = same_given _ _ _ _ _ (kept memory_in said (Label name) refl) h.memory;
+  budget = same_given _ _ _ _ _ (kept budget_in said (Label name) refl) h.budget;
+  needs = h.needs ∙ ap needs_named (sym (kept need_in said (Label name) refl));
+  starts = h.starts ∙ sym (kept start_in said (Label name) refl);
+  slots = h.slots ∙ sym (kept slots_in said (Label name) refl);
+  labels = ap (λ (l : List (List ℕ × ℕ)). l ++ (name, length d.sources) ∷ []) h.labels ∙ ap (λ (k : ℕ). labels_from 0 said ++ (name, k) ∷ []) (counted h.sources) ∙ sym (one_label said name);
+  once = ap names_once (one_label said name) ∙ once-more (labels_from 0 said) (name, 0 + length (flat_map source_in said)) h.once (ap (λ (l : List (List ℕ × ℕ)). position_of l name) (sym h.labels) ∙ free);
+  sources = h.sources ∙ sym (kept source_in said (Label name) refl);
+}
+
+pub code_held : (d : Held) (s : Source) → Holds d (Code s) (record d { has_body = true; sources = d.sources ++ s ∷ [] })
+code_held d s = λ said h. record {
+  order = order-more said (Code s) refl h.order;
+  body = sym (body-more said (Code s) refl);
+  mark = same_given _ _ _ _ _ (kept mark_in said (Code s) refl) h.mark;
+  memory = same_given _ _ _ _ _ (kept memory_in said (Code s) refl) h.memory;
+  budget = same_given _ _ _ _ _ (kept budget_in said (Code s) refl) h.budget;
+  needs = h.needs ∙ ap needs_named (sym (kept need_in said (Code s) refl));
+  starts = h.starts ∙ sym (kept start_in said (Code s) refl);
+  slots = h.slots ∙ sym (kept slots_in said (Code s) refl);
+  labels = h.labels ∙ sym (none_in_code said s);
+  once = ap names_once (none_in_code said s) ∙ h.once;
+  sources = ap (λ (l : List Source). l ++ s ∷ []) h.sources ∙ sym (added source_in said (Code s) s refl);
+}
+
+-- ---- before the first line
+
+pub nothing_held : (labels : List (List ℕ × ℕ)) (sources : List Source) → labels ≡ [] → sources ≡ []
+    → IsHeldOf [] (record { image = record { raw = false; memory = 0; budget = 1; needs = []; starts = []; slots = []; code = [] }; has_memory = false; has_budget = false; has_body = false; labels = labels; sources = sources })
+unfolding directives_first labels_from names_once
+nothing_held labels sources none empty = record {
+  order = refl;
+  body = refl;
+  mark = (refl, refl);
+  memory = (refl, refl);
+  budget = (refl, refl);
+  needs = refl;
+  starts = refl;
+  slots = refl;
+  labels = none;
+  once = refl;
+  sources = empty;
+}

@@ -1,0 +1,232 @@
+//! What the lines of a text have said so far.
+ghost use Rattle.std.specs.Prelude.{◌≡◌, ◌≤◌, [], length};
+
+use crate::directive::Directive;
+use crate::fault::{AsmCause, AsmFault};
+use crate::line::{Line, Source, line_of};
+use crate::resolving::{push_bytes, resolved};
+use crate::words::{is_ascii, split_words};
+use indexmap::IndexMap;
+use std::alloc::Global;
+use zl_code::{Image, Instr, SlotArray, Start};
+
+/// What the lines have said so far.
+#[derive(Drop)]
+pub(crate) struct Draft<'a> {
+    /// What the directives said; it has no instruction yet.
+    image: Image,
+    has_memory: bool,
+    has_budget: bool,
+    /// Whether a label or an instruction was read, behind which no directive stands.
+    has_body: bool,
+    /// For each label the number of the instruction behind it.
+    labels: IndexMap<&'a [u8], u32>,
+    sources: Vec<SourceLine<'a>>,
+    ghost few: { length sources.items ≤ 4096 },
+    ghost empty: { image.code ≡ [] },
+}
+
+/// An instruction and the number of its line.
+#[derive(Clone, Copy)]
+pub(crate) struct SourceLine<'a> {
+    line: u64,
+    source: Source<'a>,
+}
+
+impl<'a> Draft<'a> {
+    ghost use Rattle.std.specs.Prelude.{◌⊎◌, false, OnOk, OnErr, IfOk, IfErr, IsTrue};
+    ghost use Rattle.zl_asm.specs.declared.directive.Directive.TheVariants as directives;
+    ghost use Rattle.zl_asm.specs.declared.fault.AsmCause.TheVariants.{NoMemory};
+    ghost use Rattle.zl_asm.specs.Draft.{held_by, IsHeldOf, Holds, Refuses, Reads, Stops, Gives, GivesNone, is_directive_in_range};
+    ghost use Rattle.zl_asm.specs.Lines.{Declares, Label, Code};
+    ghost use Rattle.zl_asm.specs.Values.{source_value};
+    ghost use Rattle.zl_code.specs.Spells.{is_start_in_range, is_slot_in_range, is_in_range};
+
+    /// Nothing is said yet.
+    pub(crate) fn new(alloc: Global) -> Draft<'a>
+        ensures { IsHeldOf [] (held_by result) }
+    {
+        Draft {
+            image: Image::new(alloc),
+            has_memory: false,
+            has_budget: false,
+            has_body: false,
+            labels: IndexMap::new(alloc),
+            sources: Vec::new(alloc),
+        }
+    }
+
+    /// Takes a directive.
+    pub(crate) fn declare(&mut self, directive: Directive) -> Result<(), AsmCause>
+        requires in_range { IsTrue (is_directive_in_range directive) }
+        ensures held { OnOk result (Holds (held_by self.old) (Declares directive) (held_by self.new)) }
+        ensures refused { IfErr result (λ cause. (cause ≡ NoMemory) ⊎ Refuses (held_by self.old) (Declares directive)) }
+    {
+        if self.has_body {
+            return Err(AsmCause::Operand);
+        }
+        match directive {
+            Directive::Raw => self.declare_mark(),
+            Directive::Memory(bytes) => self.declare_memory(bytes),
+            Directive::Budget(steps) => self.declare_budget(steps),
+            Directive::Need(condition) => {
+                self.image.add_need(condition);
+                Ok(())
+            }
+            Directive::Start(start) => self.declare_start(start),
+            Directive::Slots(slots) => self.declare_slots(slots),
+        }
+    }
+
+    /// Takes the raw mark.
+    fn declare_mark(&mut self) -> Result<(), AsmCause>
+        requires first { self.old.has_body ≡ false }
+        ensures held { OnOk result (Holds (held_by self.old) (Declares directives.Raw) (held_by self.new)) }
+        ensures refused { OnErr result (Refuses (held_by self.old) (Declares directives.Raw)) }
+    {
+        if self.image.is_raw() {
+            return Err(AsmCause::Operand);
+        }
+        self.image.mark_raw();
+        Ok(())
+    }
+
+    /// Takes the size of the data memory.
+    fn declare_memory(&mut self, bytes: u32) -> Result<(), AsmCause>
+        requires first { self.old.has_body ≡ false }
+        requires most { bytes ≤ 65536 }
+        ensures held { OnOk result (Holds (held_by self.old) (Declares (directives.Memory bytes)) (held_by self.new)) }
+        ensures refused { OnErr result (Refuses (held_by self.old) (Declares (directives.Memory bytes))) }
+    {
+        if self.has_memory {
+            return Err(AsmCause::Operand);
+        }
+        self.has_memory = true;
+        self.image.set_memory(bytes);
+        Ok(())
+    }
+
+    /// Takes the budget.
+    fn declare_budget(&mut self, steps: u32) -> Result<(), AsmCause>
+        requires first { self.old.has_body ≡ false }
+        requires least { 1 ≤ steps }
+        requires most { steps ≤ 1000000 }
+        ensures held { OnOk result (Holds (held_by self.old) (Declares (directives.Budget steps)) (held_by self.new)) }
+        ensures refused { OnErr result (Refuses (held_by self.old) (Declares (directives.Budget steps))) }
+    {
+        if self.has_budget {
+            return Err(AsmCause::Operand);
+        }
+        self.has_budget = true;
+        self.image.set_budget(steps);
+        Ok(())
+    }
+
+    /// Takes a start handle.
+    fn declare_start(&mut self, start: Start) -> Result<(), AsmCause>
+        requires first { self.old.has_body ≡ false }
+        requires in_range { IsTrue (is_start_in_range start) }
+        ensures held { OnOk result (Holds (held_by self.old) (Declares (directives.Start start)) (held_by self.new)) }
+        ensures refused { IfErr result (λ cause. (cause ≡ NoMemory) ⊎ Refuses (held_by self.old) (Declares (directives.Start start))) }
+    {
+        if self.image.starts().len() >= Image::MOST_STARTS {
+            return Err(AsmCause::Limit);
+        }
+        self.image.push_start(start)?;
+        Ok(())
+    }
+
+    /// Takes a slot array.
+    fn declare_slots(&mut self, slots: SlotArray) -> Result<(), AsmCause>
+        requires first { self.old.has_body ≡ false }
+        requires in_range { IsTrue (is_slot_in_range slots) }
+        ensures held { OnOk result (Holds (held_by self.old) (Declares (directives.Slots slots)) (held_by self.new)) }
+        ensures refused { IfErr result (λ cause. (cause ≡ NoMemory) ⊎ Refuses (held_by self.old) (Declares (directives.Slots slots))) }
+    {
+        if self.image.slots().len() >= Image::MOST_SLOT_ARRAYS {
+            return Err(AsmCause::Limit);
+        }
+        self.image.push_slots(slots)?;
+        Ok(())
+    }
+
+    /// Takes a label.
+    pub(crate) fn push_label(&mut self, name: &'a [u8]) -> Result<(), AsmCause>
+        ensures held { OnOk result (Holds (held_by self.old) (Label name.now) (held_by self.new)) }
+        ensures refused { IfErr result (λ cause. (cause ≡ NoMemory) ⊎ Refuses (held_by self.old) (Label name.now)) }
+    {
+        if self.labels.contains_key(name) {
+            return Err(AsmCause::LabelTwice);
+        }
+        self.labels.insert(name, self.sources.len() as u32)?;
+        self.has_body = true;
+        Ok(())
+    }
+
+    /// Takes an instruction of the line of this number.
+    pub(crate) fn push_source(&mut self, line: u64, source: Source<'a>) -> Result<(), AsmCause>
+        ensures held { OnOk result (Holds (held_by self.old) (Code (source_value source.entry)) (held_by self.new)) }
+        ensures refused { IfErr result (λ cause. (cause ≡ NoMemory) ⊎ Refuses (held_by self.old) (Code (source_value source.entry))) }
+    {
+        if self.sources.len() >= Image::MOST_INSTRUCTIONS {
+            return Err(AsmCause::Limit);
+        }
+        if source.label.is_none() && Instr::from_bytes(self.image.is_raw(), source.bytes).is_err() {
+            return Err(AsmCause::Operand);
+        }
+        self.sources.push(SourceLine { line, source })?;
+        self.has_body = true;
+        Ok(())
+    }
+
+    /// Reads the line of this number; `words` and `operands` are room for its words.
+    pub(crate) fn read_line(
+        &mut self,
+        number: u64,
+        line: &'a [u8],
+        words: &mut Vec<&'a [u8]>,
+        operands: &mut Vec<&'a [u8]>,
+    ) -> Result<(), AsmCause>
+        ensures read { OnOk result (Reads (held_by self.old) line.now (held_by self.new)) }
+        ensures refused { IfErr result (λ cause. (cause ≡ NoMemory) ⊎ Stops (held_by self.old) line.now) }
+    {
+        if !is_ascii(line) {
+            return Err(AsmCause::Token);
+        }
+        split_words(words, line)?;
+        match line_of(words, operands)? {
+            Line::Blank => Ok(()),
+            Line::Declares(directive) => self.declare(directive),
+            Line::Label(name) => self.push_label(name),
+            Line::Code(source) => self.push_source(number, source),
+        }
+    }
+
+    /// The image that all lines give.
+    pub(crate) fn into_image(self) -> Result<Image, AsmFault>
+        ensures given { IfOk result (λ image. Gives (held_by self.entry) image) }
+        ensures in_range { IfOk result (λ image. IsTrue (is_in_range image)) }
+        ensures refused { IfErr result (λ fault. (fault.cause ≡ NoMemory) ⊎ GivesNone (held_by self.entry)) }
+    {
+        let Draft {
+            mut image,
+            labels,
+            sources,
+            ..
+        } = self;
+        while let Some(entry) = sources.get(image.len()) {
+            let line = entry.line;
+            let bytes = match resolved(&labels, entry.source) {
+                Some(bytes) => bytes,
+                None => {
+                    let cause = AsmCause::LabelMissing;
+                    return Err(AsmFault { line, cause });
+                }
+            };
+            if let Err(cause) = push_bytes(&mut image, bytes) {
+                return Err(AsmFault { line, cause });
+            }
+        }
+        Ok(image)
+    }
+}

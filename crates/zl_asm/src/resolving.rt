@@ -1,0 +1,51 @@
+//! From the instruction of a line to that of an image.
+ghost use Rattle.std.specs.Prelude.{◌≡◌, ◌⊎◌, ◌<◌, length, true, is_some, IfErr, OnOk};
+ghost use Rattle.zl_code.specs.Spells.{instr_fault};
+ghost use Rattle.zl_asm.specs.declared.fault.AsmCause.TheVariants.{NoMemory};
+ghost use Rattle.zl_asm.specs.Draft.{labels_shown, Pushes};
+ghost use Rattle.zl_asm.specs.Listing as listing;
+ghost use Rattle.zl_asm.specs.Values.{source_value};
+
+use crate::fault::AsmCause;
+use crate::line::Source;
+use indexmap::IndexMap;
+use zl_code::{Image, Instr};
+
+/// The bytes of an instruction with this target.
+fn with_target(bytes: [u8; 16], target: u32) -> [u8; 16]
+    ensures { result ≡ listing.with_target bytes target }
+{
+    let [opcode, a, b, c, d, e, f, g, i0, i1, i2, i3, ..] = bytes;
+    let [t0, t1, t2, t3] = target.to_le_bytes();
+    [opcode, a, b, c, d, e, f, g, i0, i1, i2, i3, t0, t1, t2, t3]
+}
+
+/// The bytes of the instruction, with the number for which its label stands; nothing where no label
+/// has the name.
+pub(crate) fn resolved(labels: &IndexMap<&[u8], u32>, source: Source) -> Option<[u8; 16]>
+    ensures { result ≡ listing.resolved (labels_shown labels.now.entries) (source_value source.entry) }
+{
+    match source.label {
+        Some(name) => {
+            let target = labels.get(name)?;
+            Some(with_target(source.bytes, *target))
+        }
+        None => Some(source.bytes),
+    }
+}
+
+/// Adds the instruction of these bytes behind the others, of which there are fewer than 4,096.
+/// `Operand` where a field is out of its range.
+pub(crate) fn push_bytes(image: &mut Image, bytes: [u8; 16]) -> Result<(), AsmCause>
+    requires { length image.old.code < 4096 }
+    ensures pushed { OnOk result (Pushes image.old bytes image.new) }
+    ensures refused { IfErr result (λ cause. (cause ≡ NoMemory) ⊎ (is_some (instr_fault image.old.raw bytes) ≡ true)) }
+{
+    match Instr::from_bytes(image.is_raw(), bytes) {
+        Ok(instr) => {
+            image.push_instr(instr)?;
+            Ok(())
+        }
+        Err(_) => Err(AsmCause::Operand),
+    }
+}

@@ -19,3 +19,5 @@ pub use fault::{AsmCause, AsmFault};
 
 #[cfg(test)]
 mod line_tests;
+#[cfg(test)]
+mod text_tests;

@@ -1,5 +1,5 @@
 -- The rows of the table, by opcode and by name.
-use Rattle.std.proofs.Common.{◌≡◌, ◌≢◌, ℕ, ◌+◌, ◌<◌, ◌≤◌, Bool, true, false, ◌==◌, nat_lt, List, [], ◌∷◌, Option, Some, None, refl, ap, sym, subst, ◌∙◌, inl, inr, arith}
+use Rattle.std.proofs.Common.{◌≡◌, ◌≢◌, ℕ, ◌+◌, ◌<◌, ◌≤◌, Bool, true, false, ◌==◌, ◌&&◌, not, nat_lt, List, [], ◌∷◌, Option, Some, None, refl, ap, sym, subst, ◌∙◌, inl, inr, arith}
 use Rattle.std.specs.List.{find, list_all}
 use Rattle.std.specs.Option.{option_map}
 use Rattle.std.specs.Cmp.Lexicographic.{pointwise}
@@ -28,155 +28,52 @@ each_found P test (x ∷ rs) r h e =
       | inr apart ↦ each_found P test rs r h.1 cc
     ]
 
+all_of : (test : Row → Bool) (rs : List Row) → list_all test rs ≡ true → Each (λ r. test r ≡ true) rs
+all_of test [] h = tt
+all_of test (r ∷ rs) h = let p = and_parts (test r) (list_all test rs) h in (p.0, all_of test rs p.1)
+
+-- each row fails the test beside each row behind it
+abbrev apart : (Row → Row → Bool) → List Row → Bool
+apart same [] = true
+apart same (r ∷ rs) = list_all (λ x. not (same r x)) rs && apart same rs
+
+not_false : (b : Bool) → not b ≡ true → b ≡ false
+not_false true h = absurd cc
+not_false false h = refl
+
+-- where no other row passes the test beside a row, that row is found
+found_among : (same : Row → Row → Bool) (rs : List Row) (opcode : ℕ) (r : Row) → ((x : Row) → same x x ≡ true) → apart same rs ≡ true → row_among rs opcode ≡ Some r → find (λ x. same x r) rs ≡ Some r
+found_among same [] opcode r alike h e = absurd cc
+found_among same (x ∷ rs) opcode r alike h e =
+    let p = and_parts (list_all (λ y. not (same x y)) rs) (apart same rs) h in
+    elim (cases_Bool (x.opcode == opcode)) as (λ _. find (λ y. same y r) (x ∷ rs) ≡ Some r) [
+      | inl here ↦ let e : x ≡ r = cc in rw (← e) (rw (alike x) refl)
+      | inr other ↦
+          let rest : row_among rs opcode ≡ Some r = cc in
+          let differs : same x r ≡ false = not_false (same x r) (each_among (λ y. not (same x y) ≡ true) rs opcode r (all_of (λ y. not (same x y)) rs p.0) rest) in
+          rw differs (found_among same rs opcode r alike p.1 rest)
+    ]
+
+row_again : (test : Row → Bool) (rs : List Row) (r : Row) → apart (λ x y. x.opcode == y.opcode) rs ≡ true → find test rs ≡ Some r → row_among rs r.opcode ≡ Some r
+row_again test [] r h e = absurd cc
+row_again test (x ∷ rs) r h e =
+    let p = and_parts (list_all (λ y. not (x.opcode == y.opcode)) rs) (apart (λ x y. x.opcode == y.opcode) rs) h in
+    elim (cases_Bool (test x)) as (λ _. row_among (x ∷ rs) r.opcode ≡ Some r) [
+      | inl here ↦ let e : x ≡ r = cc in rw (← e) (rw (eq-eqb x.opcode x.opcode refl) refl)
+      | inr other ↦
+          let rest : find test rs ≡ Some r = cc in
+          let differs : (x.opcode == r.opcode) ≡ false = not_false (x.opcode == r.opcode) (each_found (λ y. not (x.opcode == y.opcode) ≡ true) test rs r (all_of (λ y. not (x.opcode == y.opcode)) rs p.0) rest).0 in
+          rw differs (row_again test rs r p.1 rest)
+    ]
+
+same_refl : (xs : List ℕ) → pointwise ◌==◌ xs xs ≡ true
+same_refl [] = refl
+same_refl (x ∷ xs) = and_from (x == x) (pointwise ◌==◌ xs xs) (eq-eqb x x refl) (same_refl xs)
+
 -- the row of an opcode is the row of its name
 pub row_named-of : (opcode : ℕ) (r : Row) → row_of opcode ≡ Some r → row_named r.name ≡ Some r
 unfolding row_of row_named
-row_named-of opcode r e =
-    each_among (λ x. row_named x.name ≡ Some x) rows opcode r (
-      refl,
-      (
-        refl,
-        (
-          refl,
-          (
-            refl,
-            (
-              refl,
-              (
-                refl,
-                (
-                  refl,
-                  (
-                    refl,
-                    (
-                      refl,
-                      (
-                        refl,
-                        (
-                          refl,
-                          (
-                            refl,
-                            (
-                              refl,
-                              (
-                                refl,
-                                (
-                                  refl,
-                                  (
-                                    refl,
-                                    (
-                                      refl,
-                                      (
-                                        refl,
-                                        (
-                                          refl,
-                                          (
-                                            refl,
-                                            (
-                                              refl,
-                                              (
-                                                refl,
-                                                (
-                                                  refl,
-                                                  (
-                                                    refl,
-                                                    (
-                                                      refl,
-                                                      (
-                                                        refl,
-                                                        (
-                                                          refl,
-                                                          (
-                                                            refl,
-                                                            (
-                                                              refl,
-                                                              (
-                                                                refl,
-                                                                (
-                                                                  refl,
-                                                                  (
-                                                                    refl,
-                                                                    (
-                                                                      refl,
-                                                                      (
-                                                                        refl,
-                                                                        (
-                                                                          refl,
-                                                                          (
-                                                                            refl,
-                                                                            (
-                                                                              refl,
-                                                                              (
-                                                                                refl,
-                                                                                (
-                                                                                  refl,
-                                                                                  (
-                                                                                    refl,
-                                                                                    (
-                                                                                      refl,
-                                                                                      (
-                                                                                        refl,
-                                                                                        (
-                                                                                          refl,
-                                                                                          (
-                                                                                            refl,
-                                                                                            (
-                                                                                              refl,
-                                                                                              (
-                                                                                                refl,
-                                                                                                (
-                                                                                                  refl,
-                                                                                                  (
-                                                                                                    refl,
-                                                                                                    tt,
-                                                                                                  ),
-                                                                                                ),
-                                                                                              ),
-                                                                                            ),
-                                                                                          ),
-                                                                                        ),
-                                                                                      ),
-                                                                                    ),
-                                                                                  ),
-                                                                                ),
-                                                                              ),
-                                                                            ),
-                                                                          ),
-                                                                        ),
-                                                                      ),
-                                                                    ),
-                                                                  ),
-                                                                ),
-                                                              ),
-                                                            ),
-                                                          ),
-                                                        ),
-                                                      ),
-                                                    ),
-                                                  ),
-                                                ),
-                                              ),
-                                            ),
-                                          ),
-                                        ),
-                                      ),
-                                    ),
-                                  ),
-                                ),
-                              ),
-                            ),
-                          ),
-                        ),
-                      ),
-                    ),
-                  ),
-                ),
-              ),
-            ),
-          ),
-        ),
-      ),
-    ) e
+row_named-of opcode r e = found_among (λ x y. pointwise ◌==◌ x.name y.name) rows opcode r (λ x. same_refl x.name) refl e
 
 same_names : (xs ys : List ℕ) → pointwise ◌==◌ xs ys ≡ true → xs ≡ ys
 same_names [] [] h = refl
@@ -186,156 +83,18 @@ same_names (x ∷ xs) (y ∷ ys) h =
     let p = and_parts (x == y) (pointwise ◌==◌ xs ys) h in
     λ i. eqb-true x y p.0 i ∷ same_names xs ys p.1 i
 
+passes : (test : Row → Bool) (rs : List Row) (r : Row) → find test rs ≡ Some r → test r ≡ true
+passes test [] r e = absurd cc
+passes test (x ∷ rs) r e =
+    elim (cases_Bool (test x)) as (λ _. test r ≡ true) [
+      | inl here ↦ let same : x ≡ r = cc in subst (λ y. test y ≡ true) same here
+      | inr other ↦ passes test rs r cc
+    ]
+
 -- the row of a name is the row of its opcode, and has the name
 pub row_of-named : (name : List ℕ) (r : Row) → row_named name ≡ Some r → (row_of r.opcode ≡ Some r) × (r.name ≡ name)
 unfolding row_of row_named
-row_of-named name r e =
-    let found = each_found (λ x. row_among rows x.opcode ≡ Some x) (λ x. pointwise ◌==◌ x.name name) rows r (
-      refl,
-      (
-        refl,
-        (
-          refl,
-          (
-            refl,
-            (
-              refl,
-              (
-                refl,
-                (
-                  refl,
-                  (
-                    refl,
-                    (
-                      refl,
-                      (
-                        refl,
-                        (
-                          refl,
-                          (
-                            refl,
-                            (
-                              refl,
-                              (
-                                refl,
-                                (
-                                  refl,
-                                  (
-                                    refl,
-                                    (
-                                      refl,
-                                      (
-                                        refl,
-                                        (
-                                          refl,
-                                          (
-                                            refl,
-                                            (
-                                              refl,
-                                              (
-                                                refl,
-                                                (
-                                                  refl,
-                                                  (
-                                                    refl,
-                                                    (
-                                                      refl,
-                                                      (
-                                                        refl,
-                                                        (
-                                                          refl,
-                                                          (
-                                                            refl,
-                                                            (
-                                                              refl,
-                                                              (
-                                                                refl,
-                                                                (
-                                                                  refl,
-                                                                  (
-                                                                    refl,
-                                                                    (
-                                                                      refl,
-                                                                      (
-                                                                        refl,
-                                                                        (
-                                                                          refl,
-                                                                          (
-                                                                            refl,
-                                                                            (
-                                                                              refl,
-                                                                              (
-                                                                                refl,
-                                                                                (
-                                                                                  refl,
-                                                                                  (
-                                                                                    refl,
-                                                                                    (
-                                                                                      refl,
-                                                                                      (
-                                                                                        refl,
-                                                                                        (
-                                                                                          refl,
-                                                                                          (
-                                                                                            refl,
-                                                                                            (
-                                                                                              refl,
-                                                                                              (
-                                                                                                refl,
-                                                                                                (
-                                                                                                  refl,
-                                                                                                  (
-                                                                                                    refl,
-                                                                                                    tt,
-                                                                                                  ),
-                                                                                                ),
-                                                                                              ),
-                                                                                            ),
-                                                                                          ),
-                                                                                        ),
-                                                                                      ),
-                                                                                    ),
-                                                                                  ),
-                                                                                ),
-                                                                              ),
-                                                                            ),
-                                                                          ),
-                                                                        ),
-                                                                      ),
-                                                                    ),
-                                                                  ),
-                                                                ),
-                                                              ),
-                                                            ),
-                                                          ),
-                                                        ),
-                                                      ),
-                                                    ),
-                                                  ),
-                                                ),
-                                              ),
-                                            ),
-                                          ),
-                                        ),
-                                      ),
-                                    ),
-                                  ),
-                                ),
-                              ),
-                            ),
-                          ),
-                        ),
-                      ),
-                    ),
-                  ),
-                ),
-              ),
-            ),
-          ),
-        ),
-      ),
-    ) e in
-    (found.0, same_names r.name name found.1)
+row_of-named name r e = (row_again (λ x. pointwise ◌==◌ x.name name) rows r refl e, same_names r.name name (passes (λ x. pointwise ◌==◌ x.name name) rows r e))
 
 -- ---- going over the opcodes
 
@@ -390,20 +149,12 @@ no_row f opcode r name none e same = absurd cc
 pub other_name : (n name : List ℕ) (opcode : ℕ) (r : Row) → Some n ≡ option_map (λ (x : Row). x.name) (row_of opcode) → false ≡ pointwise ◌==◌ n name → row_of opcode ≡ Some r → r.name ≢ name
 other_name n name opcode r has apart e same =
     let named : n ≡ name = cc in
-    absurd (different (sym (pointwise-refl name) ∙ sym (ap (λ (m : List ℕ). pointwise ◌==◌ m name) named) ∙ sym apart))
+    absurd (different (sym (same_refl name) ∙ sym (ap (λ (m : List ℕ). pointwise ◌==◌ m name) named) ∙ sym apart))
   where
     different : true ≡ false → ⊥
     different h = absurd cc
 
-    pointwise-refl : (xs : List ℕ) → pointwise ◌==◌ xs xs ≡ true
-    pointwise-refl [] = refl
-    pointwise-refl (x ∷ xs) = and_from (x == x) (pointwise ◌==◌ xs xs) (eq-eqb x x refl) (pointwise-refl xs)
-
 -- ---- the end
-
-all_of : (test : Row → Bool) (rs : List Row) → list_all test rs ≡ true → Each (λ r. test r ≡ true) rs
-all_of test [] h = tt
-all_of test (r ∷ rs) h = let p = and_parts (test r) (list_all test rs) h in (p.0, all_of test rs p.1)
 
 small : (name : List ℕ) (r : Row) → row_named name ≡ Some r → r.opcode < 87
 unfolding row_named

@@ -13,8 +13,8 @@ mod operands;
 mod resolving;
 mod words;
 
-pub use disassembling::disassemble;
 pub use assembling::{assemble, assemble_bytes};
+pub use disassembling::disassemble;
 pub use fault::{AsmCause, AsmFault};
 
 #[cfg(test)]

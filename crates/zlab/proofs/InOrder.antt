@@ -6,7 +6,7 @@ use Rattle.zl_code.specs.Spells.{first_fault}
 use Rattle.zlab.specs.declared.fault.Cause.{Cause}
 use Rattle.zlab.specs.declared.fault.Cause.TheVariants as cause
 use Rattle.zlab.specs.Lines.{words_of, digits_of, bytes_of_digits}
-use Rattle.zlab.specs.Scenario.{Said, Part, Statements, Block, Schedule, Place, at, start, onto, onto_block, digits_said, with_program, MOST_PROGRAMS, process_said, limit_said, statement_said, program_said, block_said, pair_said, turns_said, part_said, line_said, told_line, Reading, refused, fault_at_end, reading_from, Rises, IsInOrder}
+use Rattle.zlab.specs.Scenario.{Said, Body, Part, Statements, Block, Schedule, Place, at, start, onto, opened_by, body_named, onto_block, bytes_said, body_said, with_program, MOST_PROGRAMS, process_said, limit_said, statement_said, program_said, block_said, pair_said, turns_said, part_said, line_said, told_line, Reading, refused, fault_at_end, reading_from, Rises, IsInOrder}
 
 -- ---- rising lines
 
@@ -79,6 +79,10 @@ limit_below n said new None h e = absurd (cc)
 next_line : (n : ℕ) (part : Part) (next : Place) (said : Said) → told_line (n + 1) part ≡ n + 1 → IsBelow (n + 1) said → at said part ≡ next → IsPlaced (n + 1) next
 next_line n part next said out h e = subst (IsPlaced (n + 1)) e (record { below = rw out h; told = omega (arith, out) })
 
+opened_placed : (n : ℕ) (said : Said) (body : Option Body) (next : Place) → IsBelow n said → opened_by n said body ≡ Ok next → IsPlaced (n + 1) next
+opened_placed n said (Some body) next h e = let same : at said (Block n body) ≡ next = cc in subst (IsPlaced (n + 1)) same (record { below = h; told = omega arith })
+opened_placed n said None next h e = absurd (cc)
+
 statement_placed : (n : ℕ) (said : Said) (words : List (List ℕ)) (next : Place) → IsBelow n said → statement_said n said words ≡ Ok next → IsPlaced (n + 1) next
 unfolding statement_said
 statement_placed n said [] next h e = next_line n Statements next said refl (below_more n (n + 1) said h (omega arith)) (cc)
@@ -86,37 +90,31 @@ statement_placed n said (name ∷ []) next h e = next_line n Schedule next said 
 statement_placed n said (name ∷ most ∷ []) next h e =
     let read = onto_ok Statements _ next (then_ok _ _ next _ e) in
     next_line n Statements next read.0 refl (limit_below n said read.0 _ h read.1) read.2
-statement_placed n said (name ∷ mark ∷ form ∷ []) next h e = subst (IsPlaced (n + 1)) (if_ok _ _ next _ e).1 (record { below = h; told = omega arith })
+statement_placed n said (name ∷ mark ∷ form ∷ []) next h e = opened_placed n said (body_named name mark form) next h e
 statement_placed n said (name ∷ job ∷ program ∷ word ∷ []) next h e =
     let read = onto_ok Statements _ next (then_ok _ _ next _ e) in
     next_line n Statements next read.0 refl (process_below n said read.0 _ _ _ h read.1) read.2
 statement_placed n said (name ∷ job ∷ program ∷ word ∷ more ∷ rest) next h e = absurd (cc)
 
-program_below : (n : ℕ) (said new : Said) (digits : List ℕ) → IsBelow n said → program_said said digits ≡ Ok new → IsBelow n new
+program_below : (n : ℕ) (said new : Said) (bytes : Result (List ℕ) Cause) → IsBelow n said → program_said said bytes ≡ Ok new → IsBelow n new
 unfolding program_said
-program_below n said new digits h e =
-    let is_odd = not (eqb (length digits % 2) 0) in
-    let is_none = is_some (first_fault (bytes_of_digits digits)) in
-    let has_room = ltb (length said.programs) MOST_PROGRAMS in
-    let made = with_program said (bytes_of_digits digits) in
-    let room = cond has_room (Ok made) (Err cause.Limit) in
-    let even = else_ok is_odd (cond is_none (Err cause.Program) room) new cause.Syntax e in
-    let spelled = else_ok is_none room new cause.Program even in
-    subst (IsBelow n) (if_ok has_room made new cause.Limit spelled).1 (record { limit = h.limit; placed = h.placed; rising = h.rising })
+program_below n said new (Ok bytes) h e =
+    subst (IsBelow n) (if_ok (ltb (length said.programs) MOST_PROGRAMS) (with_program said bytes) new cause.Limit e).1 (record { limit = h.limit; placed = h.placed; rising = h.rising })
+program_below n said new (Err c) h e = absurd (cc)
 
-digits_placed : (n opened : ℕ) (said : Said) (r : Result (List ℕ) Cause) (next : Place) → IsBelow opened said → opened ≤ n → onto_block said opened r ≡ Ok next → IsPlaced (n + 1) next
-digits_placed n opened said (Ok digits) next h before e = let same : at said (Block opened digits) ≡ next = cc in subst (IsPlaced (n + 1)) same (record { below = h; told = omega arith })
-digits_placed n opened said (Err c) next h before e = absurd (cc)
+body_placed : (n opened : ℕ) (said : Said) (r : Result Body Cause) (next : Place) → IsBelow opened said → opened ≤ n → onto_block said opened r ≡ Ok next → IsPlaced (n + 1) next
+body_placed n opened said (Ok body) next h before e = let same : at said (Block opened body) ≡ next = cc in subst (IsPlaced (n + 1)) same (record { below = h; told = omega arith })
+body_placed n opened said (Err c) next h before e = absurd (cc)
 
-block_placed : (n opened : ℕ) (said : Said) (digits line : List ℕ) (words : List (List ℕ)) (next : Place) → IsBelow opened said → opened ≤ n → block_said said opened digits line words ≡ Ok next → IsPlaced (n + 1) next
+block_placed : (n opened : ℕ) (said : Said) (body : Body) (line : List ℕ) (words : List (List ℕ)) (next : Place) → IsBelow opened said → opened ≤ n → block_said said opened body line words ≡ Ok next → IsPlaced (n + 1) next
 unfolding block_said
-block_placed n opened said digits line words next h before e = go _ e
+block_placed n opened said body line words next h before e = go _ e
   where
-    go : (t : Bool) → cond t (onto Statements (program_said said digits)) (onto_block said opened (digits_said digits (digits_of line))) ≡ Ok next → IsPlaced (n + 1) next
+    go : (t : Bool) → cond t (onto Statements (program_said said (bytes_said body))) (onto_block said opened (body_said body line)) ≡ Ok next → IsPlaced (n + 1) next
     go true e =
         let read = onto_ok Statements _ next e in
-        next_line n Statements next read.0 refl (below_more opened (n + 1) read.0 (program_below opened said read.0 digits h read.1) (omega arith)) read.2
-    go false e = digits_placed n opened said _ next h before e
+        next_line n Statements next read.0 refl (below_more opened (n + 1) read.0 (program_below opened said read.0 _ h read.1) (omega arith)) read.2
+    go false e = body_placed n opened said _ next h before e
 
 pair_below : (n : ℕ) (said new : Said) (pid count : Option ℕ) → IsBelow n said → pair_said said pid count ≡ Ok new → IsBelow n new
 unfolding pair_said
@@ -135,7 +133,7 @@ turns_below n said new (pid ∷ count ∷ more ∷ rest) h e = absurd (cc)
 
 part_placed : (n : ℕ) (said : Said) (part : Part) (line : List ℕ) (words : List (List ℕ)) (next : Place) → IsPlaced n (at said part) → part_said n said part line words ≡ Ok next → IsPlaced (n + 1) next
 part_placed n said Statements line words next h e = statement_placed n said words next h.below e
-part_placed n said (Block opened digits) line words next h e = block_placed n opened said digits line words next h.below h.told e
+part_placed n said (Block opened body) line words next h e = block_placed n opened said body line words next h.below h.told e
 part_placed n said Schedule line words next h e =
     let read = onto_ok Schedule _ next e in
     next_line n Schedule next read.0 refl (below_more n (n + 1) read.0 (turns_below n said read.0 words h.below read.1) (omega arith)) read.2
@@ -143,7 +141,7 @@ part_placed n said Schedule line words next h e =
 -- a line that says nothing
 same_placed : (n : ℕ) (said : Said) (part : Part) → IsPlaced n (at said part) → IsPlaced (n + 1) (at said part)
 same_placed n said Statements h = record { below = below_more n (n + 1) said h.below (omega arith); told = omega arith }
-same_placed n said (Block opened digits) h = record { below = h.below; told = omega (arith, h.told) }
+same_placed n said (Block opened body) h = record { below = h.below; told = omega (arith, h.told) }
 same_placed n said Schedule h = record { below = below_more n (n + 1) said h.below (omega arith); told = omega arith }
 
 line_placed : (n : ℕ) (place : Place) (line : List ℕ) (next : Place) → IsPlaced n place → line_said n place line ≡ Ok next → IsPlaced (n + 1) next
@@ -159,7 +157,7 @@ refused_in_order n place c h = record { limit = h.below.limit; placed = h.below.
 
 end_in_order : (n : ℕ) (said : Said) (part : Part) → IsPlaced n (at said part) → IsInOrder (record { said = said; fault = fault_at_end part })
 end_in_order n said Statements h = record { limit = h.below.limit; placed = h.below.placed; rising = (n, h.below.rising); before_fault = tt }
-end_in_order n said (Block opened digits) h = record { limit = h.below.limit; placed = h.below.placed; rising = (opened, h.below.rising); before_fault = h.below.rising }
+end_in_order n said (Block opened body) h = record { limit = h.below.limit; placed = h.below.placed; rising = (opened, h.below.rising); before_fault = h.below.rising }
 end_in_order n said Schedule h = record { limit = h.below.limit; placed = h.below.placed; rising = (n, h.below.rising); before_fault = tt }
 
 rest_in_order : (n : ℕ) (place : Place) (line : List ℕ) (lines : List (List ℕ)) (r : Result Place Cause) → line_said n place line ≡ r → IsPlaced n place

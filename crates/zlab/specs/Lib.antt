@@ -8,3 +8,4 @@ pub mod Lines
 pub mod Scenario
 pub mod Reading
 pub mod Words
+pub mod Assembling

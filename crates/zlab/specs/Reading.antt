@@ -1,7 +1,8 @@
 -- What the reader of scenarios makes and answers, beside what the text says.
-use Rattle.std.specs.Prelude.{ℕ, ◌≡◌, Bool, true, false, ◌&&◌, not, List, [], ◌∷◌, map, None, is_some, Result, Ok, Err}
+use Rattle.std.specs.Prelude.{ℕ, ◌≡◌, Bool, true, false, ◌&&◌, not, List, [], ◌∷◌, map, Some, None, is_some, Result, Ok, Err}
 use Rattle.zl_code.specs.Image.{Image, Library, Program}
 use Rattle.zl_code.specs.Spells.{Spells, spelling, is_in_range, first_fault}
+use Rattle.zl_asm.specs.Denotes.{image_bytes_of}
 use Rattle.zlab.specs.declared.fault.Cause.{Cause}
 use Rattle.zlab.specs.declared.fault.Cause.TheVariants as cause
 use Rattle.zlab.specs.declared.scenario.Scenario.{Scenario}
@@ -9,7 +10,9 @@ use Rattle.zlab.specs.declared.scenario.fault.Fault.{Fault}
 use Rattle.zlab.specs.declared.scenario.fault.Fault.TheVariants as fault
 use Rattle.zlab.specs.declared.scenario.part.Part.{Part as Seen}
 use Rattle.zlab.specs.declared.scenario.part.Part.TheVariants as seen
-use Rattle.zlab.specs.Scenario.{Said, Part, Statements, Block, Schedule}
+use Rattle.zlab.specs.declared.scenario.body.Form.{Form}
+use Rattle.zlab.specs.declared.scenario.body.Form.TheVariants as form
+use Rattle.zlab.specs.Scenario.{Said, Body, Hex, Asm, Part, Statements, Block, Schedule}
 
 -- ---- what is made
 
@@ -47,11 +50,16 @@ said_by s = record {
 
 -- ---- what is answered
 
--- the part that the reader is in, which in a block has these digits
-abbrev pub part_with : List ℕ → Seen → Part
-part_with digits seen.Statements = Statements
-part_with digits (seen.Block opened) = Block opened digits
-part_with digits seen.Schedule = Schedule
+-- the part that the reader is in, which in a block holds this
+abbrev pub part_with : Body → Seen → Part
+part_with body seen.Statements = Statements
+part_with body (seen.Block opened) = Block opened body
+part_with body seen.Schedule = Schedule
+
+-- what a block of this form holds: these digits, or this text
+abbrev pub body_with : Form → List ℕ → List ℕ → Body
+body_with form.Hex digits text = Hex digits
+body_with form.Asm digits text = Asm text
 
 -- the answer is what was said: what is made, or the fault; of a want of memory nothing is known
 abbrev pub Tells : {A S : Type 0} → Result A Fault → (A → S) → Result S Cause → Type 0

@@ -1,9 +1,10 @@
 -- What the lines of a scenario and of its schedule say, one after another, and the first fault of each.
-use Rattle.std.specs.Prelude.{ℕ, ◌≡◌, ◌≤◌, ◌+◌, ◌%◌, Bool, false, ◌&&◌, not, ◌==◌, nat_lt, nat_le, List, [], ◌∷◌, ◌++◌, length, codes, Option, Some, None, is_some, IfSome, Result, Ok, Err, if◌then◌else◌}
+use Rattle.std.specs.Prelude.{ℕ, ◌≡◌, ◌≤◌, ◌+◌, ◌%◌, Bool, true, false, ◌&&◌, not, ◌==◌, nat_lt, nat_le, List, [], ◌∷◌, ◌++◌, length, codes, Option, Some, None, is_some, IfSome, Result, Ok, Err, if◌then◌else◌}
 use Rattle.zl_code.specs.declared.boot.Statement.{Statement}
 use Rattle.zl_code.specs.declared.boot.Statement.TheVariants as statement
 use Rattle.zl_code.specs.Boot.{MOST_ITEMS}
 use Rattle.zl_code.specs.Spells.{first_fault}
+use Rattle.zl_asm.specs.Denotes.{image_bytes_of}
 use Rattle.zlab.specs.declared.fault.Cause.{Cause}
 use Rattle.zlab.specs.declared.fault.Cause.TheVariants as cause
 use Rattle.zlab.specs.declared.fault.LineFault.{LineFault}
@@ -21,11 +22,16 @@ pub record Said : Type 0 where
   -- pairs of a process and a number of turns
   pub schedule : List (ℕ × ℕ)
 
+-- what the lines of a program's block have given so far: the digits of its image, or the text of the assembler
+pub data Body : Type 0 where
+  Hex : (digits : List ℕ) → Body
+  Asm : (text : List ℕ) → Body
+
 -- what the next line belongs to
 pub data Part : Type 0 where
   Statements : Part
-  -- a program's block: the line that opens it, and its digits so far
-  Block : ℕ → List ℕ → Part
+  -- a program's block: the line that opens it, and what it holds so far
+  Block : ℕ → Body → Part
   Schedule : Part
 
 -- where a line stands: after what was said, in a part
@@ -61,16 +67,23 @@ unfoldable pub limit_said : Said → Option ℕ → Result Said Cause
 limit_said said (Some limit) = if nat_le limit MOST_ITEMS then Ok (record said { limit = limit }) else Err cause.Limit
 limit_said said None = Err cause.Syntax
 
--- `program raw hex`
-unfoldable pub is_header : List ℕ → List ℕ → List ℕ → Bool
-is_header name mark form = is_word name (codes "program") && (is_word mark (codes "raw") && is_word form (codes "hex"))
+-- `program raw hex` or `program raw asm`, and what the block holds at first
+unfoldable pub body_named : List ℕ → List ℕ → List ℕ → Option Body
+body_named name mark form =
+    if is_word name (codes "program") && is_word mark (codes "raw") then
+    (if is_word form (codes "hex") then Some (Hex []) else (if is_word form (codes "asm") then Some (Asm []) else None))
+    else None
+
+abbrev pub opened_by : ℕ → Said → Option Body → Result Place Cause
+opened_by n said (Some body) = Ok (at said (Block n body))
+opened_by n said None = Err cause.Syntax
 
 -- the words of line n, which stands among the statements
 unfoldable pub statement_said : ℕ → Said → List (List ℕ) → Result Place Cause
 statement_said n said [] = Ok (at said Statements)
 statement_said n said (name ∷ []) = if is_word name (codes "--") then Ok (at said Schedule) else Err cause.Syntax
 statement_said n said (name ∷ most ∷ []) = if is_word name (codes "limit") then onto Statements (limit_said said (number_of most)) else Err cause.Syntax
-statement_said n said (name ∷ mark ∷ form ∷ []) = if is_header name mark form then Ok (at said (Block n [])) else Err cause.Syntax
+statement_said n said (name ∷ mark ∷ form ∷ []) = opened_by n said (body_named name mark form)
 statement_said n said (name ∷ job ∷ program ∷ word ∷ []) =
     if is_word name (codes "process") then onto Statements (process_said n said (number_of job) (number_of program) (number_of word)) else Err cause.Syntax
 statement_said n said _ = Err cause.Syntax
@@ -84,21 +97,44 @@ MOST_PROGRAMS = 256
 abbrev pub with_program : Said → List ℕ → Said
 with_program said bytes = record said { programs = said.programs ++ (bytes ∷ []) }
 
--- the digits of a whole block: an even count of them, which spells an image, and not one program too many
-unfoldable pub program_said : Said → List ℕ → Result Said Cause
-program_said said digits =
+-- the bytes of an image that a whole block's digits spell: an even count of them
+unfoldable pub digits_spelled : List ℕ → Result (List ℕ) Cause
+digits_spelled digits =
     if not (length digits % 2 == 0) then Err cause.Syntax
     else (if is_some (first_fault (bytes_of_digits digits)) then Err cause.Program
-    else (if nat_lt (length said.programs) MOST_PROGRAMS then Ok (with_program said (bytes_of_digits digits))
-    else Err cause.Limit))
+    else Ok (bytes_of_digits digits))
+
+-- the bytes of the image that a whole block's text denotes
+abbrev pub text_spelled : Option (List ℕ) → Result (List ℕ) Cause
+text_spelled (Some bytes) = Ok bytes
+text_spelled None = Err cause.Program
+
+-- the bytes of the image that a whole block gives
+abbrev pub bytes_said : Body → Result (List ℕ) Cause
+bytes_said (Hex digits) = digits_spelled digits
+bytes_said (Asm text) = text_spelled (image_bytes_of text)
+
+-- one program more, if it isn't one too many
+unfoldable pub program_said : Said → Result (List ℕ) Cause → Result Said Cause
+program_said said (Ok bytes) = if nat_lt (length said.programs) MOST_PROGRAMS then Ok (with_program said bytes) else Err cause.Limit
+program_said said (Err c) = Err c
 
 -- a line's digits after those before it
 abbrev pub digits_said : List ℕ → Option (List ℕ) → Result (List ℕ) Cause
 digits_said digits (Some more) = Ok (digits ++ more)
 digits_said digits None = Err cause.Syntax
 
-abbrev pub onto_block : Said → ℕ → Result (List ℕ) Cause → Result Place Cause
-onto_block said opened (Ok digits) = Ok (at said (Block opened digits))
+abbrev pub hex_with : Result (List ℕ) Cause → Result Body Cause
+hex_with (Ok digits) = Ok (Hex digits)
+hex_with (Err c) = Err c
+
+-- a line of a block after those before it: its digits, or the line itself with its end
+unfoldable pub body_said : Body → List ℕ → Result Body Cause
+body_said (Hex digits) line = hex_with (digits_said digits (digits_of line))
+body_said (Asm text) line = Ok (Asm (text ++ (line ++ codes "\n")))
+
+abbrev pub onto_block : Said → ℕ → Result Body Cause → Result Place Cause
+onto_block said opened (Ok body) = Ok (at said (Block opened body))
 onto_block said opened (Err c) = Err c
 
 -- the one word `end`
@@ -106,10 +142,10 @@ unfoldable pub is_end : List (List ℕ) → Bool
 is_end (name ∷ []) = is_word name (codes "end")
 is_end _ = false
 
--- a line of a block, and its words: the one word `end`, or digits
-unfoldable pub block_said : Said → ℕ → List ℕ → List ℕ → List (List ℕ) → Result Place Cause
-block_said said opened digits line words =
-    if is_end words then onto Statements (program_said said digits) else onto_block said opened (digits_said digits (digits_of line))
+-- a line of a block, and its words: the one word `end`, or what the block is made of
+unfoldable pub block_said : Said → ℕ → Body → List ℕ → List (List ℕ) → Result Place Cause
+block_said said opened body line words =
+    if is_end words then onto Statements (program_said said (bytes_said body)) else onto_block said opened (body_said body line)
 
 -- ---- the schedule
 
@@ -136,16 +172,30 @@ turns_said said _ = Err cause.Syntax
 -- a line and its words, by the part that the line belongs to
 abbrev pub part_said : ℕ → Said → Part → List ℕ → List (List ℕ) → Result Place Cause
 part_said n said Statements line words = statement_said n said words
-part_said n said (Block opened digits) line words = block_said said opened digits line words
+part_said n said (Block opened body) line words = block_said said opened body line words
 part_said n said Schedule line words = onto Schedule (turns_said said words)
+
+abbrev pub is_text_body : Body → Bool
+is_text_body (Asm text) = true
+is_text_body (Hex digits) = false
+
+-- a block that holds the text of the assembler
+abbrev pub is_text : Part → Bool
+is_text (Block opened body) = is_text_body body
+is_text _ = false
+
+-- a comment, but in the text of the assembler, which has its own
+abbrev pub is_skipped : Part → List ℕ → Bool
+is_skipped part line = not (is_text part) && is_comment line
 
 -- line n, where it stands: a byte outside ASCII is a fault in a comment too, and a comment says nothing
 unfoldable pub line_said : ℕ → Place → List ℕ → Result Place Cause
-line_said n place line = if is_ascii line then (if is_comment line then Ok place else part_said n place.said place.part line (words_of line)) else Err cause.Syntax
+line_said n place line =
+    if is_ascii line then (if is_skipped place.part line then Ok place else part_said n place.said place.part line (words_of line)) else Err cause.Syntax
 
 -- the line that a fault of line n is told of: in a block the one that opens it
 abbrev pub told_line : ℕ → Part → ℕ
-told_line n (Block opened digits) = opened
+told_line n (Block opened body) = opened
 told_line n _ = n
 
 -- what a text says: all that stands before its first fault, and that fault
@@ -158,7 +208,7 @@ refused said line c = record { said = said; fault = Some (record { line = line; 
 
 -- after the last line: a block that no line ends
 abbrev pub fault_at_end : Part → Option LineFault
-fault_at_end (Block opened digits) = Some (record { line = opened; cause = cause.Syntax })
+fault_at_end (Block opened body) = Some (record { line = opened; cause = cause.Syntax })
 fault_at_end _ = None
 
 -- the lines from number n on, from where they stand
@@ -200,10 +250,28 @@ digits_in [] = Some []
 digits_in (line ∷ lines) =
     if is_ascii line && not (is_end (words_of line)) then joined (if is_comment line then Some [] else digits_of line) (digits_in lines) else None
 
+-- what follows a block from the line of this number on, by what all of it says
+abbrev pub after_block : ℕ → ℕ → Said → List (List ℕ) → Result Said Cause → Reading
+after_block opened n said rest (Ok new) = reading_from n (at new Statements) rest
+after_block opened n said rest (Err c) = refused said opened c
+
+-- the text of the lines of a block of the assembler; nothing where a line is `end`, or has a byte outside ASCII
+unfoldable pub text_in : List (List ℕ) → Option (List ℕ)
+text_in [] = Some []
+text_in (line ∷ lines) = if is_ascii line && not (is_end (words_of line)) then joined (Some (line ++ codes "\n")) (text_in lines) else None
+
 -- from the line `program raw hex` to the line `end`, a block says what all of its digits say, or it is at fault as a whole
-abbrev pub BlocksAreWhole : Type 0
-BlocksAreWhole = (n : ℕ) (said : Said) (body rest : List (List ℕ)) (digits : List ℕ) → digits_in body ≡ Some digits
-    → reading_from n (at said Statements) (codes "program raw hex" ∷ (body ++ (codes "end" ∷ rest))) ≡ elim (program_said said digits) as (λ _. Reading) [
-      | Ok new ↦ reading_from (n + 2 + length body) (at new Statements) rest
-      | Err c ↦ refused said n c
-    ]
+abbrev pub DigitsAreWhole : Type 0
+DigitsAreWhole = (n : ℕ) (said : Said) (lines rest : List (List ℕ)) (digits : List ℕ) → digits_in lines ≡ Some digits
+    → reading_from n (at said Statements) (codes "program raw hex" ∷ (lines ++ (codes "end" ∷ rest)))
+    ≡ after_block n (n + 2 + length lines) said rest (program_said said (digits_spelled digits))
+
+-- and from the line `program raw asm` on, the image that all of its text denotes
+abbrev pub TextIsWhole : Type 0
+TextIsWhole = (n : ℕ) (said : Said) (lines rest : List (List ℕ)) (text : List ℕ) → text_in lines ≡ Some text
+    → reading_from n (at said Statements) (codes "program raw asm" ∷ (lines ++ (codes "end" ∷ rest)))
+    ≡ after_block n (n + 2 + length lines) said rest (program_said said (text_spelled (image_bytes_of text)))
+
+pub record BlocksAreWhole : Type 0 where
+  pub digits : DigitsAreWhole
+  pub text : TextIsWhole

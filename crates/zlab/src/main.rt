@@ -1,6 +1,9 @@
 //! The program: its command line, the trace of standard input, and its exit status.
 #![tactic(auto)]
 
+mod assembling;
+#[cfg(test)]
+mod assembling_tests;
 mod engine;
 mod fault;
 mod input;

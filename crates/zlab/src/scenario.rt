@@ -5,6 +5,7 @@ ghost use Rattle.zlab.specs.Reading.{IsScenario};
 ghost use Rattle.zlab.specs.declared.fault.EngineFault.TheVariants.{NoMemory};
 
 mod block;
+mod body;
 mod digits;
 mod draft;
 mod fault;

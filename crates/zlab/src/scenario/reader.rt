@@ -1,14 +1,14 @@
 //! The reader: one line after the other, in one pass.
 ghost use Rattle.std.specs.Prelude.{◌≡◌, IfOk, IfErr, map};
 ghost use Rattle.zlab.specs.Lines.{lines_of};
-ghost use Rattle.zlab.specs.Scenario.{start, told_line, fault_at_end, part_said, line_said, reading_from};
+ghost use Rattle.zlab.specs.Scenario.{start, told_line, is_text, fault_at_end, part_said, line_said, reading_from};
 ghost use Rattle.zlab.specs.Reading.{Tells, Keeps, IsScenario};
 ghost use Rattle.zlab.specs.declared.fault.EngineFault.TheVariants.{NoMemory};
 
 use crate::fault::{Cause, EngineFault, LineFault};
 use crate::scenario::Scenario;
 use crate::scenario::block::read_block;
-use crate::scenario::digits::Digits;
+use crate::scenario::body::Body;
 use crate::scenario::draft::Draft;
 use crate::scenario::fault::Fault;
 use crate::scenario::part::Part;
@@ -22,8 +22,8 @@ use std::marker::Model;
 #[derive(Drop)]
 pub struct Reader {
     part: Part,
-    /// The digits of the block, where the next line belongs to one.
-    digits: Digits,
+    /// What the block holds, where the next line belongs to one.
+    body: Body,
     draft: Draft,
 }
 
@@ -33,7 +33,7 @@ impl Model for Reader {
 
     ghost Value = { Place };
 
-    ghost view = { λ r. at r.draft (part_with r.digits r.part) };
+    ghost view = { λ r. at r.draft (part_with r.body r.part) };
 }
 
 impl Reader {
@@ -43,7 +43,7 @@ impl Reader {
     {
         Reader {
             part: Part::Statements,
-            digits: Digits::new(alloc),
+            body: Body::new(alloc),
             draft: Draft::new(alloc),
         }
     }
@@ -62,6 +62,16 @@ impl Reader {
         match self.part {
             Part::Block { opened } => opened,
             Part::Statements | Part::Schedule => number,
+        }
+    }
+
+    /// Whether the next line belongs to the assembler's text.
+    fn is_text(&self) -> bool
+        ensures { result ≡ is_text self.now.part }
+    {
+        match self.part {
+            Part::Block { .. } => self.body.is_text(),
+            Part::Statements | Part::Schedule => false,
         }
     }
 
@@ -93,7 +103,7 @@ impl Reader {
         if !is_ascii(line) {
             return Err(Fault::Refused(Cause::Syntax));
         }
-        if is_comment(line) {
+        if !self.is_text() && is_comment(line) {
             return Ok(());
         }
         split_words(words, line)?;
@@ -112,18 +122,9 @@ impl Reader {
         ensures kept { Keeps result self.old.said self.new.said }
     {
         self.part = match self.part {
-            Part::Statements => {
-                read_statement(&mut self.draft, &mut self.digits, number, words)?
-            }
+            Part::Statements => { read_statement(&mut self.draft, &mut self.body, number, words)? }
             Part::Block { opened } => {
-                read_block(
-                    &mut self.draft,
-                    &mut self.digits,
-                    alloc,
-                    opened,
-                    line,
-                    words,
-                )?
+                read_block(&mut self.draft, &mut self.body, alloc, opened, line, words)?
             }
             Part::Schedule => {
                 read_turns(&mut self.draft, words)?;

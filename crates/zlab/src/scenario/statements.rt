@@ -1,11 +1,12 @@
 //! The lines that make a statement or open a part.
-ghost use Rattle.std.specs.Prelude.{◌≡◌, map};
+ghost use Rattle.std.specs.Prelude.{◌≡◌, [], map};
+ghost use Rattle.std.specs.Option.{option_map};
 ghost use Rattle.zlab.specs.Lines.{number_of};
-ghost use Rattle.zlab.specs.Scenario.{at, is_header, process_said, limit_said, statement_said};
-ghost use Rattle.zlab.specs.Reading.{part_with, Tells, Keeps};
+ghost use Rattle.zlab.specs.Scenario.{at, body_named, process_said, limit_said, statement_said};
+ghost use Rattle.zlab.specs.Reading.{part_with, body_with, Tells, Keeps};
 
 use crate::fault::Cause;
-use crate::scenario::digits::Digits;
+use crate::scenario::body::{Body, Form};
 use crate::scenario::draft::Draft;
 use crate::scenario::fault::Fault;
 use crate::scenario::numbers::number;
@@ -14,15 +15,15 @@ use crate::scenario::words::is;
 use zl_code::Boot;
 
 /// Reads the words of a line that stands among the statements, and answers what the next line
-/// belongs to. Where that is a block, `digits` is empty.
+/// belongs to. Where that is a block, `body` is empty.
 #[tactic(auto, unfolding(crate::specs::Scenario::statement_said))]
 pub fn read_statement(
     draft: &mut Draft,
-    digits: &mut Digits,
+    body: &mut Body,
     line: u64,
     words: &[&[u8]],
 ) -> Result<Part, Fault>
-    ensures told { Tells result (λ next. at draft.new (part_with digits.new next)) (statement_said line draft.old (map (λ word. word.now) words.now)) }
+    ensures told { Tells result (λ next. at draft.new (part_with body.new next)) (statement_said line draft.old (map (λ word. word.now) words.now)) }
     ensures kept { Keeps result draft.old draft.new }
 {
     match words {
@@ -32,8 +33,11 @@ pub fn read_statement(
             read_limit(draft, most)?;
             Ok(Part::Statements)
         }
-        [name, mark, form] if is_header(name, mark, form) => {
-            digits.clear();
+        [name, mark, form] => {
+            let Some(form) = form_of(name, mark, form) else {
+                return Err(Fault::Refused(Cause::Syntax));
+            };
+            body.open(form);
             Ok(Part::Block { opened: line })
         }
         [name, job, program, word] if is(name, b"process") => {
@@ -44,12 +48,21 @@ pub fn read_statement(
     }
 }
 
-/// Whether the words open the block of a program.
-#[tactic(auto, unfolding(crate::specs::Scenario::is_header))]
-fn is_header(name: &[u8], mark: &[u8], form: &[u8]) -> bool
-    ensures { result ≡ is_header name.now mark.now form.now }
+/// The form of the block that the words open, if they open one.
+#[tactic(auto, unfolding(crate::specs::Scenario::body_named))]
+fn form_of(name: &[u8], mark: &[u8], form: &[u8]) -> Option<Form>
+    ensures { option_map (λ form. body_with form [] []) result ≡ body_named name.now mark.now form.now }
 {
-    is(name, b"program") && is(mark, b"raw") && is(form, b"hex")
+    if !is(name, b"program") || !is(mark, b"raw") {
+        return None;
+    }
+    if is(form, b"hex") {
+        Some(Form::Hex)
+    } else if is(form, b"asm") {
+        Some(Form::Asm)
+    } else {
+        None
+    }
 }
 
 #[tactic(auto, unfolding(crate::specs::Scenario::process_said))]

@@ -3,8 +3,8 @@ use Rattle.std.proofs.lemmas.List.{at_drop_all}
 use Rattle.zlab.specs.Lines.{digits_of}
 use Rattle.zlab.specs.Scenario.{digits_said}
 use Rattle.zlab.proofs.LineDigits.{after_space, after_digit, at_other, at_line_end}
-use Rattle.zlab.proofs.scenario.block.read_digits.Goals as goal
-use Rattle.zlab.proofs.scenario.block.read_digits.Goals.{then-byte-ne32+in-Some+in_ok-push, else-byte-ne32}
+use Rattle.zlab.proofs.scenario.body.push_digits.Goals as goal
+use Rattle.zlab.proofs.scenario.body.push_digits.Goals.{then-byte-ne32+in-Some+in_ok-push, else-byte-ne32}
 
 pub returns-in_default : goal.returns-in_default
 returns-in_default c =

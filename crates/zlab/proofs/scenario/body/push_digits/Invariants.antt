@@ -1,7 +1,7 @@
 use Rattle.std.proofs.Common.{◌≡◌, drop}
 use Rattle.zlab.specs.Lines.{digits_of}
 use Rattle.zlab.specs.Scenario.{digits_said}
-use Rattle.zlab.proofs.scenario.block.read_digits.Given as goal
+use Rattle.zlab.proofs.scenario.body.push_digits.Given as goal
 
 abbrev pub invariant-loop-byte : goal.invariant-loop-byte
 invariant-loop-byte l = digits_said l.digits (digits_of (drop l.byte-index l.line)) ≡ digits_said l.initial.digits (digits_of l.line)

@@ -1,0 +1,103 @@
+//! The engine of the assembler: a text is read, and its image written, or the line of its fault.
+ghost use Rattle.std.specs.Prelude.{◌≡◌, ◌≢◌, ◌⊎◌, ◌++◌, ◌≤◌, length, IfOk, IfErr, OnOk, OnErr, string_bytes};
+ghost use Rattle.std.specs.Io.KnownBytes.{Appends};
+ghost use Rattle.zlab.specs.Input.{IsInputOf};
+ghost use Rattle.zlab.specs.Output.{AppendsBeginning};
+ghost use Rattle.zlab.specs.Assembling.{Leads, fault_line, ReadsTo, AssemblesReader, BeginsAssembly};
+ghost use Rattle.zlab.specs.declared.fault.Verdict.TheVariants as verdicts;
+
+use crate::fault::{EngineFault, Verdict};
+use crate::input::{Input, MOST_INPUT, read_input};
+use crate::output::{write_all, write_block};
+use std::alloc::{AllocError, Global};
+use std::io::{Read, Write};
+use zl_asm::{AsmCause, AsmFault, assemble_bytes};
+use zl_code::encode;
+
+/// What a text leads to.
+#[derive(Drop)]
+pub enum Assembled {
+    /// The bytes of the image that it denotes.
+    Image(Vec<u8>),
+    /// It is too long, or denotes no image.
+    Refused(AsmFault),
+}
+
+const TOO_LONG: AsmFault = AsmFault {
+    line: 0,
+    cause: AsmCause::Limit,
+};
+
+/// Reads the text of a program, and writes the bytes of the image that it denotes to `image`, or
+/// the line `refused LINE CAUSE` to `line`; a text above 4,194,304 bytes is `refused 0 Limit`. All
+/// input is read before anything is written, and nothing is written to the other writer.
+///
+/// A fault of the reader is `Read`, with nothing written. A fault of a writer, and a want of memory,
+/// leave nothing or a beginning of such an answer.
+pub fn asm_engine<R: Read, I: Write, L: Write>(
+    alloc: Global,
+    text: &mut R,
+    image: &mut I,
+    line: &mut L,
+) -> Result<Verdict, EngineFault>
+    ensures ok { IfOk result (λ verdict. AssemblesReader (R.remaining text.old) verdict (I.contents image.old) (I.contents image.new) (L.contents line.old) (L.contents line.new)) }
+    ensures err { OnErr result (((I.contents image.new ≡ I.contents image.old) × (L.contents line.new ≡ L.contents line.old))
+        ⊎ BeginsAssembly (R.remaining text.old) (I.contents image.old) (I.contents image.new) (L.contents line.old) (L.contents line.new)) }
+    ensures read { IfErr result (λ fault. fault ≡ EngineFault.Read → (I.contents image.new ≡ I.contents image.old) × (L.contents line.new ≡ L.contents line.old)) }
+{
+    match read_text(alloc, text)? {
+        Assembled::Image(bytes) => {
+            write_all(image, bytes.as_slice())?;
+            Ok(Verdict::Done)
+        }
+        Assembled::Refused(fault) => {
+            write_fault(alloc, line, fault)?;
+            Ok(Verdict::Refused)
+        }
+    }
+}
+
+/// What the whole text of the reader leads to.
+fn read_text<R: Read>(alloc: Global, reader: &mut R) -> Result<Assembled, EngineFault>
+    ensures { IfOk result (ReadsTo (R.remaining reader.old)) }
+{
+    match read_input(alloc, reader)? {
+        Input::Text(text) => assemble_text(alloc, text.as_slice()),
+        Input::TooLong => Ok(Assembled::Refused(TOO_LONG)),
+    }
+}
+
+/// What a text leads to that isn't too long.
+fn assemble_text(alloc: Global, text: &[u8]) -> Result<Assembled, EngineFault>
+    requires { length text.now ≤ MOST_INPUT }
+    ensures ok { IfOk result (Leads text.now) }
+    ensures err { IfErr result (λ fault. fault ≡ EngineFault.NoMemory) }
+{
+    match assemble_bytes(alloc, text) {
+        Ok(image) => Ok(Assembled::Image(encode(alloc, &image)?)),
+        Err(fault) => match fault.cause {
+            AsmCause::NoMemory => Err(EngineFault::NoMemory),
+            _ => Ok(Assembled::Refused(fault)),
+        },
+    }
+}
+
+/// Writes the line of the fault.
+fn write_fault<W: Write>(alloc: Global, writer: &mut W, fault: AsmFault) -> Result<(), EngineFault>
+    ensures ok { OnOk result (Appends (W.contents writer.old) (W.contents writer.new) (fault_line fault)) }
+    ensures err { OnErr result (AppendsBeginning (W.contents writer.old) (W.contents writer.new) (fault_line fault)) }
+    ensures fault { IfErr result (λ fault. fault ≢ EngineFault.Read) }
+{
+    let mut block = String::new(alloc);
+    push_fault(&mut block, fault)?;
+    write_block(writer, &mut block)
+}
+
+/// Adds the line of the fault. Where memory is refused, a beginning of the line may stand there.
+fn push_fault(text: &mut String, fault: AsmFault) -> Result<(), AllocError>
+    ensures { OnOk result (string_bytes text.new ≡ string_bytes text.old ++ fault_line fault) }
+{
+    let line = fault.line;
+    let name = fault.cause.name();
+    write!(text, "refused {line} {name}\n")
+}

@@ -16,4 +16,6 @@ pub mod LineDigits
 pub mod ReadingOn
 pub mod InOrder
 pub mod WholeBlocks
+pub mod WalkKeeps
 pub mod CommandLine
+pub mod RowsWords

@@ -1,13 +1,20 @@
 -- The command line: the command set as `clap` defines one, and what its words ask for.
-use Rattle.std.specs.Prelude.{◌≡◌, ◌⊎◌, true, codes, Option, Some, None, []}
-use Rattle.std.specs.Prelude.{List}
-use Rattle.clap.specs.Words.{App, IsAmong, Kinds, Row, Text, new_app}
+use Rattle.std.specs.Prelude.{◌≡◌, ◌⊎◌, true, codes, Option, Some, None, IsSome, List, [], ◌∷◌, fold}
+use Rattle.clap.specs.Words.{App, IsAmong, Kinds, Row, Rule, Text, first_of, new_app, new_rule, with_rule, with_subcommand}
 use Rattle.clap.specs.declared.error.kind.ErrorKind.{ErrorKind}
 use Rattle.clap.specs.declared.error.kind.ErrorKind.TheVariants.{DisplayHelp, DisplayVersion, OutOfMemory}
 use Rattle.zlab.specs.declared.words.Task.{Task}
-use Rattle.zlab.specs.declared.words.Task.TheVariants.{Input}
+use Rattle.zlab.specs.declared.words.Task.TheVariants.{Assemble, Input}
 use Rattle.zlab.specs.declared.words.WordFault.{WordFault}
 use Rattle.zlab.specs.declared.words.WordFault.TheVariants.{Usage, NoMemory}
+
+-- a word that must be there, told by its place
+abbrev pub needed : Text → Rule
+needed word = record (new_rule word) { required = true }
+
+-- a command of this name, whose words must all be there
+abbrev pub command_of : Text → List Text → App
+command_of name words = fold (λ made word. with_rule made (needed word)) (new_app name) words
 
 -- the program has a version, and its own name isn't among the words
 abbrev pub program : App
@@ -16,14 +23,31 @@ program = record {
   subs = [];
 }
 
--- the commands: none yet, so that zlab takes no words but those that ask for its help or version
+-- asm IN OUT
+abbrev pub assembling : App
+assembling = command_of (codes "asm") (codes "IN" ∷ codes "OUT" ∷ [])
+
+-- the command set: no words, or those of one of the commands
 abbrev pub commands : App
-commands = program
+commands = with_subcommand program assembling.top
+
+-- clap finds a value of this name
+abbrev pub HasValue : List Row → Text → Type 0
+HasValue rows name = IsSome (first_of name rows)
+
+-- clap finds no subcommand, or one of the command set with its values
+abbrev pub HasValues : Option (Text × List Row) → Type 0
+HasValues None = Unit {0}
+HasValues (Some found) =
+    (found.0 ≡ codes "asm") × HasValue found.1 (codes "IN") × HasValue found.1 (codes "OUT")
 
 -- the subcommand that clap finds, with its values, asks for the task
 abbrev pub AsksFor : Option (Text × List Row) → Task → Type 0
 AsksFor None Input = Unit {0}
-AsksFor (Some found) Input = ⊥
+AsksFor (Some found) (Assemble text image) = (found.0 ≡ codes "asm")
+    × (first_of (codes "IN") found.1 ≡ Some text.now)
+    × (first_of (codes "OUT") found.1 ≡ Some image.now)
+AsksFor _ _ = ⊥
 
 -- what an error of clap is to the program
 abbrev pub FaultOf : ErrorKind → WordFault → Type 0

@@ -15,12 +15,13 @@ mod tests;
 mod text;
 mod words;
 
+use assembling::asm_engine;
 use engine::step_engine;
 use fault::{EngineFault, Verdict};
 use std::alloc::AllocError;
 use std::process::ExitCode;
-use std::rt::Env;
-use std::{env, io};
+use std::rt::{Env, Files};
+use std::{env, fs, io};
 use thiserror::Error;
 use words::{Task, WordFault};
 
@@ -56,7 +57,7 @@ fn main(rt: HostRuntime) -> ExitCode {
     }
 }
 
-fn run<R: AllocGlobal + Env + Input + Print>(rt: &R) -> Result<Verdict, Failure> {
+fn run<R: AllocGlobal + Env + Files + Input + Print>(rt: &R) -> Result<Verdict, Failure> {
     let all = all_words(rt)?;
     let words = all.get(1..).unwrap_or(&[]);
     if let Some(text) = words::help(rt.alloc(), words)? {
@@ -69,7 +70,23 @@ fn run<R: AllocGlobal + Env + Input + Print>(rt: &R) -> Result<Verdict, Failure>
         Task::Input => {
             step_engine(rt.alloc(), &mut rt.reader(), &mut io::writer(rt)).map_err(Failure::Engine)
         }
+        Task::Assemble { text, image } => assemble(rt, text, image).map_err(Failure::Engine),
     }
+}
+
+/// Assembles the file `text` into the file `image`, which is made or emptied before anything is read.
+fn assemble<R: AllocGlobal + Files + Print>(
+    rt: &R,
+    text: &str,
+    image: &str,
+) -> Result<Verdict, EngineFault> {
+    let Ok(mut image) = fs::create(rt, image) else {
+        return Err(EngineFault::Write);
+    };
+    let Ok(mut text) = fs::open(rt, text) else {
+        return Err(EngineFault::Read);
+    };
+    asm_engine(rt.alloc(), &mut text, &mut image, &mut io::writer(rt))
 }
 
 /// The program's name and the words after it.

@@ -1,31 +1,38 @@
 //! The command line, read with `clap`: what its words ask for, and its help.
-ghost use Rattle.std.specs.Prelude.{◌≡◌, ◌≢◌, IsSome, IfOk, IfErr, map, false, [], ◌∷◌};
+ghost use Rattle.std.specs.Prelude.{◌≡◌, ◌≢◌, Some, IsSome, IfOk, IfErr, map, false, [], ◌∷◌};
 ghost use Rattle.clap.specs.Takes.{takes};
-ghost use Rattle.clap.specs.Words.{app_of, fault_of, kind_of, subcommand_of};
-ghost use Rattle.zlab.specs.Words.{AsksFor, FaultOf, MayAskForHelp, commands};
+ghost use Rattle.clap.specs.Words.{app_of, fault_of, first_of, found_of, kind_of, rows_of, rule_of, subcommand_of, subcommand_rows_of};
+ghost use Rattle.zlab.specs.Words.{AsksFor, FaultOf, HasValue, HasValues, MayAskForHelp, assembling, commands, needed};
 ghost use Rattle.zlab.specs.declared.words.WordFault.TheVariants.{NoMemory, Usage};
 
 mod texts;
 
 use clap::error::ErrorKind;
-use clap::{Command, Error};
+use clap::{Arg, ArgMatches, Command, Error};
 use std::alloc::{AllocError, Global};
 use std::convert::AsStr;
 use thiserror::Error as Fault;
 
 /// What a command line asks for.
 #[derive(Clone, Copy, PartialEq, Eq, Debug)]
-pub enum Task {
+pub enum Task<'a> {
     /// No words: standard input has a scenario and a schedule, whose trace is written.
     Input,
+    /// `asm IN OUT`: a text is assembled into an image.
+    Assemble {
+        /// The path of the text.
+        text: &'a str,
+        /// The path of the image.
+        image: &'a str,
+    },
 }
 
 /// Why a command line asks for no task.
 #[derive(Clone, Copy, PartialEq, Eq, Debug, Fault)]
 pub enum WordFault {
     /// The words are in none of the forms.
-    #[error("a wrong command line; the form is `zlab < INPUT`; not built yet: \
-             `zlab step SCENARIO SCHEDULE`, `zlab asm IN OUT`, `zlab check IMAGE`, \
+    #[error("a wrong command line; the forms are `zlab < INPUT` and `zlab asm IN OUT`; not built \
+             yet: `zlab step SCENARIO SCHEDULE`, `zlab check IMAGE`, \
              `zlab run SCENARIO --workers N --limit M`, `zlab replay SCENARIO TRACE`; \
              `zlab --help` says more")]
     Usage,
@@ -56,27 +63,66 @@ impl From<Error> for WordFault {
 /// What the words after the program's name ask for. `Usage` comes where `clap` doesn't take them for
 /// the command set, and so for words that ask for help or for the version: `help` has the text for
 /// those. `NoMemory` comes where memory is refused.
-pub fn words<S: AsStr>(alloc: Global, words: &[S]) -> Result<Task, WordFault>
-    ensures task { IfOk result (λ task. AsksFor (subcommand_of commands (map S.text words.now)) task) }
-    ensures taken { IfOk result (λ _. fault_of commands (map S.text words.now) ≡ []) }
-    ensures faulty { IfErr result (λ fault. fault ≡ Usage → fault_of commands (map S.text words.now) ≢ []) }
-    ensures usage { IfErr result (λ fault. fault ≡ Usage → takes commands (map S.text words.now) ≡ false) }
+pub fn words<'a, S: AsStr>(alloc: Global, words: &'a [S]) -> Result<Task<'a>, WordFault>
+    ensures task { IfOk result (λ task. AsksFor (subcommand_of commands (map S.text words.entry.now)) task) }
+    ensures taken { IfOk result (λ _. fault_of commands (map S.text words.entry.now) ≡ []) }
+    ensures faulty { IfErr result (λ fault. fault ≡ Usage → fault_of commands (map S.text words.entry.now) ≢ []) }
+    ensures usage { IfErr result (λ fault. fault ≡ Usage → takes commands (map S.text words.entry.now) ≡ false) }
 {
-    command(alloc)?.try_get_matches_from(words)?;
-    Ok(Task::Input)
+    let matches = command(alloc)?.try_get_matches_from(words)?;
+    Ok(task_of(&matches))
+}
+
+// The task that the matches of the command set stand for.
+fn task_of<'a>(matches: &ArgMatches<'a>) -> Task<'a>
+    requires { HasValues (subcommand_rows_of matches.now) }
+    ensures { AsksFor (subcommand_rows_of matches.now) result }
+{
+    match matches.subcommand() {
+        None => Task::Input,
+        Some((_, values)) => Task::Assemble {
+            text: value(values, "IN"),
+            image: value(values, "OUT"),
+        },
+    }
+}
+
+// A value that the subcommand can't be without.
+fn value<'a>(matches: &ArgMatches<'a>, name: &str) -> &'a str
+    requires { HasValue (rows_of (found_of matches.now)) name.now }
+    ensures { first_of name.now (rows_of (found_of matches.now)) ≡ Some result.now }
+{
+    matches.get_str(name).unwrap()
 }
 
 // The command set, with what the help says of it.
 fn command<'a>(alloc: Global) -> Result<Command<'a>, AllocError>
     ensures { IfOk result (λ made. app_of made ≡ commands) }
 {
-    let command = Command::new(alloc, "zlab")
+    Command::new(alloc, "zlab")
         .no_binary_name(true)
         .bin_name("zlab")?
         .version("0.1.0")
         .about(texts::ABOUT)
-        .after_help(texts::FORMS);
-    Ok(command)
+        .after_help(texts::FORMS)
+        .subcommand(assembling(alloc)?)
+}
+
+fn assembling<'a>(alloc: Global) -> Result<Command<'a>, AllocError>
+    ensures { IfOk result (λ made. app_of made ≡ assembling) }
+{
+    Command::new(alloc, "asm")
+        .about("Assembles the text in the file IN into an image in the file OUT")
+        .arg(needed(alloc, "IN", "The file of the assembler's text"))?
+        .arg(needed(alloc, "OUT", "The file that the image is written to"))
+}
+
+// A word that must be there.
+fn needed<'a>(alloc: Global, name: &'a str, help: &'a str) -> Arg<'a>
+    ensures rule { rule_of result ≡ needed name.entry.now }
+    ensures local { result.global ≡ false }
+{
+    Arg::new(alloc, name).help(help).required(true)
 }
 
 /// The text for words that ask for help or for the version; what other words ask for is left to
@@ -114,9 +160,25 @@ mod tests {
     }
 
     #[test]
+    fn reads_the_two_files_of_asm(rt: HostRuntime) {
+        let task = Task::Assemble {
+            text: "ping.zasm",
+            image: "ping.zli",
+        };
+        assert_eq!(rt;
+            words(rt.alloc(), &["asm", "ping.zasm", "ping.zli"]),
+            Ok(task)
+        );
+        assert_eq!(rt;
+            words(rt.alloc(), &["asm", "--", "ping.zasm", "ping.zli"]),
+            Ok(task)
+        );
+    }
+
+    #[test]
     fn refuses_what_is_no_form(rt: HostRuntime) {
         for word in [
-            "step", "asm", "check", "run", "replay", "-", "--limit", "--help", "-V",
+            "step", "asm", "help", "check", "run", "replay", "-", "--limit", "--help", "-V",
         ] {
             assert_eq!(rt; words(rt.alloc(), &[word]), Err(WordFault::Usage), "{word}");
         }
@@ -124,7 +186,13 @@ mod tests {
 
     #[test]
     fn gives_help_only_where_it_is_asked_for(rt: HostRuntime) -> Result<(), Fail> {
-        for (word, expected) in [("--help", true), ("-h", true), ("-V", true), ("asm", false)] {
+        for (word, expected) in [
+            ("--help", true),
+            ("-h", true),
+            ("-V", true),
+            ("help", true),
+            ("asm", false),
+        ] {
             let text = help(rt.alloc(), &[word])?;
             assert_eq!(rt; text.is_some(), expected, "{word}");
         }

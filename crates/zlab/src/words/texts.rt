@@ -7,19 +7,19 @@ and writes every system call with its answer, in the order in which they were ma
 
 /// The forms of the command line, and the exit statuses.
 pub const FORMS: &str = "\
-The form of a command line:
+The forms of a command line:
   zlab < INPUT
       Without words, reads standard input: a scenario, a line `--` and a schedule. Runs the scenario
       along the schedule and writes the trace, or `refused LINE CAUSE` for the first faulty line.
       Example: zlab < examples/event.zls
+  zlab asm IN OUT
+      Assembles the text in the file IN, and writes the image to the file OUT.
+      Example: zlab asm ping.zasm ping.zli
 
 Not built yet (a wrong command line for now):
   zlab step SCENARIO SCHEDULE
       Does what zlab does without words, with the scenario and the schedule in two files.
       Example: zlab step pair.zls turns.txt
-  zlab asm IN OUT
-      Assembles the text in the file IN, and writes the image to the file OUT.
-      Example: zlab asm ping.zasm ping.zli
   zlab check IMAGE
       Says whether the verifier accepts the image of a program.
       Example: zlab check ping.zli

@@ -1,0 +1,44 @@
+-- Command lines, as clap's definitions read them.
+use Rattle.std.proofs.Common.{◌≡◌, refl, true, [], ◌∷◌, List, Option, Some, None, codes, option_map}
+use Rattle.clap.specs.Words.{Text, fault_of, first_of, is_simple_and_free, subcommand_of, takes}
+use Rattle.clap.specs.declared.error.kind.ErrorKind.TheVariants as kind
+use Rattle.clap.proofs.OnLiterals.{clap_on_literals}
+use Rattle.zlab.specs.Words.{commands}
+
+abbrev files : List Text → Option (Text × Option Text × Option Text)
+files words = option_map (λ found. (found.0, first_of (codes "IN") found.1, first_of (codes "OUT") found.1)) (subcommand_of commands words)
+
+clap_defines_them : is_simple_and_free commands ≡ true
+clap_defines_them = refl
+
+no_words : (takes commands [] ≡ true) × (subcommand_of commands [] ≡ None)
+unfolding clap_on_literals
+no_words = (refl, refl)
+
+two_files : (takes commands (codes "asm" ∷ codes "a" ∷ codes "b" ∷ []) ≡ true) × (files (codes "asm" ∷ codes "a" ∷ codes "b" ∷ []) ≡ Some (codes "asm", Some (codes "a"), Some (codes "b")))
+unfolding clap_on_literals
+two_files = (refl, refl)
+
+behind_hyphens : files (codes "asm" ∷ codes "--" ∷ codes "-a" ∷ codes "b" ∷ []) ≡ Some (codes "asm", Some (codes "-a"), Some (codes "b"))
+unfolding clap_on_literals
+behind_hyphens = refl
+
+one_file : fault_of commands (codes "asm" ∷ codes "a" ∷ []) ≡ kind.MissingRequiredArgument ∷ []
+unfolding clap_on_literals
+one_file = refl
+
+three_files : fault_of commands (codes "asm" ∷ codes "a" ∷ codes "b" ∷ codes "c" ∷ []) ≡ kind.UnknownArgument ∷ []
+unfolding clap_on_literals
+three_files = refl
+
+not_built : fault_of commands (codes "check" ∷ codes "a" ∷ []) ≡ kind.UnknownArgument ∷ kind.InvalidSubcommand ∷ []
+unfolding clap_on_literals
+not_built = refl
+
+asks_help : (fault_of commands (codes "--help" ∷ []) ≡ kind.DisplayHelp ∷ []) × (fault_of commands (codes "asm" ∷ codes "-h" ∷ []) ≡ kind.DisplayHelp ∷ [])
+unfolding clap_on_literals
+asks_help = (refl, refl)
+
+asks_version : fault_of commands (codes "--version" ∷ []) ≡ kind.DisplayVersion ∷ []
+unfolding clap_on_literals
+asks_version = refl

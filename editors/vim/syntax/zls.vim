@@ -1,0 +1,39 @@
+" Scenarios of zlab, with assembler text or hexadecimal digits in the blocks of their programs.
+if exists("b:current_syntax")
+  finish
+endif
+
+syntax case match
+syntax include @zlsAsm <sfile>:p:h/zlasm.vim
+unlet! b:current_syntax
+
+syntax match zlsNumber /\<\d\+\>/
+syntax match zlsStatement /\%(^ *\)\@<=\%(process\|limit\)\>/
+
+" A program's block, up to the one word `end`.
+syntax region zlsAsmBlock matchgroup=zlsProgram start=/^ *program \+raw \+asm *$/ end=/^ *end *$/ keepend contains=@zlsAsm
+syntax region zlsHexBlock matchgroup=zlsProgram start=/^ *program \+raw \+hex *$/ end=/^ *end *$/ keepend contains=zlsDigits,zlsComment,zlsError
+syntax match zlsError /[^0-9a-f ]/ contained
+syntax match zlsDigits /[0-9a-f]\+/ contained
+
+" The schedule: pairs of a process and its turns.
+syntax region zlsSchedule matchgroup=zlsProgram start=/^ *-- *$/ end=/\%$/ contains=zlsPid,zlsNumber,zlsComment,zlsForeign
+syntax match zlsPid /\%(^ *\)\@<=\d\+\>/ contained nextgroup=zlsNumber skipwhite
+
+syntax match zlsForeign /[^\x00-\x7f]/
+syntax match zlsComment /^#.*/ contains=zlsForeign,zlsTodo
+syntax keyword zlsTodo TODO FIXME contained
+
+syntax sync fromstart
+
+highlight default link zlsNumber Number
+highlight default link zlsStatement Statement
+highlight default link zlsProgram PreProc
+highlight default link zlsDigits Number
+highlight default link zlsPid Identifier
+highlight default link zlsError Error
+highlight default link zlsForeign Error
+highlight default link zlsComment Comment
+highlight default link zlsTodo Todo
+
+let b:current_syntax = "zls"

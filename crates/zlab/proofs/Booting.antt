@@ -1,19 +1,18 @@
 -- What the text leads to before the first step.
-use Rattle.std.proofs.Common.{◌≡◌, ℕ, ◌<◌, ◌≤◌, List, [], ◌∷◌, length, get_or, Option, Some, None, refl, sym, ap, ◌∙◌, subst, arith}
+use Rattle.std.proofs.Common.{◌≡◌, ℕ, ◌<◌, List, [], length, get_or, Some, None, sym, ap, ◌∙◌, subst, arith}
 use Rattle.std.specs.Prelude.{slice_get, slice_index_or}
 use Rattle.std.proofs.lemmas.Option.{slice_get_within, slice_get-get_or, none-some}
 use Rattle.zl_code.specs.declared.boot.BootCause.{BootCause}
 use Rattle.zl_code.specs.declared.boot.BootCause.TheVariants as boot
 use Rattle.zl_code.specs.declared.boot.Statement.{Statement}
-use Rattle.zl_code.specs.Boot.{IsBoot, FirstFault, at_statement, at_limit, MOST_ITEMS}
-use Rattle.zl_code.specs.Image.{Library}
+use Rattle.zl_code.specs.Boot.{IsBoot, FirstFault, at_statement, at_limit}
 use Rattle.zl_rights.specs.World.{World}
 use Rattle.zlab.specs.declared.fault.Cause.{Cause}
 use Rattle.zlab.specs.declared.fault.LineFault.{LineFault}
 use Rattle.zlab.specs.declared.scenario.Scenario.{Scenario}
 use Rattle.zlab.specs.Engine.{IsFirstFault, of_statement, of_reading, line_cause, said_in, IsStart}
 use Rattle.zlab.specs.Reading.{IsScenario}
-use Rattle.zlab.specs.Scenario.{Said, reading_of, IsInOrder}
+use Rattle.zlab.specs.Scenario.{reading_of, IsInOrder}
 use Rattle.zlab.specs.System.{Tracked}
 
 -- only a want of memory has no line

@@ -1,11 +1,10 @@
 -- What a text says stands in the order of its lines, and before the first fault.
-use Rattle.std.proofs.Common.{◌≡◌, ℕ, ◌+◌, ◌%◌, ◌≤◌, Bool, true, false, not, eqb, ltb, cond, is_some, List, [], ◌∷◌, ◌++◌, length, Option, Some, None, Result, Ok, Err, refl, subst, arith, length-append}
+use Rattle.std.proofs.Common.{◌≡◌, ℕ, ◌+◌, ◌≤◌, Bool, true, false, ltb, cond, List, [], ◌∷◌, ◌++◌, length, Option, Some, None, Result, Ok, Err, refl, subst, arith, length-append}
 use Rattle.std.proofs.lemmas.Bool.Decides.{nat_tests}
 use Rattle.zl_code.specs.Boot.{MOST_ITEMS}
-use Rattle.zl_code.specs.Spells.{first_fault}
 use Rattle.zlab.specs.declared.fault.Cause.{Cause}
 use Rattle.zlab.specs.declared.fault.Cause.TheVariants as cause
-use Rattle.zlab.specs.Lines.{words_of, digits_of, bytes_of_digits}
+use Rattle.zlab.specs.Lines.{words_of}
 use Rattle.zlab.specs.Scenario.{Said, Body, Part, Statements, Block, Schedule, Place, at, start, onto, opened_by, body_named, onto_block, bytes_said, body_said, with_program, MOST_PROGRAMS, process_said, limit_said, statement_said, program_said, block_said, pair_said, turns_said, part_said, line_said, told_line, Reading, refused, fault_at_end, reading_from, Rises, IsInOrder}
 
 -- ---- rising lines

@@ -1,16 +1,14 @@
 -- What follows a schedule is a legal history.
-use Rattle.std.proofs.Common.{◌≡◌, ℕ, Bool, true, ◌&&◌, List, [], ◌∷◌, ◌++◌, refl, sym, ap, ◌∙◌, subst, IsTrue}
-use Rattle.std.specs.List.{flat_map, list_all}
-use Rattle.zl_rights.specs.World.{World, Cpu}
+use Rattle.std.proofs.Common.{◌≡◌, ℕ, List, [], ◌∷◌, refl, sym, subst, IsTrue}
+use Rattle.zl_rights.specs.World.{World}
 use Rattle.zl_code.specs.declared.history.CallName.{CallName}
 use Rattle.zl_code.specs.declared.history.TraceItem.{TraceItem}
 use Rattle.zl_code.specs.declared.history.TraceItem.TheVariants as item
 use Rattle.zl_code.specs.Image.{Library}
-use Rattle.zl_code.specs.Request.{Site}
-use Rattle.zl_code.specs.Steps.{Step, Acts, Next, Moves, AtCall, IsStuck, next_for, pid_of, Runs, single, has_count, IsLegalHistory}
+use Rattle.zl_code.specs.Steps.{Step, Acts, Next, Moves, AtCall, IsStuck, next_for, pid_of, single, has_count, IsLegalHistory}
 use Rattle.zlab.specs.declared.text.End.{End}
 use Rattle.zlab.specs.declared.text.End.TheVariants as end
-use Rattle.zlab.specs.Follows.{Follows, ends, skips, goes, StopsBefore, EndsBy}
+use Rattle.zlab.specs.Follows.{Follows, ends, skips, goes, EndsBy}
 
 -- the item of one step
 record IsSingle (p : ℕ) (x : TraceItem) : Type 0 where

@@ -1,5 +1,5 @@
 -- The text of a run, written piece by piece.
-use Rattle.std.proofs.Common.{◌≡◌, ℕ, ◌<◌, ◌≤◌, ◌^◌, List, [], ◌∷◌, ◌++◌, length, map, take, get_or, Option, Some, None, refl, sym, ap, ◌∙◌, subst, append_assoc, append-nil, IsTrue, arith, zero, suc, inl, inr, ◌⊎◌, ◌+◌, ◌==◌, true, eq-eqb}
+use Rattle.std.proofs.Common.{◌≡◌, ℕ, ◌<◌, ◌≤◌, List, [], ◌∷◌, ◌++◌, length, map, take, get_or, Option, Some, None, refl, sym, ap, ◌∙◌, subst, append_assoc, append-nil, IsTrue, arith, zero, suc, inl, inr, ◌⊎◌, ◌+◌, ◌==◌, true, eq-eqb}
 use Rattle.std.specs.Prelude.{slice_get}
 use Rattle.std.specs.List.{flat_map}
 use Rattle.std.specs.Option.{option_map}
@@ -11,9 +11,8 @@ use Rattle.std.proofs.lemmas.Bool.Decides.{nat_tests}
 use Rattle.std.proofs.lemmas.Option.{slice_get-map, slice_get_within, get_or_from_slice_get, none-some, same_Some, slice_get_cases}
 use Rattle.std.proofs.lemmas.List.{length-map, take_all}
 use Rattle.zl_rights.specs.Map.{Map, get}
-use Rattle.zl_rights.specs.World.{World, Process}
+use Rattle.zl_rights.specs.World.{Process}
 use Rattle.zl_code.specs.declared.history.ProcState.{ProcState}
-use Rattle.zl_code.specs.declared.history.TraceItem.{TraceItem}
 use Rattle.zl_calls.specs.World.{Lab, seen_in, seen_of, state_in}
 use Rattle.zlab.specs.declared.text.End.{End}
 use Rattle.zlab.specs.Engine.{states_of, IsRun, WritesRun, BeginsRun, some_lines}

@@ -4,7 +4,7 @@ use Rattle.std.specs.Prelude.{codes}
 use Rattle.zlab.specs.declared.fault.Cause.{Cause}
 use Rattle.zlab.specs.Lines.{is_ascii, is_comment, words_of, is_word, digits_of}
 use Rattle.zl_asm.specs.Denotes.{image_bytes_of}
-use Rattle.zlab.specs.Scenario.{Said, Body, Hex, Asm, Statements, Block, at, onto, body_named, statement_said, is_end, digits_spelled, text_spelled, program_said, body_said, block_said, line_said, after_block, refused, reading_from, joined, digits_in, text_in, DigitsAreWhole, TextIsWhole, BlocksAreWhole}
+use Rattle.zlab.specs.Scenario.{Said, Body, Hex, Asm, Statements, Block, at, onto, body_named, statement_said, is_end, digits_spelled, text_spelled, program_said, body_said, block_said, line_said, after_block, reading_from, joined, digits_in, text_in, DigitsAreWhole, TextIsWhole, BlocksAreWhole}
 use Rattle.zlab.proofs.ReadingOn.{taken, stopped}
 
 -- ---- one line

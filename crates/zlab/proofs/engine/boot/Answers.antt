@@ -1,4 +1,4 @@
-use Rattle.std.proofs.Common.{◌≡◌, refl, sym, ap, ◌∙◌}
+use Rattle.std.proofs.Common.{refl, sym, ap, ◌∙◌}
 use Rattle.zlab.specs.Engine.{Starts}
 use Rattle.zlab.specs.System.{Tracked}
 use Rattle.zlab.proofs.Booting.{statement_fault, reading_fault, is_start}

@@ -23,6 +23,7 @@ mod RoundWhole
 mod Joined
 mod Laid
 mod Labels
+mod OneImage
 mod ListingRefused
 mod ListingText
 mod DraftHolds

@@ -1,6 +1,6 @@
 -- The lines of a whole text.
 use Rattle.std.proofs.Common.{◌≡◌, ℕ, ◌+◌, ◌<◌, Bool, true, false, ◌&&◌, cond, ltb, eqb, List, [], ◌∷◌, ◌++◌, length, map, take, drop, get_or, Option, Some, None, Result, Ok, Err, ◌⊎◌, refl, sym, ap, ◌∙◌, arith, take-append-drop, inl, inr}
-use Rattle.std.specs.Prelude.{IsTrue, IfOk, IfErr}
+use Rattle.std.specs.Prelude.{IsTrue, IfOk, IfErr, MatchResult}
 use Rattle.std.specs.List.{enumerate_from, onto_first, list_all}
 use Rattle.std.proofs.lemmas.Bool.{eqb-true}
 use Rattle.std.proofs.lemmas.List.{at_drop_more, take-map}
@@ -12,8 +12,9 @@ use Rattle.zl_asm.specs.declared.fault.AsmCause.TheVariants.{NoMemory}
 use Rattle.zl_asm.specs.Words.{lines_of, words_of, is_ascii}
 use Rattle.zl_asm.specs.Lines.{Line, line_of, all_of, onto_all, then_with}
 use Rattle.zl_asm.specs.Listing.{listing_from, lines_said, listing_of}
-use Rattle.zl_asm.specs.Denotes.{Denotes}
+use Rattle.zl_asm.specs.Denotes.{Denotes, fields_of}
 use Rattle.zl_asm.specs.Draft.{Held, IsHeldOf, Reads, Stops, ReadsAll, Gives, GivesNone, line_said}
+use Rattle.zl_asm.proofs.OneImage.{one_image}
 use Rattle.zl_asm.proofs.ListingRefused.{onto_all-some, all_of-none, all_of-more}
 
 -- ---- ASCII, line by line
@@ -143,3 +144,13 @@ pub none_by : {A : Type 0} (r : Result A AsmFault) (text : List ℕ) (h : Held) 
 none_by (Ok x) text h read none = tt
 none_by (Err fault) text h read (inl starved) = inl starved
 none_by (Err fault) text h read (inr none) = inr (text_denotes_none text h read none)
+
+-- an image that the text denotes is the one that was found
+pub only_by : (r : Result Image AsmFault) (text : List ℕ) → IfOk r (λ i. Denotes text i) → IfErr r (λ fault. (fault.cause ≡ NoMemory) ⊎ (listing_of text ≡ None)) → (i : Image) → Denotes text i
+    → MatchResult r (λ image. image ≡ i) (λ fault. fault.cause ≡ NoMemory)
+only_by (Ok image) text found none i d = one_image text image i found d
+only_by (Err fault) text found (inl starved) i d = starved
+only_by (Err fault) text found (inr none) i d = absurd (nothing (sym none ∙ d.fields))
+  where
+    nothing : None ≡ Some (fields_of i) → ⊥
+    nothing e = cc

@@ -1,5 +1,6 @@
 //! From the text of a program to its image.
-ghost use Rattle.std.specs.Prelude.{◌≡◌, ◌⊎◌, None, IfOk, IfErr};
+ghost use Rattle.std.specs.Prelude.{◌≡◌, ◌⊎◌, None, IfOk, IfErr, MatchResult};
+ghost use Rattle.zl_code.specs.Image.{Image as ImageValue};
 ghost use Rattle.zl_asm.specs.declared.fault.AsmCause.TheVariants.{NoMemory};
 ghost use Rattle.zl_asm.specs.Denotes.{Denotes};
 ghost use Rattle.zl_asm.specs.Draft.{ReadsAll, held_by};
@@ -19,6 +20,7 @@ use zl_code::Image;
 pub fn assemble(alloc: Global, text: &str) -> Result<Image, AsmFault>
     ensures found { IfOk result (λ image. Denotes text.now image) }
     ensures none { IfErr result (λ fault. (fault.cause ≡ NoMemory) ⊎ (listing_of text.now ≡ None)) }
+    ensures only { (i : ImageValue) → Denotes text.now i → MatchResult result (λ image. image ≡ i) (λ fault. fault.cause ≡ NoMemory) }
 {
     assemble_bytes(alloc, text.as_bytes())
 }
@@ -28,6 +30,7 @@ pub fn assemble(alloc: Global, text: &str) -> Result<Image, AsmFault>
 pub fn assemble_bytes(alloc: Global, text: &[u8]) -> Result<Image, AsmFault>
     ensures found { IfOk result (λ image. Denotes text.now image) }
     ensures none { IfErr result (λ fault. (fault.cause ≡ NoMemory) ⊎ (listing_of text.now ≡ None)) }
+    ensures only { (i : ImageValue) → Denotes text.now i → MatchResult result (λ image. image ≡ i) (λ fault. fault.cause ≡ NoMemory) }
 {
     read_lines(alloc, text)?.into_image()
 }

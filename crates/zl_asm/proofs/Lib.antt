@@ -23,7 +23,6 @@ mod RoundWhole
 mod Joined
 mod Laid
 mod Labels
-mod OneImage
 mod ListingRefused
 mod ListingText
 mod DraftHolds

@@ -1,3 +1,3 @@
 " Assembler texts and scenarios of zlab.
-autocmd BufNewFile,BufRead *.zlasm setfiletype zlasm
+autocmd BufNewFile,BufRead *.zasm setfiletype zlasm
 autocmd BufNewFile,BufRead *.zls setfiletype zls

@@ -1,4 +1,8 @@
 //! The assembler: the text of a program to its image, and back.
+//!
+//! It stands on `zl_code`, `zl_rights`, `bitflags` and `indexmap`. It promises that `assemble` and
+//! `disassemble` are exact against the grammar of the text; `laws` proves of the definitions that no
+//! text denotes two images, and that the text of each image denotes it.
 #![tactic(auto)]
 
 mod assembling;

@@ -40,7 +40,7 @@ fn read_lines<'a>(alloc: Global, text: &'a [u8]) -> Result<Draft<'a>, AsmFault>
     ensures read { IfOk result (λ draft. ReadsAll text.now (held_by draft)) }
     ensures refused { IfErr result (λ fault. (fault.cause ≡ NoMemory) ⊎ (listing_of text.now ≡ None)) }
 {
-    let mut draft = Draft::new(alloc);
+    let mut draft = Draft::new(alloc, text);
     let mut words = Vec::new(alloc);
     let mut operands = Vec::new(alloc);
     for (index, line) in text.split(|byte| *byte == b'\n').enumerate() {

@@ -3,6 +3,7 @@ ghost use Rattle.std.specs.Prelude.{◌≡◌, ◌≤◌, [], length};
 
 use crate::directive::Directive;
 use crate::fault::{AsmCause, AsmFault};
+use crate::label_map::{Labels, TextHasher};
 use crate::line::{Line, Source, line_of};
 use crate::resolving::{push_bytes, resolved};
 use crate::words::{is_ascii, split_words};
@@ -19,8 +20,7 @@ pub(crate) struct Draft<'a> {
     has_budget: bool,
     /// Whether a label or an instruction was read, behind which no directive stands.
     has_body: bool,
-    /// For each label the number of the instruction behind it.
-    labels: IndexMap<&'a [u8], u32>,
+    labels: Labels<'a>,
     sources: Vec<SourceLine<'a>>,
     ghost few: { length sources.items ≤ 4096 },
     ghost empty: { image.code ≡ [] },
@@ -34,6 +34,8 @@ pub(crate) struct SourceLine<'a> {
 }
 
 impl<'a> Draft<'a> {
+    ghost use Rattle.indexmap.specs.IndexMap.{hasher_of};
+    ghost use Rattle.std.specs.Hash.DefaultHasher as sip;
     ghost use Rattle.std.specs.Prelude.{◌⊎◌, false, OnOk, OnErr, IfOk, IfErr, IsTrue};
     ghost use Rattle.zl_asm.specs.declared.directive.Directive.TheVariants as directives;
     ghost use Rattle.zl_asm.specs.declared.fault.AsmCause.TheVariants.{NoMemory};
@@ -42,16 +44,17 @@ impl<'a> Draft<'a> {
     ghost use Rattle.zl_asm.specs.Values.{source_value};
     ghost use Rattle.zl_code.specs.Spells.{is_start_in_range, is_slot_in_range, is_in_range};
 
-    /// Nothing is said yet.
-    pub(crate) fn new(alloc: Global) -> Draft<'a>
-        ensures { IsHeldOf [] (held_by result) }
+    /// Nothing of this text is read yet.
+    pub(crate) fn new(alloc: Global, text: &[u8]) -> Draft<'a>
+        ensures nothing_said { IsHeldOf [] (held_by result) }
+        ensures hashed { (hasher_of result.labels).behind ≡ sip.write sip.initial text.now }
     {
         Draft {
             image: Image::new(alloc),
             has_memory: false,
             has_budget: false,
             has_body: false,
-            labels: IndexMap::new(alloc),
+            labels: IndexMap::with_hasher(alloc, TextHasher::new(text)),
             sources: Vec::new(alloc),
         }
     }

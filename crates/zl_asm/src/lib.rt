@@ -10,6 +10,7 @@ mod directive;
 mod disassembling;
 mod draft;
 mod fault;
+mod label_map;
 pub mod laws;
 mod line;
 mod numbers;

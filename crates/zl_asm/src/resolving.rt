@@ -7,8 +7,8 @@ ghost use Rattle.zl_asm.specs.Listing as listing;
 ghost use Rattle.zl_asm.specs.Values.{source_value};
 
 use crate::fault::AsmCause;
+use crate::label_map::Labels;
 use crate::line::Source;
-use indexmap::IndexMap;
 use zl_code::{Image, Instr};
 
 /// The bytes of an instruction with this target.
@@ -22,7 +22,7 @@ fn with_target(bytes: [u8; 16], target: u32) -> [u8; 16]
 
 /// The bytes of the instruction, with the number for which its label stands; nothing where no label
 /// has the name.
-pub(crate) fn resolved(labels: &IndexMap<&[u8], u32>, source: Source) -> Option<[u8; 16]>
+pub(crate) fn resolved(labels: &Labels, source: Source) -> Option<[u8; 16]>
     ensures { result ≡ listing.resolved (labels_shown labels.now.entries) (source_value source.entry) }
 {
     match source.label {

@@ -8,7 +8,7 @@ use Rattle.zl_asm.proofs.ListingText.{SoFar, so_far-none, so_far-more, so_far-al
 use Rattle.zl_asm.proofs.assembling.read_lines.Goals as goal
 
 pub loop-index-init : goal.loop-index-init
-loop-index-init c = so_far-none (held_by c.new-draft.result) c.new-draft.ensures
+loop-index-init c = so_far-none (held_by c.new-draft.result) c.new-draft.ensures.nothing_said
 
 pub returns-in-Err-clause-refused : goal.returns-in-Err-clause-refused
 returns-in-Err-clause-refused c =

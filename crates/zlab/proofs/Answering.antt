@@ -38,12 +38,14 @@ module _ {A E : Type 0} where
 module _ (text : List ℕ) (s : Tracked) (pairs : List (ℕ × ℕ)) (start : IsStart text s pairs) where
   run_of : (e : End) (last : Tracked) (walks : Walks s (turns_of pairs) e last) → IsRunOf text walks.more last.lab.world e
   run_of e last walks = record {
+    few = start.few;
     no_fault = start.no_fault;
     library = s.lab.programs;
     programs = start.programs;
     boot = s.lab.world;
     boots = start.boots;
     legal = ends_legal s.lab.programs s.lab.world (turns_of pairs) (room_of s) walks.more last.lab.world e walks.ends;
+    room = omega (arith, walks.room, start.limit, ap length start.items);
     ends = subst (λ (turns : List (ℕ × ℕ)). EndsBy s.lab.programs s.lab.world (turns_of turns) (said_in text).limit walks.more last.lab.world e) start.schedule
         (subst (λ (limit : ℕ). EndsBy s.lab.programs s.lab.world (turns_of pairs) limit walks.more last.lab.world e) room walks.ends);
   }

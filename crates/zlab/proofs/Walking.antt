@@ -36,26 +36,27 @@ adds_both s mid s2 xs ys first second = record {
 }
 
 pub walks_nowhere : (s : Tracked) → Walks s [] end.Schedule s
-walks_nowhere s = record { more = []; adds = adds_nothing s; ends = ends s.lab.world }
+walks_nowhere s = record { more = []; adds = adds_nothing s; room = omega arith; ends = ends s.lab.world }
 
 pub ran_walks : (s : Tracked) (p : ℕ) (s2 : Tracked) → Runs s p s2 → Walks s (p ∷ []) end.Schedule s2
 ran_walks s p s2 runs = record {
   more = runs.item ∷ [];
   adds = runs.adds;
+  room = omega (arith, runs.room);
   ends = goes s.lab.world s2.lab.world s2.lab.world p runs.item [] [] runs.ready runs.step (ends s2.lab.world);
 }
 
 pub skipped_walks : (s : Tracked) (p n : ℕ) → is_ready_in s.lab p ≡ false → Walks s (replicate n p) end.Schedule s
-skipped_walks s p n not_ready = record { more = []; adds = adds_nothing s; ends = follows_skipping s.lab.programs s.lab.world p n not_ready }
+skipped_walks s p n not_ready = record { more = []; adds = adds_nothing s; room = omega arith; ends = follows_skipping s.lab.programs s.lab.world p n not_ready }
 
 stops_here : (s : Tracked) (p : ℕ) (us : List ℕ) → IsTrue (is_ready_in s.lab p) → StopsBefore s.lab.programs s.lab.world (p ∷ us) [] s.lab.world
 stops_here s p us ready = record { taken = []; next = p; left = us; are_all = refl; follows = ends s.lab.world; is_ready = ready }
 
 pub limited_walks : (s : Tracked) (p : ℕ) (us : List ℕ) → IsTrue (is_ready_in s.lab p) → s.limit ≤ length s.items → Walks s (p ∷ us) end.Limit s
-limited_walks s p us ready full = record { more = []; adds = adds_nothing s; ends = (stops_here s p us ready, omega (arith, full)) }
+limited_walks s p us ready full = record { more = []; adds = adds_nothing s; room = omega arith; ends = (stops_here s p us ready, omega (arith, full)) }
 
 pub wanting_walks : (s : Tracked) (p : ℕ) (us : List ℕ) → IsTrue (is_ready_in s.lab p) → Walks s (p ∷ us) end.Memory s
-wanting_walks s p us ready = record { more = []; adds = adds_nothing s; ends = stops_here s p us ready }
+wanting_walks s p us ready = record { more = []; adds = adds_nothing s; room = omega arith; ends = stops_here s p us ready }
 
 -- ---- one walk after another
 
@@ -75,13 +76,14 @@ module _ (s mid s2 : Tracked) (ts us : List ℕ) (first : Walks s ts end.Schedul
 
   ends_then : (e : End) (ys : List TraceItem) (w2 : World) → EndsBy mid.lab.programs mid.lab.world us (room_of mid) ys w2 e → EndsBy s.lab.programs s.lab.world (ts ++ us) (room_of s) (first.more ++ ys) w2 e
   ends_then end.Schedule ys w2 follows = follows_then s.lab.programs s.lab.world mid.lab.world w2 ts us first.more ys first.ends (subst (λ (lib : Library). Follows lib mid.lab.world us ys w2) first.adds.programs follows)
-  ends_then end.Limit ys w2 stops = (stops_then ys w2 stops.0, omega (arith, stops.1, counts, first.adds.limit, length-append first.more ys))
+  ends_then end.Limit ys w2 stops = (stops_then ys w2 stops.0, omega (arith, stops.1, counts, first.adds.limit, first.room, length-append first.more ys))
   ends_then end.Memory ys w2 stops = stops_then ys w2 stops
 
   pub walks_then : (e : End) → Walks mid us e s2 → Walks s (ts ++ us) e s2
   walks_then e second = record {
     more = first.more ++ second.more;
     adds = adds_both s mid s2 first.more second.more first.adds second.adds;
+    room = omega (arith, first.room, second.room, counts, first.adds.limit, length-append first.more second.more);
     ends = ends_then e second.more s2.lab.world second.ends;
   }
 
@@ -140,6 +142,7 @@ module _ (s mid s2 : Tracked) (schedule : List (ℕ × ℕ)) (n : ℕ) (default 
       record {
         more = so_far.more;
         adds = so_far.adds;
+        room = so_far.room;
         ends = subst (λ (turns : List ℕ). EndsBy s.lab.programs s.lab.world turns (room_of s) so_far.more s2.lab.world e) whole (by_end e early (turns_of (take n schedule) ++ replicate pair.1 pair.0) (turns_of (drop (n + 1) schedule)) so_far.more s2.lab.world so_far.ends);
       }
     where

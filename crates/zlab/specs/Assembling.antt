@@ -1,5 +1,5 @@
 -- The answer of the assembler to a text, for one writer or for the other.
-use Rattle.std.specs.Prelude.{ℕ, ◌≡◌, ◌⊎◌, ◌<◌, ◌≤◌, List, ◌++◌, codes, length, Option, None}
+use Rattle.std.specs.Prelude.{ℕ, ◌≡◌, ◌≢◌, ◌⊎◌, ◌<◌, ◌≤◌, List, ◌++◌, codes, length, Option, None}
 use Rattle.std.specs.Fmt.{decimal}
 use Rattle.std.specs.Io.KnownBytes.{Appends}
 use Rattle.zl_code.specs.Image.{Image}
@@ -24,9 +24,9 @@ pub record IsImageOf (text bytes : List ℕ) : Type 0 where
   pub denoted : Denotes text image
   pub spelled : Spells bytes image
 
--- the text is too long, of which line 0 is told, or it denotes no image
+-- the text is too long, of which line 0 is told, or it denotes no image, of which a want of memory isn't told
 abbrev pub DenotesNone : List ℕ → AsmFault → Type 0
-DenotesNone text f = ((MOST_INPUT < length text) × (f.line ≡ 0) × (f.cause ≡ cause.Limit)) ⊎ ((length text ≤ MOST_INPUT) × (listing_of text ≡ None))
+DenotesNone text f = ((MOST_INPUT < length text) × (f.line ≡ 0) × (f.cause ≡ cause.Limit)) ⊎ ((length text ≤ MOST_INPUT) × (listing_of text ≡ None) × (f.cause ≢ cause.NoMemory))
 
 -- the line of a refusal
 abbrev pub fault_line : AsmFault → List ℕ

@@ -1,5 +1,5 @@
 -- What the step engine answers to the bytes that it has read.
-use Rattle.std.specs.Prelude.{ℕ, ◌≡◌, ◌<◌, List, [], length, map, Option, Some, None, IfSome, slice_get}
+use Rattle.std.specs.Prelude.{ℕ, ◌≡◌, ◌<◌, ◌≤◌, List, [], length, map, Option, Some, None, IfSome, slice_get}
 use Rattle.std.specs.Io.KnownBytes.{Appends}
 use Rattle.zl_rights.specs.World.{World}
 use Rattle.zl_code.specs.declared.boot.BootCause.{BootCause}
@@ -36,14 +36,17 @@ said_in text = (reading_of text).said
 abbrev pub states_of : World → List (ℕ × ProcState)
 states_of w = map (λ p. (p.0, seen_in p.1.state)) w.processes
 
--- the items are a legal history from a boot world of the scenario in the text, along its schedule, up to this end
+-- The items are a legal history from a boot world of the scenario in the text, along its schedule, up to
+-- this end and within the limit. Neither the text nor a line of it is at fault.
 pub record IsRunOf (text : List ℕ) (items : List TraceItem) (w : World) (e : End) : Type 0 where
+  pub few : length text ≤ MOST_INPUT
   pub no_fault : (reading_of text).fault ≡ None
   pub library : Library
   pub programs : Lists (said_in text).programs library
   pub boot : World
   pub boots : IsBoot library (said_in text).statements boot
   pub legal : IsLegalHistory library boot items w
+  pub room : length items ≤ (said_in text).limit
   pub ends : EndsBy library boot (turns_of (said_in text).schedule) (said_in text).limit items w e
 
 -- ---- a refusal
@@ -58,15 +61,15 @@ line_cause boot.Unknown = Some cause.Unknown
 line_cause boot.BadState = Some cause.BadState
 line_cause boot.Conflict = Some cause.Conflict
 
--- The first fault of the text: too many bytes; or a statement that can't be done, before any fault of
+-- The first fault of the text: too many bytes; or, in a text that isn't too long, a statement that can't be done, before any fault of
 -- reading; or a fault of reading, where all statements before it can be done.
 pub data IsFirstFault (text : List ℕ) : LineFault → Type 0 where
   too_long : MOST_INPUT < length text → IsFirstFault text (record { line = 0; cause = cause.Limit })
   of_statement : (library : Library) (n : ℕ) (found : BootCause) (fault : LineFault)
-      → Lists (said_in text).programs library → FirstFault library (said_in text).statements (said_in text).limit n found
+      → length text ≤ MOST_INPUT → Lists (said_in text).programs library → FirstFault library (said_in text).statements (said_in text).limit n found
       → slice_get (said_in text).lines n ≡ Some fault.line → line_cause found ≡ Some fault.cause → IsFirstFault text fault
   of_reading : (library : Library) (w : World) (fault : LineFault)
-      → Lists (said_in text).programs library → IsBoot library (said_in text).statements w
+      → length text ≤ MOST_INPUT → Lists (said_in text).programs library → IsBoot library (said_in text).statements w
       → (reading_of text).fault ≡ Some fault → IsFirstFault text fault
 
 -- ---- the answer
@@ -106,6 +109,7 @@ pub record BeginsReader (told old new : Option (List ℕ)) : Type 0 where
 
 -- the system stands before the first turn of the text's schedule
 pub record IsStart (text : List ℕ) (s : Tracked) (pairs : List (ℕ × ℕ)) : Type 0 where
+  pub few : length text ≤ MOST_INPUT
   pub no_fault : (reading_of text).fault ≡ None
   pub programs : Lists (said_in text).programs s.lab.programs
   pub boots : IsBoot s.lab.programs (said_in text).statements s.lab.world

@@ -43,8 +43,9 @@ Turns s pid stepped.NoMemory s2 = (s2 ≡ s) × IsTrue (is_ready_in s.lab pid)
 abbrev pub room_of : Tracked → ℕ
 room_of s = s.limit - length s.items
 
--- the turns were taken, and that is how it ended
+-- the turns were taken, with no more items than there was room for, and that is how it ended
 pub record Walks (s : Tracked) (turns : List ℕ) (e : End) (s2 : Tracked) : Type 0 where
   pub more : List TraceItem
   pub adds : Adds s more s2
+  pub room : length more ≤ room_of s
   pub ends : EndsBy s.lab.programs s.lab.world turns (room_of s) more s2.lab.world e

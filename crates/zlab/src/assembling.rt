@@ -1,7 +1,7 @@
 //! The engine of the assembler: a text is read, and its image written, or the line of its fault.
-ghost use Rattle.std.specs.Prelude.{◌≡◌, ◌≢◌, ◌⊎◌, ◌++◌, ◌≤◌, length, IfOk, IfErr, OnOk, OnErr, string_bytes};
+ghost use Rattle.std.specs.Prelude.{◌≡◌, ◌≢◌, ◌⊎◌, ◌++◌, ◌+◌, ◌≤◌, length, IfOk, IfErr, OnOk, OnErr, string_bytes};
 ghost use Rattle.std.specs.Io.KnownBytes.{Appends};
-ghost use Rattle.zlab.specs.Input.{IsInputOf};
+ghost use Rattle.zlab.specs.Input.{TakesAtMost};
 ghost use Rattle.zlab.specs.Output.{AppendsBeginning};
 ghost use Rattle.zlab.specs.Assembling.{Leads, fault_line, ReadsTo, AssemblesReader, BeginsAssembly};
 ghost use Rattle.zlab.specs.declared.fault.Verdict.TheVariants as verdicts;
@@ -44,6 +44,7 @@ pub fn asm_engine<R: Read, I: Write, L: Write>(
     ensures err { OnErr result (((I.contents image.new ≡ I.contents image.old) × (L.contents line.new ≡ L.contents line.old))
         ⊎ BeginsAssembly (R.remaining text.old) (I.contents image.old) (I.contents image.new) (L.contents line.old) (L.contents line.new)) }
     ensures read { IfErr result (λ fault. fault ≡ EngineFault.Read → (I.contents image.new ≡ I.contents image.old) × (L.contents line.new ≡ L.contents line.old)) }
+    ensures taken { TakesAtMost (R.remaining text.old) (R.remaining text.new) (MOST_INPUT + 1) }
 {
     match read_text(alloc, text)? {
         Assembled::Image(bytes) => {
@@ -59,7 +60,8 @@ pub fn asm_engine<R: Read, I: Write, L: Write>(
 
 /// What the whole text of the reader leads to.
 fn read_text<R: Read>(alloc: Global, reader: &mut R) -> Result<Assembled, EngineFault>
-    ensures { IfOk result (ReadsTo (R.remaining reader.old)) }
+    ensures read { IfOk result (ReadsTo (R.remaining reader.old)) }
+    ensures taken { TakesAtMost (R.remaining reader.old) (R.remaining reader.new) (MOST_INPUT + 1) }
 {
     match read_input(alloc, reader)? {
         Input::Text(text) => assemble_text(alloc, text.as_slice()),

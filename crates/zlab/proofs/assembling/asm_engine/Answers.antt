@@ -5,7 +5,7 @@ use Rattle.zlab.proofs.assembling.asm_engine.Goals as goal
 
 pub returns-in_err-write_all-in-Image-clause-err : goal.returns-in_err-write_all-in-Image-clause-err
 returns-in_err-write_all-in-Image-clause-err g c =
-    let read = c.in_ok-bytes.ensures in
+    let read = c.in_ok-bytes.ensures.read in
     let leads = rw c.in-Image.is at read.leads in
     let written = rw c.as_slice.ensures.value at (c.in_err-write_all-in-Image.ensures).err in
     on_err c.from_residual-in_err-write_all-in-Image.result
@@ -13,7 +13,7 @@ returns-in_err-write_all-in-Image-clause-err g c =
 
 pub returns-in_err-write_fault-in-Refused-clause-err : goal.returns-in_err-write_fault-in-Refused-clause-err
 returns-in_err-write_fault-in-Refused-clause-err g c =
-    let read = c.in_ok-bytes.ensures in
+    let read = c.in_ok-bytes.ensures.read in
     let leads = rw c.in-Refused.is at read.leads in
     on_err c.from_residual-in_err-write_fault-in-Refused.result
     (inr (record { text = read.text; is_text = read.is_text; begins = line_begun _ (record { fault = c.in-Refused.fault; none = leads; written = (c.in_err-write_fault-in-Refused.ensures).err }) }))

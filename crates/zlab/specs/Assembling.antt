@@ -43,11 +43,13 @@ pub record ReadsTo (told : Option (List ℕ)) (answer : Assembled) : Type 0 wher
   pub is_text : IsTextOf told text
   pub leads : Leads text answer
 
+-- a writer got the image that the text denotes
 pub record WritesImage (text : List ℕ) (old new : Option (List ℕ)) : Type 0 where
   pub bytes : List ℕ
   pub is_image : IsImageOf text bytes
   pub written : Appends old new bytes
 
+-- a writer got the line of the fault of the text
 pub record WritesFault (text : List ℕ) (old new : Option (List ℕ)) : Type 0 where
   pub fault : AsmFault
   pub none : DenotesNone text fault
@@ -58,11 +60,13 @@ abbrev pub AnswersText : List ℕ → Verdict → (old_image new_image old_line 
 AnswersText text verdict.Done old_image new_image old_line new_line = WritesImage text old_image new_image × (new_line ≡ old_line)
 AnswersText text verdict.Refused old_image new_image old_line new_line = WritesFault text old_line new_line × (new_image ≡ old_image)
 
+-- a writer got a beginning of the image
 pub record BeginsImage (text : List ℕ) (old new : Option (List ℕ)) : Type 0 where
   pub bytes : List ℕ
   pub is_image : IsImageOf text bytes
   pub written : AppendsBeginning old new bytes
 
+-- a writer got a beginning of the line of the fault
 pub record BeginsFault (text : List ℕ) (old new : Option (List ℕ)) : Type 0 where
   pub fault : AsmFault
   pub none : DenotesNone text fault
@@ -80,6 +84,7 @@ pub record AssemblesReader (told : Option (List ℕ)) (v : Verdict) (old_image n
   pub is_text : IsTextOf told text
   pub answers : AnswersText text v old_image new_image old_line new_line
 
+-- one writer got a beginning of the answer to what a reader had, or nothing, and the other nothing
 pub record BeginsAssembly (told old_image new_image old_line new_line : Option (List ℕ)) : Type 0 where
   pub text : List ℕ
   pub is_text : IsTextOf told text

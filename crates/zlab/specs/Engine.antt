@@ -100,6 +100,7 @@ pub record AnswersReader (told : Option (List ℕ)) (v : Verdict) (old new : Opt
   pub is_text : IsTextOf told text
   pub answers : Answers text v old new
 
+-- the writer got a beginning of an answer to what a reader had, or nothing
 pub record BeginsReader (told old new : Option (List ℕ)) : Type 0 where
   pub text : List ℕ
   pub is_text : IsTextOf told text
@@ -129,11 +130,13 @@ pub record IsRun (s : Tracked) (schedule : List (ℕ × ℕ)) (lines : List ℕ)
   pub walks : Walks s (turns_of schedule) end last
   pub lines_are : lines ≡ history_text last.items (states_of last.lab.world) end
 
+-- the writer got the trace of a run along the schedule
 pub record WritesRun (s : Tracked) (schedule : List (ℕ × ℕ)) (old new : Option (List ℕ)) : Type 0 where
   pub lines : List ℕ
   pub is_run : IsRun s schedule lines
   pub written : Appends old new lines
 
+-- the writer got a beginning of such a trace, or nothing
 pub data BeginsRun (s : Tracked) (schedule : List (ℕ × ℕ)) (old : Option (List ℕ)) : Option (List ℕ) → Type 0 where
   no_line : BeginsRun s schedule old old
   some_lines : (lines : List ℕ) (new : Option (List ℕ)) → IsRun s schedule lines → AppendsBeginning old new lines → BeginsRun s schedule old new

@@ -27,6 +27,7 @@ is_word word bytes = pointwise ◌==◌ word bytes
 
 -- ---- numbers
 
+-- one of the digits from 0 to 9
 abbrev pub is_decimal_digit : ℕ → Bool
 is_decimal_digit byte = nat_le 48 byte && nat_le byte 57
 

@@ -39,6 +39,7 @@ pub record Place : Type 0 where
   pub said : Said
   pub part : Part
 
+-- so much is said, and the next line belongs to this part
 abbrev pub at : Said → Part → Place
 at said part = record { said = said; part = part }
 
@@ -53,6 +54,7 @@ onto part (Err c) = Err c
 
 -- ---- statements
 
+-- one more statement, of line n
 abbrev pub with_statement : Said → ℕ → Statement → Said
 with_statement said n s = record said { statements = said.statements ++ (s ∷ []); lines = said.lines ++ (n ∷ []) }
 
@@ -74,6 +76,7 @@ body_named name mark form =
     (if is_word form (codes "hex") then Some (Hex []) else (if is_word form (codes "asm") then Some (Asm []) else None))
     else None
 
+-- line n opens a block of this form, if it is one
 abbrev pub opened_by : ℕ → Said → Option Body → Result Place Cause
 opened_by n said (Some body) = Ok (at said (Block n body))
 opened_by n said None = Err cause.Syntax
@@ -94,6 +97,7 @@ statement_said n said _ = Err cause.Syntax
 abbrev pub MOST_PROGRAMS : ℕ
 MOST_PROGRAMS = 256
 
+-- one more program, of these bytes
 abbrev pub with_program : Said → List ℕ → Said
 with_program said bytes = record said { programs = said.programs ++ (bytes ∷ []) }
 
@@ -124,6 +128,7 @@ abbrev pub digits_said : List ℕ → Option (List ℕ) → Result (List ℕ) Ca
 digits_said digits (Some more) = Ok (digits ++ more)
 digits_said digits None = Err cause.Syntax
 
+-- a block of these digits, if none of their lines is at fault
 abbrev pub hex_with : Result (List ℕ) Cause → Result Body Cause
 hex_with (Ok digits) = Ok (Hex digits)
 hex_with (Err c) = Err c
@@ -133,6 +138,7 @@ unfoldable pub body_said : Body → List ℕ → Result Body Cause
 body_said (Hex digits) line = hex_with (digits_said digits (digits_of line))
 body_said (Asm text) line = Ok (Asm (text ++ (line ++ codes "\n")))
 
+-- the block goes on, if the line is not at fault
 abbrev pub onto_block : Said → ℕ → Result Body Cause → Result Place Cause
 onto_block said opened (Ok body) = Ok (at said (Block opened body))
 onto_block said opened (Err c) = Err c
@@ -153,6 +159,7 @@ block_said said opened body line words =
 abbrev pub MOST_TURNS : ℕ
 MOST_TURNS = 1000000
 
+-- so many turns more of a process
 abbrev pub with_turns : Said → ℕ → ℕ → Said
 with_turns said pid count = record said { schedule = said.schedule ++ ((pid, count) ∷ []) }
 
@@ -175,11 +182,12 @@ part_said n said Statements line words = statement_said n said words
 part_said n said (Block opened body) line words = block_said said opened body line words
 part_said n said Schedule line words = onto Schedule (turns_said said words)
 
+-- it is the text of the assembler
 abbrev pub is_text_body : Body → Bool
 is_text_body (Asm text) = true
 is_text_body (Hex digits) = false
 
--- a block that holds the text of the assembler
+-- the part is a block of such text
 abbrev pub is_text : Part → Bool
 is_text (Block opened body) = is_text_body body
 is_text _ = false
@@ -203,6 +211,7 @@ pub record Reading : Type 0 where
   pub said : Said
   pub fault : Option LineFault
 
+-- line n is the first at fault
 abbrev pub refused : Said → ℕ → Cause → Reading
 refused said line c = record { said = said; fault = Some (record { line = line; cause = c }) }
 
@@ -272,6 +281,7 @@ TextIsWhole = (n : ℕ) (said : Said) (lines rest : List (List ℕ)) (text : Lis
     → reading_from n (at said Statements) (codes "program raw asm" ∷ (lines ++ (codes "end" ∷ rest)))
     ≡ after_block n (n + 2 + length lines) said rest (program_said said (text_spelled (image_bytes_of text)))
 
+-- a block of either form gives what all of its lines say together
 pub record BlocksAreWhole : Type 0 where
   pub digits : DigitsAreWhole
   pub text : TextIsWhole

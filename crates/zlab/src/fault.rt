@@ -29,7 +29,7 @@ impl From<AllocError> for EngineFault {
 /// How an engine ends that has read its input and written its answer.
 #[derive(Clone, Copy, PartialEq, Eq, Debug)]
 pub enum Verdict {
-    /// The trace is written.
+    /// The answer is written: a trace, or an image.
     Done,
     /// The input is refused; the line of its first fault is written.
     Refused,
@@ -40,17 +40,17 @@ pub enum Verdict {
 pub enum Cause {
     /// No statement, or a byte outside ASCII.
     Syntax,
-    /// The bytes of a program are no image.
+    /// The bytes of a program are no image, or its text denotes none.
     Program,
     /// No object of this koid and kind, or no program of this number.
     Unknown,
-    /// More than 7 handles, or rights outside the default.
+    /// Handles that a process can't be given. Not yet: no statement lists handles.
     BadHandleList,
-    /// The job's policy doesn't allow what a program needs.
+    /// The job's policy doesn't allow what a program needs. Not yet: no statement sets a policy.
     NeedDenied,
-    /// The policy of a job that has children.
+    /// The policy of a job that has children. Not yet: no statement sets a policy.
     BadState,
-    /// A condition that is set to another action already.
+    /// A condition that is set to another action already. Not yet: no statement sets a policy.
     Conflict,
     /// Too many of something, or too long an input.
     Limit,

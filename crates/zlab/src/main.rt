@@ -1,4 +1,9 @@
-//! The program: its command line, the trace of standard input, and its exit status.
+//! The program: its command line, the trace of standard input, the assembler over files, and its exit
+//! status.
+//!
+//! It stands on `zl_calls` for the world, on `zl_asm` for the assembler, on `zl_code` and `zl_rights`
+//! for what these speak of, and on `clap` and `thiserror`. It promises, by the contracts of
+//! `step_engine`, `asm_engine` and `words`, that what is written is the answer to what was read.
 #![tactic(auto)]
 
 mod assembling;

@@ -93,7 +93,7 @@ pub fn push_state(text: &mut String, pid: Pid, state: ProcState) -> Result<(), A
     }
 }
 
-/// Adds the last line of a trace. Where memory is refused, nothing changes.
+/// Adds the last line of a trace.
 pub fn push_end(text: &mut String, end: End) -> Result<(), AllocError>
     ensures { OnOk result (string_bytes text.new ≡ string_bytes text.old ++ end_line end) }
 {

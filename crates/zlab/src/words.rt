@@ -114,7 +114,7 @@ fn assembling<'a>(alloc: Global) -> Result<Command<'a>, AllocError>
     Command::new(alloc, "asm")
         .about("Assembles the text in the file IN into an image in the file OUT")
         .arg(needed(alloc, "IN", "The file of the assembler's text"))?
-        .arg(needed(alloc, "OUT", "The file that the image is written to"))
+        .arg(needed(alloc, "OUT", "The file for the image; it is emptied first"))
 }
 
 // A word that must be there.

@@ -13,7 +13,8 @@ The forms of a command line:
       along the schedule and writes the trace, or `refused LINE CAUSE` for the first faulty line.
       Example: zlab < examples/event.zls
   zlab asm IN OUT
-      Assembles the text in the file IN, and writes the image to the file OUT.
+      Assembles the text in the file IN, and writes the image to the file OUT, or
+      `refused LINE CAUSE`. OUT is emptied before IN is read, so let it be another file.
       Example: zlab asm ping.zasm ping.zli
 
 Not built yet (a wrong command line for now):
@@ -31,9 +32,9 @@ Not built yet (a wrong command line for now):
       Example: zlab replay pair.zls pair.trace
 
 Exit status:
-  0  done, or accepted
-  1  refused, undecodable, or a trace that differs
-  2  a wrong command line
-  3  a fault of reading or writing
-  4  no memory
-For 2, 3 and 4 one line on standard error says why.";
+  0  the trace, the image or the help is written
+  1  the input is refused, and its first faulty line named
+  2  the words are in none of the forms
+  3  reading or writing failed
+  4  memory was refused
+After the last three a line on standard error names the reason.";

@@ -3,7 +3,7 @@
 use crate::engine::step_engine;
 use crate::fault::{EngineFault, Verdict};
 use crate::input::MOST_INPUT;
-use std::alloc::Global;
+use std::alloc::{AllocError, Global};
 use std::io;
 use std::io::{Read, Write};
 use std::process::Abort;
@@ -94,6 +94,10 @@ fn answers_texts_without_programs(rt: HostRuntime) {
     for input in done {
         is_answered(&rt, rt.alloc(), input.as_bytes(), Verdict::Done, DONE);
     }
+}
+
+#[test]
+fn refuses_texts_without_programs(rt: HostRuntime) {
     let refused = [
         ("process 1 0 0", "refused 1 Unknown\n"),
         ("\n\nprocess 1 0\n", "refused 3 Syntax\n"),
@@ -243,6 +247,17 @@ fn answers_each_byte_alone(rt: HostRuntime) {
     }
 }
 
+/// A text with very many of the middle.
+fn long_text(alloc: Global, front: &str, middle: &str, back: &str) -> Result<String, AllocError> {
+    let mut text = String::new(alloc);
+    text.push_str(front)?;
+    for _ in 0..20_000 {
+        text.push_str(middle)?;
+    }
+    text.push_str(back)?;
+    Ok(text)
+}
+
 #[test]
 fn answers_long_texts(rt: HostRuntime) -> Result<(), Fail> {
     let cases = [
@@ -279,12 +294,7 @@ fn answers_long_texts(rt: HostRuntime) -> Result<(), Fail> {
         ),
     ];
     for (front, middle, back, verdict, line) in cases {
-        let mut text = String::new(rt.alloc());
-        text.push_str(front)?;
-        for _ in 0..20_000 {
-            text.push_str(middle)?;
-        }
-        text.push_str(back)?;
+        let text = long_text(rt.alloc(), front, middle, back)?;
         is_answered(&rt, rt.alloc(), text.as_bytes(), verdict, line);
     }
     Ok(())

@@ -1,7 +1,7 @@
-ghost use Rattle.std.specs.Prelude.{◌≡◌, ◌==◌, ◌≤◌, ◌++◌, ◌∷◌, [], length, OnOk, OnErr, IfSome, IfNone, slice_get, Some, None};
+ghost use Rattle.std.specs.Prelude.{◌≡◌, ◌==◌, ◌≤◌, ◌++◌, ◌∷◌, [], length, OnOk, OnErr, IfErr, IfSome, IfNone, slice_get, Some, None};
 ghost use Rattle.zl_calls.specs.Program.{program_value};
 
-use std::alloc::{AllocError, Global};
+use std::alloc::{AllocFailed, Global};
 use std::marker::Model;
 use zl_code::Image;
 
@@ -64,13 +64,15 @@ impl Library {
         self.programs.is_empty()
     }
 
-    /// Adds the program, which gets the next number. Only memory can be refused; then nothing changes.
-    pub fn push(&mut self, program: Program) -> Result<(), AllocError>
-        ensures ok { OnOk result (self.new ≡ self.old ++ program_value program ∷ []) }
-        ensures err { OnErr result (self.new ≡ self.old) }
+    /// Adds the program, which gets the next number.
+    ///
+    /// Only memory can be refused; then nothing changes, and the program comes back.
+    pub fn push(&mut self, program: Program) -> Result<(), AllocFailed<Program>>
+        ensures added { OnOk result (self.new ≡ self.old ++ program_value program ∷ []) }
+        ensures unchanged { OnErr result (self.new ≡ self.old) }
+        ensures handed_back { IfErr result (λ refused. refused.value ≡ program) }
     {
-        self.programs.push(program)?;
-        Ok(())
+        self.programs.push(program)
     }
 
     /// The program of this number, if there is one.

@@ -6,6 +6,8 @@ use std::marker::Model;
 use zl_code::Image;
 
 /// A program as a library lists it.
+///
+/// Source: own profile.
 #[derive(Drop)]
 pub enum Program {
     /// A program that was not checked; its processes may be refused and may be stuck.
@@ -24,6 +26,8 @@ impl Program {
 }
 
 /// The programs of a lab, by their numbers from 0.
+///
+/// Source: own profile.
 #[derive(Drop)]
 pub struct Library {
     programs: Vec<Program>,

@@ -23,6 +23,9 @@ use zl_rights::{Pid, Status};
 const STUCK: i32 = -1028;
 
 /// The world of a lab: its programs, every process ever made, and the objects.
+///
+/// Source: the page "Kernel objects" of the Fuchsia documentation; programs, boot, local
+/// instructions and which koid is given next are own profile.
 #[derive(Drop)]
 pub struct World {
     alloc: Global,
@@ -45,6 +48,8 @@ impl Model for World {
 }
 
 /// What a process did that wasn't at a call.
+///
+/// Source: own profile.
 #[derive(Clone, Copy, PartialEq, Eq, Debug)]
 pub enum Local {
     /// One local instruction.
@@ -113,6 +118,8 @@ impl World {
     ///
     /// The process has to be ready and at a call. It takes no memory at `close`, `signal` and
     /// `process_exit`; a call that was refused memory is answered `NoMemory`.
+    /// Source: for each call its page of the Fuchsia documentation, as "zx_handle_close"; the order
+    /// in which answers are looked for is own profile.
     pub fn perform(&mut self, pid: Pid) -> Outcome
         requires { IsSome (call_for self.old pid) }
         ensures steps { Performs self.old pid result self.new }

@@ -13,12 +13,14 @@ use Rattle.zl_calls.specs.declared.process.Process.{Process}
 use Rattle.zl_calls.specs.Registry.{Registry}
 use Rattle.zl_calls.specs.Parts.{IsRefusedBy, Replies, RepliesWith, status_of, answer_of, answer_to, close_refusal, without_handle, closing, Dups, dup_refusal, CreatesEvent, event_refusal, signal_refusal, SignalsObject, Ends}
 
+-- zx_handle_close of the handle in register b, answered in a; b holds 0 on every answer
 pub record ActsClose (a b : ℕ) (p : Process) (r : Registry) (o : Outcome) (p2 : Process) (r2 : Registry) : Type 0 where
   pub ends : o ≡ outcome.Answered (answer_of (close_refusal p.table.entries (reg p.cpu b)))
   pub table : p2.table ≡ without_handle p.table (reg p.cpu b)
   pub objects : r2 ≡ closing r (get p.table.entries (reg p.cpu b))
   pub replied : RepliesWith (site (close (reg p.cpu b)) (b ∷ []) (a ∷ [])) (answer_of (close_refusal p.table.entries (reg p.cpu b))) p p2
 
+-- zx_handle_duplicate of the handle in register h, answered in a, with the new handle in d
 pub record ActsDup (a h d asked : ℕ) (p : Process) (r : Registry) (o : Outcome) (p2 : Process) (r2 : Registry) : Type 0 where
   pub answer : Result ℕ Status
   pub ends : o ≡ outcome.Answered (status_of answer)
@@ -28,6 +30,7 @@ pub record ActsDup (a h d asked : ℕ) (p : Process) (r : Registry) (o : Outcome
   pub same_table : OnErr answer (p2.table ≡ p.table)
   pub same_objects : OnErr answer (r2 ≡ r)
 
+-- zx_event_create, answered in register a, with the handle of the event in d
 pub record ActsEventCreate (a d : ℕ) (p : Process) (r : Registry) (o : Outcome) (p2 : Process) (r2 : Registry) : Type 0 where
   pub answer : Result ℕ Status
   pub ends : o ≡ outcome.Answered (status_of answer)
@@ -37,6 +40,7 @@ pub record ActsEventCreate (a d : ℕ) (p : Process) (r : Registry) (o : Outcome
   pub same_table : OnErr answer (p2.table ≡ p.table)
   pub same_objects : OnErr answer (r2 ≡ r)
 
+-- zx_object_signal by the handle in register h, with the masks in clear and set, answered in a
 pub record ActsSignal (a h clear set : ℕ) (p : Process) (r : Registry) (o : Outcome) (p2 : Process) (r2 : Registry) : Type 0 where
   pub answer : Result ⊤ Status
   pub ends : o ≡ outcome.Answered (answer_to answer)
@@ -46,6 +50,7 @@ pub record ActsSignal (a h clear set : ℕ) (p : Process) (r : Registry) (o : Ou
   pub same_table : p2.table ≡ p.table
   pub same_objects : OnErr answer (r2 ≡ r)
 
+-- zx_process_exit with the code in register a; its caller gets no answer
 pub record ActsExit (a : ℕ) (p : Process) (r : Registry) (o : Outcome) (p2 : Process) (r2 : Registry) : Type 0 where
   pub ends : o ≡ outcome.Ended (signed_word (reg p.cpu a))
   pub over : Ends (signed_word (reg p.cpu a)) p r p2 r2

@@ -19,6 +19,7 @@ is_free (local.StoreByte a b imm) = false
 is_free (local.StoreWord a b imm) = false
 is_free _ = true
 
+-- what is in the place of the slot array that was found
 abbrev pub place_in : Option (List ℕ) → ℕ → Option ℕ
 place_in None place = None
 place_in (Some places) place = slice_get places place
@@ -27,6 +28,7 @@ place_in (Some places) place = slice_get places place
 abbrev pub slot_in : List (List ℕ) → ℕ → ℕ → Option ℕ
 slot_in slots array place = place_in (slice_get slots array) place
 
+-- the slot arrays with a place of the array that was found written; without one they stay
 abbrev pub set_in : List (List ℕ) → ℕ → ℕ → ℕ → Option (List ℕ) → List (List ℕ)
 set_in slots array place value None = slots
 set_in slots array place value (Some places) = slice_set slots array (slice_set places place value)

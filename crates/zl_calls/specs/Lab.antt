@@ -37,6 +37,7 @@ is_in_job objects _ = true
 
 -- ---- all of it
 
+-- all koids lie below the next one, handles name objects and are counted there, and what is there is held
 pub record IsLab (processes : List Process) (r : Registry) : Type 0 where
   pub processes_in_order : IsTrue (is_sorted nat_cmp (map process_entry processes))
   pub objects_in_order : IsTrue (is_sorted nat_cmp r.objects)

@@ -44,6 +44,7 @@ has_room_in entries = nat_le (length entries + 1) 1024
 
 -- ---- the answer of a call that makes a handle
 
+-- the status that its caller gets
 abbrev pub status_of : Result ℕ Status → Status
 status_of (Ok made) = status.Ok
 status_of (Err s) = s
@@ -72,6 +73,7 @@ abbrev pub answer_of : Option Status → Status
 answer_of None = status.Ok
 answer_of (Some s) = s
 
+-- the same, from what the function of the call gives back
 abbrev pub answer_to : Result ⊤ Status → Status
 answer_to (Ok done) = status.Ok
 answer_to (Err s) = s
@@ -93,6 +95,7 @@ closing r (Some e) = released r e.koid
 
 -- ---- dup
 
+-- why no second handle is made, with the caller's handle looked up: rights come before room
 abbrev pub dup_refusal_of : Map Entry → Map Object → ℕ → Option Entry → Option Status
 dup_refusal_of entries objects asked None = Some status.BadHandle
 dup_refusal_of entries objects asked (Some e) =
@@ -137,9 +140,11 @@ abbrev pub settable_at : Kind → ℕ
 settable_at kind.Event = 0xff00_0008
 settable_at _ = USER_SIGNALS
 
+-- both masks keep to the signals that calls may change
 abbrev pub may_change_at : Kind → ℕ → ℕ → Bool
 may_change_at k clear set = within clear (settable_at k) && within set (settable_at k)
 
+-- why no signal changes, with the caller's handle looked up: rights come before masks
 abbrev pub signal_refusal_of : ℕ → ℕ → Option Entry → Option Status
 signal_refusal_of clear set None = Some status.BadHandle
 signal_refusal_of clear set (Some e) =

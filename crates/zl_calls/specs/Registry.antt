@@ -13,6 +13,7 @@ pub record Registry : Type 0 where
   pub objects : Map Object
   pub next_koid : ℕ
 
+-- an object under its koid
 abbrev pub keyed : Object → ℕ × Object
 keyed o = (o.koid, o)
 
@@ -33,10 +34,12 @@ held_once_less o = record o { handles = o.handles - 1 }
 
 -- ---- jobs and processes
 
+-- a job; the root job is the only one yet
 abbrev pub is_job_body : Body → Bool
 is_job_body body.RootJob = true
 is_job_body _ = false
 
+-- the object that was found is a job
 abbrev pub is_job_in : Option Object → Bool
 is_job_in None = false
 is_job_in (Some o) = is_job_body o.body
@@ -45,14 +48,17 @@ is_job_in (Some o) = is_job_body o.body
 abbrev pub is_job_at : Map Object → ℕ → Bool
 is_job_at objects k = is_job_in (get objects k)
 
+-- the job of a process
 abbrev pub job_of : Body → Option ℕ
 job_of (body.Process job lives) = Some job
 job_of _ = None
 
+-- the job of the process that was found
 abbrev pub job_in : Option Object → Option ℕ
 job_in None = None
 job_in (Some o) = job_of o.body
 
+-- what a process is once it has ended; nothing else changes
 abbrev pub stopped_body : Body → Body
 stopped_body (body.Process job lives) = body.Process job false
 stopped_body b = b
@@ -68,6 +74,7 @@ abbrev pub lives_below : ℕ → Body → Bool
 lives_below k (body.Process job lives) = (job == k) && lives
 lives_below k _ = false
 
+-- the job k has a process that lives
 unfoldable pub has_living_child : Map Object → ℕ → Bool
 has_living_child objects k = list_any (λ e. lives_below k e.1.body) objects
 
@@ -77,6 +84,7 @@ stays_alone objects k body.RootJob = has_living_child objects k
 stays_alone objects k (body.Process job lives) = lives
 stays_alone objects k body.Event = false
 
+-- a handle names the object, or it stays without one
 abbrev pub is_kept : Map Object → ℕ → Object → Bool
 is_kept objects k o = nat_lt 0 o.handles || stays_alone objects k o.body
 
@@ -97,10 +105,11 @@ with_new r body handles = record {
 abbrev pub holding : Registry → ℕ → Registry
 holding r k = record r { objects = update r.objects k held_once_more }
 
--- the objects, where the signals of the object k were changed
+-- the object with the signals of one mask cleared, and then those of the other set
 abbrev pub raised_changed : ℕ → ℕ → Object → Object
 raised_changed clear set o = record o { raised = record { 0 = changed o.raised.0 clear set } }
 
+-- the objects, where the signals of the object k were changed
 abbrev pub changing : Registry → ℕ → ℕ → ℕ → Registry
 changing r k clear set = record r { objects = update r.objects k (raised_changed clear set) }
 
@@ -112,6 +121,7 @@ letting_go r k = record r { objects = update r.objects k held_once_less }
 abbrev pub stopping : Registry → ℕ → Registry
 stopping r k = record r { objects = update r.objects k stopped }
 
+-- the objects after the one that was found at k goes, unless something keeps it
 abbrev pub without_unkept : Registry → ℕ → Option Object → Registry
 without_unkept r k None = r
 without_unkept r k (Some o) = if is_kept r.objects k o then r else record r { objects = without r.objects k }
@@ -124,6 +134,7 @@ without_unheld r k = without_unkept r k (get r.objects k)
 abbrev pub released : Registry → ℕ → Registry
 released r k = without_unheld (letting_go r k) k
 
+-- the objects after the process k of the job that was found has ended
 abbrev pub ended_in : Registry → ℕ → Option ℕ → Registry
 ended_in r k None = r
 ended_in r k (Some job) = without_unheld (without_unheld (stopping r k) k) job

@@ -24,10 +24,12 @@ pub record Lab : Type 0 where
 
 -- ---- views
 
+-- the state of a process, ready or ended; none is created or blocked yet
 abbrev pub state_value : State → StateValue
 state_value state.Ready = Ready
 state_value (state.Ended code) = Ended code
 
+-- a process; of its table just the live handles and the value removed last are seen
 abbrev pub process_value : Process → ProcessValue
 process_value p = record {
   program = p.program;
@@ -37,17 +39,21 @@ process_value p = record {
   last = p.table.last;
 }
 
+-- what an object is; the root job has no parent, and no policy is set in it yet
 abbrev pub body_value : Body → BodyValue
 body_value body.RootJob = JobBody 0 1 [] false
 body_value (body.Process job lives) = ProcessBody job
 body_value body.Event = EventBody
 
+-- an object; how many handles name it isn't seen
 abbrev pub object_value : Object → ObjectValue
 object_value o = record { body = body_value o.body; raised = o.raised.0 }
 
+-- a process of the world under its koid
 abbrev pub process_entry : Process → ℕ × ProcessValue
 process_entry p = (p.pid, process_value p)
 
+-- an object of the world under its koid
 abbrev pub object_entry : ℕ × Object → ℕ × ObjectValue
 object_entry e = (e.0, object_value e.1)
 
@@ -64,6 +70,7 @@ world_value processes registry = record {
 
 -- ---- what is seen of a process
 
+-- what a trace tells of a process in this state
 abbrev pub seen_in : StateValue → ProcState
 seen_in Created = seen.Created
 seen_in Ready = seen.Ready
@@ -71,6 +78,7 @@ seen_in (Blocked awaited destinations) = seen.Blocked
 seen_in (Ended code) = seen.Ended code
 seen_in Gone = seen.Gone
 
+-- the same of the process that was looked up; one that was never made is gone
 abbrev pub seen_of : Option ProcessValue → ProcState
 seen_of None = seen.Gone
 seen_of (Some p) = seen_in p.state
@@ -84,11 +92,13 @@ pub record IsPlaceOf (processes : List Process) (pid place : ℕ) : Type 0 where
 abbrev pub state_in : Lab → ℕ → ProcState
 state_in l pid = seen_of (get l.world.processes pid)
 
+-- the call that stands next, if one does
 abbrev pub call_in : Next → Option CallName
 call_in (AtCall call site) = Some call
 call_in (Moves to) = None
 call_in IsStuck = None
 
+-- the call at which the process that was looked up is; just a ready one is at a call
 abbrev pub call_of : Library → Option ProcessValue → Option CallName
 call_of lib None = None
 call_of lib (Some p) = if is_ready p.state then call_in (next_for lib p) else None

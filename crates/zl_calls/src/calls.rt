@@ -70,6 +70,7 @@ fn take_out(table: &mut Table, value: u64) -> Option<Entry>
     ensures entry { result ≡ get table.old.entries value }
     ensures table { table.new ≡ without_handle table.old value }
 {
+    // A quick answer; and by `len` the prover knows that no value beyond an `HValue` is live.
     if table.len() == 0 {
         return None;
     }
@@ -306,6 +307,7 @@ fn signed_word(value: u64) -> i32
 fn look_up(table: &Table, value: u64, rights: Rights) -> Result<Entry, Status>
     ensures { result ≡ looked_up table.now.entries value [] (bits rights) }
 {
+    // A quick answer, and a fact that the prover needs below, as in `take_out`.
     if table.len() == 0 {
         return Err(Status::BadHandle);
     }

@@ -16,9 +16,10 @@ use zl_code::{Boot, BootCause, BootFault, Statement};
 use zl_rights::Koid;
 use zl_table::Table;
 
-// The most processes and koids, the root job's among them, that a boot makes (own profile).
+/// The most processes that a boot makes (own profile).
 const MOST_PROCESSES: usize = 64;
 
+/// The most koids that a boot gives, the root job's among them (own profile).
 const MOST_KOIDS: Koid = 1024;
 
 /// The processes and objects that statements have made.
@@ -53,7 +54,7 @@ pub fn booted(alloc: Global, library: &Library, boot: &Boot) -> Result<Made, Boo
 }
 
 impl Made {
-    // The root job alone.
+    /// The root job alone.
     fn new(alloc: Global) -> Result<Made, AllocError>
         ensures no_process { IfOk result (λ made. made.processes.items ≡ []) }
         ensures root { IfOk result (λ made. made.objects ≡ root_alone) }
@@ -65,7 +66,7 @@ impl Made {
         })
     }
 
-    // Does the statement.
+    /// Does the statement.
     fn make(
         &mut self,
         alloc: Global,
@@ -125,7 +126,7 @@ impl Made {
         Ok(())
     }
 
-    // What isn't held is gone: the root job, if no process is in it.
+    /// What isn't held is gone: the root job, if no process is in it.
     fn settle(&mut self)
         requires { IsMaking self.old.processes.items self.old.objects }
         ensures settles { Settles (seen self.old) (seen self.new) }

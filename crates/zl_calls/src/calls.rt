@@ -54,7 +54,7 @@ fn close_value(table: &mut Table, objects: &mut Objects, value: u64) -> Status
     }
 }
 
-// What it is answered to close a value that isn't live.
+/// What it is answered to close a value that isn't live.
 fn unless_zero(value: u64) -> Status
     ensures { result ≡ answer_of (status_if (not (value == 0)) Status.BadHandle) }
 {
@@ -65,7 +65,7 @@ fn unless_zero(value: u64) -> Status
     }
 }
 
-// The handle at the value leaves the table, if it is live.
+/// The handle at the value leaves the table, if it is live.
 fn take_out(table: &mut Table, value: u64) -> Option<Entry>
     ensures entry { result ≡ get table.old.entries value }
     ensures table { table.new ≡ without_handle table.old value }
@@ -265,7 +265,7 @@ pub fn end(alloc: Global, process: &mut Process, objects: &mut Objects, code: i3
     }
 }
 
-// The signals that calls may set and clear at an object of this kind.
+/// The signals that calls may set and clear at an object of this kind.
 fn settable(kind: Kind) -> u32
     ensures { result ≡ settable_at kind }
 {
@@ -275,7 +275,7 @@ fn settable(kind: Kind) -> u32
     }
 }
 
-// The signals with these bits, if each of them may be changed.
+/// The signals with these bits, if each of them may be changed.
 fn signals_within(bits: u64, settable: u32) -> Option<Signals>
     ensures { result ≡ (if within bits settable then Some (record { 0 = bits }) else None) }
 {
@@ -295,7 +295,7 @@ fn signals_if(bits: u32, settable: u32) -> Option<Signals>
     }
 }
 
-// The low 32 bits as a signed number.
+/// The low 32 bits as a signed number.
 fn signed_word(value: u64) -> i32
     ensures { result ≡ signed_word value }
 {
@@ -303,7 +303,7 @@ fn signed_word(value: u64) -> i32
     low.cast_signed()
 }
 
-// The handle of any kind at the value, if it has the rights.
+/// The handle of any kind at the value, if it has the rights.
 fn look_up(table: &Table, value: u64, rights: Rights) -> Result<Entry, Status>
     ensures { result ≡ looked_up table.now.entries value [] (bits rights) }
 {
@@ -317,7 +317,7 @@ fn look_up(table: &Table, value: u64, rights: Rights) -> Result<Entry, Status>
     }
 }
 
-// The entry goes into the table, which has to have place for it. Only memory can be refused.
+/// The entry goes into the table, which has to have place for it. Only memory can be refused.
 fn insert(table: &mut Table, entry: Entry) -> Result<HValue, Status>
     requires { length table.old.entries < 1024 }
     ensures ok { IfOk result (λ value. Inserts table.old entry value table.new) }

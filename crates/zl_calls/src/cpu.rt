@@ -99,7 +99,7 @@ impl Cpu {
     }
 }
 
-// Slot arrays with 0 in each place.
+/// Slot arrays with 0 in each place.
 fn empty_slots(alloc: Global, arrays: &[SlotArray]) -> Result<Vec<Vec<u64>>, AllocError>
     ensures { IfOk result (λ slots. map (λ places. places.items) slots.items ≡ map (λ array. replicate array.length 0) arrays.now) }
 {

@@ -27,7 +27,7 @@ pub struct Object {
 }
 
 impl Object {
-    // The object with one handle more, if one may name it.
+    /// The object with one handle more, if one may name it.
     fn held_once_more(self) -> Object
         ensures { result ≡ held_once_more self }
     {
@@ -41,7 +41,7 @@ impl Object {
         }
     }
 
-    // The object with one handle less.
+    /// The object with one handle less.
     fn held_once_less(self) -> Object
         ensures { result ≡ held_once_less self }
     {
@@ -51,7 +51,7 @@ impl Object {
         }
     }
 
-    // The object with these signals cleared, and then those set.
+    /// The object with these signals cleared, and then those set.
     fn changed(self, clear: Signals, set: Signals) -> Object
         ensures { result ≡ raised_changed clear.0 set.0 self }
     {
@@ -61,7 +61,7 @@ impl Object {
         }
     }
 
-    // The object of a process that has ended.
+    /// The object of a process that has ended.
     fn stopped(self) -> Object
         ensures { result ≡ stopped self }
     {
@@ -74,7 +74,7 @@ impl Object {
         }
     }
 
-    // The job of a process.
+    /// The job of a process.
     fn job(self) -> Option<Koid>
         ensures { result ≡ job_of self.body }
     {
@@ -86,7 +86,7 @@ impl Object {
 }
 
 impl Body {
-    // Whether it is a process of the job that lives.
+    /// Whether it is a process of the job that lives.
     fn lives_below(&self, parent: Koid) -> bool
         ensures { result ≡ lives_below parent self.now }
     {
@@ -225,7 +225,7 @@ impl Objects {
         self.remove_unheld(koid);
     }
 
-    // One handle less names the object.
+    /// One handle less names the object.
     fn let_go(&mut self, koid: Koid)
         ensures { self.new ≡ letting_go self.old koid }
     {
@@ -245,7 +245,7 @@ impl Objects {
         }
     }
 
-    // The process doesn't live any more.
+    /// The process doesn't live any more.
     fn stop(&mut self, pid: Koid)
         ensures { self.new ≡ stopping self.old pid }
     {
@@ -254,7 +254,7 @@ impl Objects {
         }
     }
 
-    // The job of the process.
+    /// The job of the process.
     fn job_of(&self, pid: Koid) -> Option<Koid>
         ensures { result ≡ job_in (get self.now.objects pid) }
     {
@@ -281,7 +281,7 @@ impl Objects {
         remove_from(&mut self.list, koid);
     }
 
-    // Whether a handle names the object, or it is a process that lives or a job with one.
+    /// Whether a handle names the object, or it is a process that lives or a job with one.
     fn keeps(&self, object: Object) -> bool
         ensures { result ≡ is_kept self.now.objects object.koid object }
     {
@@ -302,7 +302,7 @@ impl Objects {
     }
 }
 
-// Where the object stands in the list.
+/// Where the object stands in the list.
 fn place_of(list: &[Object], koid: Koid) -> Option<usize>
     ensures { result ≡ position (λ o. o.koid == koid) list.now }
 {
@@ -315,7 +315,7 @@ fn remove_from(list: &mut Vec<Object>, koid: Koid)
     list.retain(|object| object.koid != koid);
 }
 
-// Whether a process of the job lives.
+/// Whether a process of the job lives.
 fn any_below(list: &[Object], job: Koid) -> bool
     ensures { result ≡ list_any (λ o. lives_below job o.body) list.now }
 {

@@ -10,7 +10,7 @@ use crate::cpu::Cpu;
 use zl_code::{LocalInstr, Register};
 
 impl Cpu {
-    // Where the bytes from the sum of base and offset on begin, if so many lie in the memory.
+    /// Where the bytes from the sum of base and offset on begin, if so many lie in the memory.
     fn place(&self, base: u64, offset: u32, count: usize) -> Option<usize>
         requires { count ≤ 8 }
         ensures found { IfSome result (λ place. place ≡ base + offset) }
@@ -62,7 +62,7 @@ impl Cpu {
         self.memory[place..place + 8].copy_from_slice(&value.to_le_bytes());
     }
 
-    // The register becomes the byte at the sum of base and offset.
+    /// The register becomes the byte at the sum of base and offset.
     fn load_byte(&mut self, register: Register, base: u64, offset: u32) -> Option<()>
         requires { self.old.counter < 2 ^ 32 }
         ensures some { OnSome result (loads self.old 1 register (base + offset) ≡ Some self.new) }
@@ -74,7 +74,7 @@ impl Cpu {
         Some(())
     }
 
-    // The register becomes the eight bytes from the sum of base and offset on.
+    /// The register becomes the eight bytes from the sum of base and offset on.
     fn load_word(&mut self, register: Register, base: u64, offset: u32) -> Option<()>
         requires { self.old.counter < 2 ^ 32 }
         ensures some { OnSome result (loads self.old 8 register (base + offset) ≡ Some self.new) }
@@ -86,7 +86,7 @@ impl Cpu {
         Some(())
     }
 
-    // The low byte of the value goes to the sum of base and offset.
+    /// The low byte of the value goes to the sum of base and offset.
     fn store_byte(&mut self, base: u64, offset: u32, value: u64) -> Option<()>
         requires { self.old.counter < 2 ^ 32 }
         ensures some { OnSome result (stores self.old 1 (base + offset) value ≡ Some self.new) }
@@ -98,7 +98,7 @@ impl Cpu {
         Some(())
     }
 
-    // The eight bytes of the value go to the sum of base and offset.
+    /// The eight bytes of the value go to the sum of base and offset.
     fn store_word(&mut self, base: u64, offset: u32, value: u64) -> Option<()>
         requires { self.old.counter < 2 ^ 32 }
         ensures some { OnSome result (stores self.old 8 (base + offset) value ≡ Some self.new) }
@@ -110,14 +110,14 @@ impl Cpu {
         Some(())
     }
 
-    // What is in the place of the slot array, if both are there.
+    /// What is in the place of the slot array, if both are there.
     fn slot(&self, array: usize, place: usize) -> Option<u64>
         ensures { result ≡ slot_in self.now.slots array place }
     {
         self.slots.get(array)?.get(place).copied()
     }
 
-    // The place of the slot array becomes the value; both are there.
+    /// The place of the slot array becomes the value; both are there.
     fn set_slot(&mut self, array: usize, place: usize, value: u64)
         requires { IsSome (slot_in self.old.slots array place) }
         ensures { self.new ≡ record self.old { slots = slot_set self.old.slots array place value } }
@@ -125,7 +125,7 @@ impl Cpu {
         self.slots[array][place] = value;
     }
 
-    // Exchanges the register with a place of a slot array, if both are there.
+    /// Exchanges the register with a place of a slot array, if both are there.
     fn swap(&mut self, register: Register, place: u64, array: u32) -> Option<()>
         requires { self.old.counter < 2 ^ 32 }
         ensures some { OnSome result (swaps self.old register place array ≡ Some self.new) }
@@ -137,7 +137,7 @@ impl Cpu {
         Some(())
     }
 
-    // The register becomes the other, which becomes 0.
+    /// The register becomes the other, which becomes 0.
     fn take(&mut self, destination: Register, source: Register)
         requires { self.old.counter < 2 ^ 32 }
         ensures { self.new ≡ record (sets self.old destination (reg self.old source)) { registers = slice_set (slice_set self.old.registers destination (reg self.old source)) source 0 } }
@@ -149,14 +149,14 @@ impl Cpu {
     }
 }
 
-// The bits moved up.
+/// The bits moved up.
 fn shifted_left(value: u64, places: u32) -> u64
     ensures { result ≡ (if nat_lt places 64 then wrapped (value * 2 ^ places) else 0) }
 {
     value.checked_shl(places).unwrap_or(0)
 }
 
-// The bits moved down.
+/// The bits moved down.
 fn shifted_right(value: u64, places: u32) -> u64
     ensures { result ≡ (if nat_lt places 64 then value / 2 ^ places else 0) }
 {
@@ -175,7 +175,7 @@ fn difference(left: u64, right: u64) -> u64
     left.wrapping_sub(right)
 }
 
-// Whether all these bits are in the value.
+/// Whether all these bits are in the value.
 fn has(value: u64, bits: u32) -> bool
     ensures { result ≡ within bits value }
 {
@@ -223,7 +223,7 @@ pub fn run(cpu: &mut Cpu, local: LocalInstr) -> Option<()>
     }
 }
 
-// Does a local instruction that is never stuck.
+/// Does a local instruction that is never stuck.
 #[tactic(auto, unfolding(zl_code::specs::Local::local_effect))]
 fn compute(cpu: &mut Cpu, local: LocalInstr)
     requires counter { cpu.old.counter < 2 ^ 32 }

@@ -28,7 +28,7 @@ pub fn place_of(processes: &[Process], pid: Pid) -> Option<usize>
     first_with(processes, pid)
 }
 
-// The first place with the pid.
+/// The first place with the pid.
 fn first_with(processes: &[Process], pid: Pid) -> Option<usize>
     ensures { result ≡ position (λ process. process.pid == pid) processes.now }
 {
@@ -138,7 +138,7 @@ pub fn act(alloc: Global, process: &mut Process, objects: &mut Objects, call: Ca
     }
 }
 
-// The answer of a call that makes a handle.
+/// The answer of a call that makes a handle.
 fn answered_by(answer: Result<HValue, Status>) -> Outcome
     ensures { result ≡ Outcome.Answered (status_of answer) }
 {

@@ -1,5 +1,5 @@
 -- The numbers of rights, signals, kinds, statuses, conditions, actions and modes.
-use Rattle.std.specs.Prelude.{ℕ, ℤ, pos, negsuc, Bool, false, true, not, ◌==◌, bit_and, bit_or, bit_xor, Option, Some, None, if◌then◌else◌}
+use Rattle.std.specs.Prelude.{ℕ, ◌+◌, ℤ, pos, negsuc, Bool, false, true, not, ◌==◌, bit_and, bit_or, bit_xor, Option, Some, None, if◌then◌else◌}
 use Rattle.zl_rights.specs.declared.rights.Rights.{Rights}
 use Rattle.zl_rights.specs.declared.kind.Kind.{Kind}
 use Rattle.zl_rights.specs.declared.kind.Kind.TheVariants as kind
@@ -127,11 +127,11 @@ same_kind a b = kind_number a == kind_number b
 
 -- the rights of the first handle to a new object
 abbrev pub default_rights_of : Kind → ℕ
-default_rights_of kind.Process = 184847
-default_rights_of kind.Channel = 61454
-default_rights_of kind.Event = 53251
-default_rights_of kind.Port = 32783
-default_rights_of kind.Job = 251407
+default_rights_of kind.Process = DUPLICATE + TRANSFER + READ + WRITE + DESTROY + SIGNAL + WAIT + INSPECT + MANAGE_PROCESS
+default_rights_of kind.Channel = TRANSFER + READ + WRITE + SIGNAL + SIGNAL_PEER + WAIT + INSPECT
+default_rights_of kind.Event = DUPLICATE + TRANSFER + SIGNAL + WAIT + INSPECT
+default_rights_of kind.Port = DUPLICATE + TRANSFER + READ + WRITE + INSPECT
+default_rights_of kind.Job = DUPLICATE + TRANSFER + READ + WRITE + DESTROY + SET_POLICY + SIGNAL + WAIT + INSPECT + MANAGE_JOB + MANAGE_PROCESS
 
 -- ---- statuses
 

@@ -6,6 +6,13 @@ ghost use Rattle.zl_rights.specs.Names.{kind_name, kind_named};
 use crate::rights::Rights;
 use bitflags::Flags;
 
+// The set of the rights with these names.
+macro_rules! rights {
+    ($first:ident $($more:ident)*) => {
+        Rights::$first$(.union(Rights::$more))*
+    };
+}
+
 /// The kind of a kernel object.
 ///
 /// Source: the page "Kernel objects" of the Fuchsia documentation.
@@ -85,13 +92,17 @@ impl Kind {
     pub fn default_rights(self) -> Rights
         ensures { bits result ≡ default_rights_of self }
     {
-        let number = match self {
-            Kind::Process => 184_847,
-            Kind::Channel => 61_454,
-            Kind::Event => 53_251,
-            Kind::Port => 32_783,
-            Kind::Job => 251_407,
-        };
-        Rights::from_bits_retain(number)
+        match self {
+            Kind::Process => rights![
+                DUPLICATE TRANSFER READ WRITE DESTROY SIGNAL WAIT INSPECT MANAGE_PROCESS
+            ],
+            Kind::Channel => rights![TRANSFER READ WRITE SIGNAL SIGNAL_PEER WAIT INSPECT],
+            Kind::Event => rights![DUPLICATE TRANSFER SIGNAL WAIT INSPECT],
+            Kind::Port => rights![DUPLICATE TRANSFER READ WRITE INSPECT],
+            Kind::Job => rights![
+                DUPLICATE TRANSFER READ WRITE DESTROY SET_POLICY SIGNAL WAIT INSPECT MANAGE_JOB
+                MANAGE_PROCESS
+            ],
+        }
     }
 }

@@ -1,5 +1,5 @@
 -- The numbers of rights, signals, kinds, statuses, conditions, actions and modes.
-use Rattle.std.specs.Prelude.{ℕ, ◌+◌, ℤ, pos, negsuc, Bool, false, true, not, ◌==◌, bit_and, bit_or, bit_xor, Option, Some, None, if◌then◌else◌}
+use Rattle.std.specs.Prelude.{ℕ, ◌+◌, ℤ, pos, negsuc, Bool, not, ◌==◌, bit_and, bit_or, bit_xor, Option, Some, None, if◌then◌else◌}
 use Rattle.zl_rights.specs.declared.rights.Rights.{Rights}
 use Rattle.zl_rights.specs.declared.kind.Kind.{Kind}
 use Rattle.zl_rights.specs.declared.kind.Kind.TheVariants as kind
@@ -172,13 +172,6 @@ status_number status.NotFound = negsuc 24
 status_number status.AlreadyExists = negsuc 25
 status_number status.AccessDenied = negsuc 29
 
--- the answers that refuse a call for a handle
-abbrev pub is_fault : Status → Bool
-is_fault status.BadHandle = true
-is_fault status.WrongType = true
-is_fault status.AccessDenied = true
-is_fault _ = false
-
 -- ---- policy
 
 abbrev pub condition_number : Condition → ℕ
@@ -200,10 +193,6 @@ mode_number mode.Relative = 0
 mode_number mode.Absolute = 1
 
 -- ---- codes of an end
-
--- of a process that was killed
-abbrev pub KILLED : ℤ
-KILLED = negsuc 1023
 
 -- of a process that its policy ended
 abbrev pub BY_POLICY : ℤ

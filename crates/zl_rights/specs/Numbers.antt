@@ -36,6 +36,7 @@ bits r = r.0
 abbrev pub rights_of : ℕ → Rights
 rights_of n = record { 0 = n }
 
+-- one bit for each right; the table of calls says what each is needed for
 abbrev pub DUPLICATE : ℕ
 DUPLICATE = 0x1
 
@@ -88,24 +89,31 @@ narrowed have asked =
 
 -- ---- signals
 
+-- at an end of a channel: a message is queued there
 abbrev pub READABLE : ℕ
 READABLE = 0x1
 
+-- at an end of a channel: the other end is there
 abbrev pub WRITABLE : ℕ
 WRITABLE = 0x2
 
+-- at an end of a channel: the other end is gone
 abbrev pub PEER_CLOSED : ℕ
 PEER_CLOSED = 0x4
 
+-- at an event, where calls alone set and clear it
 abbrev pub SIGNALED : ℕ
 SIGNALED = 0x8
 
+-- at a process or a job: it has come to its end
 abbrev pub TERMINATED : ℕ
 TERMINATED = 0x8
 
+-- at a job: no job directly below it lives
 abbrev pub NO_JOBS : ℕ
 NO_JOBS = 0x10
 
+-- at a job: no process directly below it lives
 abbrev pub NO_PROCESSES : ℕ
 NO_PROCESSES = 0x20
 
@@ -115,6 +123,7 @@ USER_SIGNALS = 0xff00_0000
 
 -- ---- kinds
 
+-- the number of a kind, as images and answers have it
 abbrev pub kind_number : Kind → ℕ
 kind_number kind.Process = 1
 kind_number kind.Channel = 4
@@ -122,6 +131,7 @@ kind_number kind.Event = 5
 kind_number kind.Port = 6
 kind_number kind.Job = 17
 
+-- the two are one kind
 abbrev pub same_kind : Kind → Kind → Bool
 same_kind a b = kind_number a == kind_number b
 
@@ -154,6 +164,7 @@ status_magnitude status.NotFound = 25
 status_magnitude status.AlreadyExists = 26
 status_magnitude status.AccessDenied = 30
 
+-- the number of a status; all but that of OK are negative
 abbrev pub status_number : Status → ℤ
 status_number status.Ok = pos 0
 status_number status.NotSupported = negsuc 1
@@ -174,6 +185,7 @@ status_number status.AccessDenied = negsuc 29
 
 -- ---- policy
 
+-- the number of a condition, as calls and the policies of jobs have it
 abbrev pub condition_number : Condition → ℕ
 condition_number condition.BadHandle = 0
 condition_number condition.WrongObject = 1
@@ -183,11 +195,13 @@ condition_number condition.NewEvent = 4
 condition_number condition.NewPort = 6
 condition_number condition.NewProcess = 7
 
+-- the number of an action, as job_set_policy takes it
 abbrev pub action_number : Action → ℕ
 action_number action.Allow = 0
 action_number action.Deny = 1
 action_number action.Kill = 2
 
+-- the number of a mode, as job_set_policy takes it
 abbrev pub mode_number : Mode → ℕ
 mode_number mode.Relative = 0
 mode_number mode.Absolute = 1

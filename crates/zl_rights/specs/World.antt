@@ -33,12 +33,17 @@ pub data Awaited : Type 0 where
   -- a packet at the port
   PacketAt : (koid : ℕ) → Awaited
 
+-- how far a process has come in its life
 pub data State : Type 0 where
+  -- made, and not started yet
   Created : State
+  -- may take its next step
   Ready : State
-  -- the destinations are the registers of the answer, the status first
+  -- waits within a call; the destinations are the registers of the answer, the status first
   Blocked : (awaited : Awaited) (destinations : List ℕ) → State
+  -- over, with this code
   Ended : (code : ℤ) → State
+  -- dropped before it was ever started
   Gone : State
 
 -- a process that was ever made
@@ -77,6 +82,7 @@ pub record Packet : Type 0 where
 
 -- what an object is
 pub data Body : Type 0 where
+  -- the queue holds what is to be read at this end
   ChannelEnd : (peer : ℕ) (queue : List Message) → Body
   EventBody : Body
   PortBody : (packets : List Packet) → Body
@@ -84,11 +90,13 @@ pub data Body : Type 0 where
   JobBody : (parent depth : ℕ) (policy : Map Action) (killed : Bool) → Body
   ProcessBody : (job : ℕ) → Body
 
+-- a kernel object; its koid is its key in the world
 pub record Object : Type 0 where
   pub body : Body
   -- the signals that calls set and clear
   pub raised : ℕ
 
+-- the kind of an object, which its body alone decides
 abbrev pub kind_of : Body → Kind
 kind_of (ChannelEnd peer queue) = kind.Channel
 kind_of EventBody = kind.Event

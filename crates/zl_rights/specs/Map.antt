@@ -2,6 +2,7 @@
 use Rattle.std.specs.Prelude.{ℕ, Bool, not, ◌==◌, nat_lt, List, [], ◌∷◌, map, Option, Some, None, if◌then◌else◌, is_some}
 use Rattle.std.specs.List.{filter}
 
+-- a finite map, as entries of a key and its value
 abbrev pub Map : Type 0 → Type 0
 Map X = List (ℕ × X)
 
@@ -25,6 +26,7 @@ without m k = filter (λ e. not (e.0 == k)) m
 unfoldable pub where_key : {X : Type 0} → (ℕ → Bool) → Map X → Map X
 where_key p m = filter (λ e. p e.0) m
 
+-- something stands at the key
 abbrev pub has_key : {X : Type 0} → Map X → ℕ → Bool
 has_key m k = is_some (get m k)
 

@@ -9,6 +9,7 @@ use Rattle.zl_rights.specs.declared.policy.Condition.TheVariants as condition
 use Rattle.zl_rights.specs.declared.status.Status.{Status}
 use Rattle.zl_rights.specs.declared.status.Status.TheVariants as status
 
+-- the name of a status, as traces print it
 abbrev pub status_name : Status → List ℕ
 status_name status.Ok = codes "OK"
 status_name status.NotSupported = codes "NOT_SUPPORTED"
@@ -27,6 +28,7 @@ status_name status.NotFound = codes "NOT_FOUND"
 status_name status.AlreadyExists = codes "ALREADY_EXISTS"
 status_name status.AccessDenied = codes "ACCESS_DENIED"
 
+-- the name of a kind, as the texts of programs spell it
 abbrev pub kind_name : Kind → List ℕ
 kind_name kind.Process = codes "process"
 kind_name kind.Channel = codes "channel"
@@ -38,6 +40,7 @@ kind_name kind.Job = codes "job"
 unfoldable pub kind_named : List ℕ → Option Kind
 kind_named name = find (λ k. pointwise ◌==◌ (kind_name k) name) (kind.Process ∷ kind.Channel ∷ kind.Event ∷ kind.Port ∷ kind.Job ∷ [])
 
+-- the name of a condition, as the texts of programs spell it
 abbrev pub condition_name : Condition → List ℕ
 condition_name condition.BadHandle = codes "BAD_HANDLE"
 condition_name condition.WrongObject = codes "WRONG_OBJECT"

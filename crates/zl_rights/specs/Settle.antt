@@ -13,9 +13,11 @@ Koids = ℕ → Bool
 unfoldable pub in_table : World → ℕ → Bool
 in_table w k = list_any (λ p. list_any (λ h. h.1.koid == k) p.1.handles) w.processes
 
+-- a handle in one of these messages names k
 abbrev pub names : ℕ → List Message → Bool
 names k queue = list_any (λ m. list_any (λ h. h.koid == k) m.handles) queue
 
+-- the messages that an object keeps, if it is an end of a channel
 abbrev pub queue_of : Body → List Message
 queue_of (ChannelEnd peer queue) = queue
 queue_of _ = []
@@ -43,13 +45,16 @@ pub record IsLargestHeld (w : World) (K : Koids) : Type 0 where
   pub held : IsHeld w K
   pub largest : (L : Koids) → IsHeld w L → (k : ℕ) → IsTrue (L k) → IsTrue (K k)
 
+-- a process that was never started is gone, where its object isn't kept
 abbrev pub state_without : Bool → State → State
 state_without kept Created = if kept then Created else Gone
 state_without kept s = s
 
+-- the process k, where the objects of K alone are kept
 abbrev pub process_without : Koids → ℕ → Process → Process
 process_without K k p = record p { state = state_without (K k) p.state }
 
+-- the process is there, and a handle of it has the value
 abbrev pub has_handle : Option Process → ℕ → Bool
 has_handle None v = false
 has_handle (Some p) v = has_key p.handles v

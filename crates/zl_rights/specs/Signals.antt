@@ -21,14 +21,17 @@ runs Ready = true
 runs (Blocked awaited destinations) = true
 runs _ = false
 
+-- over, whatever its code
 abbrev pub has_ended : State → Bool
 has_ended (Ended code) = true
 has_ended _ = false
 
+-- may take its next step
 abbrev pub is_ready : State → Bool
 is_ready Ready = true
 is_ready _ = false
 
+-- there is a process, and its state passes
 abbrev pub state_passes : (State → Bool) → Option Process → Bool
 state_passes test None = false
 state_passes test (Some p) = test p.state
@@ -59,6 +62,7 @@ has_child_process w job = list_any (λ e. is_process_of job e.1.body && is_proce
 
 -- ---- active signals
 
+-- nothing stands in the list
 abbrev pub is_empty : {A : Type 0} → List A → Bool
 is_empty [] = true
 is_empty (x ∷ xs) = false
@@ -78,6 +82,7 @@ implied w k (JobBody parent depth policy killed) =
     (bit_or (signal_if NO_JOBS (not (has_child_job w k))) (signal_if NO_PROCESSES (not (has_child_process w k))))
 implied w k (ProcessBody job) = signal_if TERMINATED (is_process w has_ended k)
 
+-- the signals that calls raised at the object and those that follow from the world, none where it isn't there
 abbrev pub active_of : World → ℕ → Option Object → ℕ
 active_of w k None = 0
 active_of w k (Some o) = bit_or o.raised (implied w k o.body)

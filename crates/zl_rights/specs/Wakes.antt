@@ -22,6 +22,7 @@ packet_of w x = record {
   source = Some (record { pid = x.pid; value = x.value; object = x.object });
 }
 
+-- a port with these packets behind its own; no other object takes packets
 abbrev pub body_with_packets : List Packet → Body → Body
 body_with_packets more (PortBody packets) = PortBody (packets ++ more)
 body_with_packets more b = b
@@ -60,14 +61,17 @@ woken_by_first w p process k destinations o [] = w
 woken_by_first w p process k destinations o (x ∷ rest) =
     made_ready (with_body w k o (PortBody rest)) p process destinations (0 ∷ packet_values x)
 
+-- the first packet of the object k goes to the process, if k is a port
 abbrev pub woken_by : World → ℕ → Process → ℕ → List ℕ → Object → Body → World
 woken_by w p process k destinations o (PortBody packets) = woken_by_first w p process k destinations o packets
 woken_by w p process k destinations o _ = w
 
+-- likewise, where the object k may be gone
 abbrev pub woken_at_port : World → ℕ → Process → ℕ → List ℕ → Option Object → World
 woken_at_port w p process k destinations None = w
 woken_at_port w p process k destinations (Some o) = woken_by w p process k destinations o o.body
 
+-- the process becomes ready, if the signal or the packet that it is blocked on is there
 abbrev pub woken_from : World → ℕ → Process → State → World
 woken_from w p process (Blocked (SignalOf k mask) destinations) =
     if meets (active w k) mask then made_ready w p process destinations (0 ∷ active w k ∷ []) else w
@@ -75,6 +79,7 @@ woken_from w p process (Blocked (PacketAt k) destinations) =
     woken_at_port w p process k destinations (get w.objects k)
 woken_from w p process _ = w
 
+-- likewise, where there may be no process p
 abbrev pub woken_if_there : World → ℕ → Option Process → World
 woken_if_there w p None = w
 woken_if_there w p (Some process) = woken_from w p process process.state

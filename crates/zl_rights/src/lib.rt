@@ -1,8 +1,8 @@
 //! Rights, signals, kinds and statuses, and the definitions of the world, settling and waking.
 //!
-//! It stands on `bitflags` alone. It promises that rights and signals are sets of named bits and
-//! that `narrow` is exact; `laws` proves of the definitions that every world settles to one result
-//! and that one round of waking suffices.
+//! It stands on `bitflags` alone. It promises that each number and name is the written one, and
+//! that rights and signals are tested, narrowed and changed exactly; `laws` proves of the
+//! definitions that every world settles to one result and that one round of waking suffices.
 #![tactic(auto)]
 
 mod entry;

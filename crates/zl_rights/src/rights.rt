@@ -65,9 +65,10 @@ impl Rights {
     }
 }
 
-/// The rights of a handle that is made from one with `have`, where `asked` asks for them.
+/// The rights of a handle that is made from one with `have`: all of them where `asked` is
+/// `SAME_RIGHTS`, and else those that `asked` names.
 ///
-/// `InvalidArgs` just where `asked` is neither `SAME_RIGHTS` alone nor a subset of `have`.
+/// `InvalidArgs` where `asked` is another number, and has a bit that `have` lacks.
 /// Source: the page "zx_handle_duplicate" of the Fuchsia documentation.
 pub fn narrow(have: Rights, asked: u32) -> Result<Rights, Status>
     ensures { result ≡ ok_or (narrowed have asked) Status.InvalidArgs }

@@ -6,7 +6,7 @@ ghost use Rattle.zl_rights.specs.Names.{kind_name, kind_named};
 use crate::rights::Rights;
 use bitflags::Flags;
 
-// The set of the rights with these names.
+/// The set of the rights with these names.
 macro_rules! rights {
     ($first:ident $($more:ident)*) => {
         Rights::$first$(.union(Rights::$more))*

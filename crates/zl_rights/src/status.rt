@@ -26,14 +26,14 @@ pub enum Status {
 }
 
 impl Status {
-    /// The number of the status: 0, or a negative one.
+    /// The number of the status: 0, or a negative one, -30 at least.
     pub fn number(self) -> i32
         ensures { result ≡ status_number self }
     {
         -(self.magnitude() as i32)
     }
 
-    /// The number without its sign, as a status register holds it (own profile).
+    /// The number without its sign, 0 to 30, as a status register holds it (own profile).
     pub fn magnitude(self) -> u32
         ensures { result ≡ status_magnitude self }
     {
@@ -57,7 +57,7 @@ impl Status {
         }
     }
 
-    /// The name of the status, as traces have it.
+    /// The name of the status, as traces have it: without `ZX_` or `ZX_ERR_` (own profile).
     pub fn name(self) -> &'static str
         ensures { result.now ≡ status_name self }
     {

@@ -12,6 +12,8 @@ use std::marker::Model;
 use zl_rights::{Entry, HValue, Kind, Rights, Status};
 
 /// Why an insertion was refused. Each has the entry that was to go in.
+///
+/// Source: own profile.
 #[derive(Debug, Drop)]
 pub enum InsertFault {
     /// The table holds `Table::CAPACITY` handles.
@@ -76,7 +78,7 @@ impl Table {
         self.places.is_empty()
     }
 
-    /// The entry at the value, if the value is live.
+    /// The entry at the value, or nothing where the value isn't live.
     pub fn get(&self, value: HValue) -> Option<Entry>
         ensures { result ≡ get self.now.entries value }
     {
@@ -176,7 +178,8 @@ impl Table {
         true
     }
 
-    /// Takes the entry with the greatest value out, if there is one. It takes no memory.
+    /// Takes the entry with the greatest value out, or nothing where the table is empty. It takes no
+    /// memory. The order is own profile.
     pub fn drain(&mut self) -> Option<Entry>
         ensures some { IfSome result (λ entry. Drains self.old entry self.new) }
         ensures empty { IfNone result (self.old.entries ≡ []) }
@@ -187,14 +190,14 @@ impl Table {
     }
 }
 
-// Whether a handle of this kind is asked for; no kinds stand for any.
+/// Whether a handle of this kind is asked for; no kinds stand for any.
 fn is_asked_for(kinds: &[Kind], kind: Kind) -> bool
     ensures { result ≡ takes kinds.now kind }
 {
     kinds.is_empty() || kinds.contains(&kind)
 }
 
-// The value that the next insertion gets.
+/// The value that the next insertion gets.
 fn value_to_give(live: usize, freed: &[HValue]) -> HValue
     requires { live < 1024 }
     ensures { result ≡ next_value live freed.now }
@@ -203,7 +206,7 @@ fn value_to_give(live: usize, freed: &[HValue]) -> HValue
     freed.last().copied().unwrap_or(fresh)
 }
 
-// The place of the value, or where it would go.
+/// The place of the value, or where it would go.
 fn place_of(places: &[(HValue, Entry)], value: HValue) -> Result<usize, usize>
     requires { IsTrue (is_sorted nat_cmp places.now) }
     ensures found { IfOk result (IsAt places.now value) }

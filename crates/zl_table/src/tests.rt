@@ -91,7 +91,7 @@ fn a_drain_goes_from_the_greatest_value_down(rt: HostRuntime) -> Result<(), Fail
     Ok(())
 }
 
-// Under `rt try --test --fail-alloc N` the Nth allocation is refused; else each insertion succeeds.
+/// Under `rt try --test --fail-alloc N` the Nth allocation is refused; else each insertion succeeds.
 #[test]
 fn an_insertion_without_memory_leaves_the_table(rt: HostRuntime) {
     let mut table = Table::new(rt.alloc());

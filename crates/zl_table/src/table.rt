@@ -66,6 +66,7 @@ impl Table {
     /// How many handles the table holds.
     pub fn len(&self) -> usize
         ensures count { result ≡ length self.now.entries }
+        // What is public of the invariant: callers learn it here of any table.
         ensures table { IsTable self.now }
     {
         self.places.len()

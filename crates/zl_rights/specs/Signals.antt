@@ -15,7 +15,7 @@ lives (Blocked awaited destinations) = true
 lives (Ended code) = false
 lives Gone = false
 
--- a living process that has been started
+-- started, and not over yet
 abbrev pub runs : State → Bool
 runs Ready = true
 runs (Blocked awaited destinations) = true

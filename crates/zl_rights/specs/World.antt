@@ -106,7 +106,7 @@ kind_of (ProcessBody job) = kind.Process
 
 -- ---- registered waits
 
--- a wait of wait_async: the handle by which it was made, the object, and where its packet goes
+-- a wait of wait_async: the process and the value that made it, the object that it watches, and where its packet goes
 pub record Wait : Type 0 where
   pub pid : ℕ
   pub value : ℕ
@@ -123,9 +123,9 @@ pub record World : Type 0 where
   -- every process ever made, by koid
   pub processes : Map Process
   pub objects : Map Object
-  -- in the order in which they were registered
+  -- the earliest registered first
   pub waits : List Wait
-  -- in the order in which they blocked
+  -- the koids of blocked processes, the longest blocked first
   pub blocked : List ℕ
   -- the least koid that was not given yet
   pub next_koid : ℕ

@@ -22,8 +22,10 @@ use zl_rights::Pid;
 /// Reads a scenario with a schedule, and writes the trace along the schedule or the line of the
 /// first fault. All input is read before anything is written.
 ///
-/// The trace is the text of a legal history; in each of its worlds no two handles share a place, and
-/// each handle's rights are within the default of its kind (`zl_code::laws::histories_keep_handles_sound`).
+/// The trace is the text of a legal history. In all worlds of such a history handles are sound and
+/// name objects of their kind (`zl_code::laws::histories_keep_handles_sound` and `.._named`).
+/// It has as many items as the scenario's limit at most, and no more is read than one byte past
+/// 4,194,304.
 /// A fault of the reader is `Read`, with nothing written. A fault of the writer, and a want of memory,
 /// leave nothing or a beginning of such an answer.
 pub fn step_engine<R: Read, W: Write>(

@@ -12,6 +12,7 @@ pub mod Stepping
 pub mod NotReused
 pub mod MapKept
 pub mod HandlesKept
+pub mod NamesKept
 pub mod ImageBytes
 pub mod ImageCells
 pub mod ImagePieces

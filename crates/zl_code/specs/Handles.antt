@@ -6,7 +6,7 @@ use Rattle.std.specs.FinMap.Entries.{is_sorted}
 use Rattle.zl_rights.specs.declared.entry.Entry.{Entry}
 use Rattle.zl_rights.specs.Numbers.{bits, within, default_rights_of}
 use Rattle.zl_rights.specs.Map.{Map, get}
-use Rattle.zl_rights.specs.World.{World, Process, Object}
+use Rattle.zl_rights.specs.World.{World, Process, Object, kind_of}
 use Rattle.zl_rights.specs.Settle.{queue_of}
 use Rattle.zl_code.specs.declared.history.TraceItem.{TraceItem}
 use Rattle.zl_code.specs.Image.{Library}
@@ -33,6 +33,10 @@ pub record HandlesAreSound (w : World) : Type 0 where
   pub rights : (p v : ℕ) (q : Process) (e : Entry) → get w.processes p ≡ Some q → get q.handles v ≡ Some e → IsTrue (has_default_rights e)
   -- the handles in queues
   pub queued : (k : ℕ) (o : Object) → get w.objects k ≡ Some o → IsTrue (list_all (λ m. list_all has_default_rights m.handles) (queue_of o.body))
+
+-- the handle names an object that is there, of the kind that the handle has
+abbrev pub names_its_object : Map Object → Entry → Type 0
+names_its_object objects e = (o : Object) × (get objects e.koid ≡ Some o) × (e.kind ≡ kind_of o.body)
 
 -- P is true of each world of the run, from the first to the last
 abbrev pub Throughout : (World → Type 0) → (lib : Library) (w : World) (items : List TraceItem) (w2 : World) → Runs lib w items w2 → Type 0

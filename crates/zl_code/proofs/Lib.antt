@@ -13,6 +13,7 @@ pub mod NotReused
 pub mod MapKept
 pub mod HandlesKept
 pub mod NamesKept
+pub mod HandlesNamed
 pub mod ImageBytes
 pub mod ImageCells
 pub mod ImagePieces

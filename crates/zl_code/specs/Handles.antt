@@ -1,6 +1,6 @@
--- Handles: no two share a place, and each has rights within the default rights of its kind.
+-- Handles: no two share a place, each has rights within the default rights of its kind, and each names an object of that kind.
 use Rattle.std.specs.Prelude.{ℕ, ◌≡◌, Bool, List, [], ◌∷◌, Some, IsTrue}
-use Rattle.std.specs.List.{list_all}
+use Rattle.std.specs.List.{All, list_all}
 use Rattle.std.specs.Ordering.{nat_cmp}
 use Rattle.std.specs.FinMap.Entries.{is_sorted}
 use Rattle.zl_rights.specs.declared.entry.Entry.{Entry}
@@ -37,6 +37,13 @@ pub record HandlesAreSound (w : World) : Type 0 where
 -- the handle names an object that is there, of the kind that the handle has
 abbrev pub names_its_object : Map Object → Entry → Type 0
 names_its_object objects e = (o : Object) × (get objects e.koid ≡ Some o) × (e.kind ≡ kind_of o.body)
+
+-- In w each handle names an object that is there, of the kind that the handle has.
+pub record HandlesAreNamed (w : World) : Type 0 where
+  -- the handles in tables
+  pub tables : (p v : ℕ) (q : Process) (e : Entry) → get w.processes p ≡ Some q → get q.handles v ≡ Some e → names_its_object w.objects e
+  -- the handles in queues
+  pub queues : (k : ℕ) (o : Object) → get w.objects k ≡ Some o → All (λ m. All (names_its_object w.objects) m.handles) (queue_of o.body)
 
 -- P is true of each world of the run, from the first to the last
 abbrev pub Throughout : (World → Type 0) → (lib : Library) (w : World) (items : List TraceItem) (w2 : World) → Runs lib w items w2 → Type 0

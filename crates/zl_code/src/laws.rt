@@ -14,7 +14,7 @@ ghost use Rattle.zl_code.specs.declared.boot.Statement.{Statement};
 ghost use Rattle.zl_code.specs.Steps.{Step, Runs, single, IsLegalHistory};
 ghost use Rattle.zl_code.specs.Boot.{IsBoot};
 ghost use Rattle.zl_code.specs.Koids.{HasGivenKoids, KeepsKoids};
-ghost use Rattle.zl_code.specs.Handles.{HandlesAreSound, Throughout};
+ghost use Rattle.zl_code.specs.Handles.{HandlesAreNamed, HandlesAreSound, Throughout};
 
 /// A ready process has a step.
 pub fn a_ready_process_has_a_step()
@@ -79,4 +79,29 @@ pub fn histories_keep_handles_sound()
     ensures { (lib : Library) (statements : List Statement) (boot after : World) (history : List TraceItem)
         → IsBoot lib statements boot → (legal : IsLegalHistory lib boot history after)
         → Throughout HandlesAreSound lib boot (flat_map single history) after legal.run × HandlesAreSound after }
+{}
+
+/// In a boot world each handle names an object that is there, of the kind that the handle has.
+pub fn boot_worlds_name_objects()
+    ensures { (lib : Library) (statements : List Statement) (w : World)
+        → IsBoot lib statements w → HandlesAreNamed w }
+{}
+
+/// Where each object has a koid that was given, after a step each handle still names an object that is there, of the kind that the handle has.
+pub fn steps_keep_handles_named()
+    ensures { (lib : Library) (w : World) (p : ℕ) (x : TraceItem) (after : World)
+        → HasGivenKoids w → HandlesAreNamed w → Step lib w p x after → HandlesAreNamed after }
+{}
+
+/// In the last world of a run from a boot world each handle names an object that is there, of the kind that the handle has.
+pub fn runs_keep_handles_named()
+    ensures { (lib : Library) (statements : List Statement) (boot after : World) (items : List TraceItem)
+        → IsBoot lib statements boot → Runs lib boot items after → HandlesAreNamed after }
+{}
+
+/// In every world of a legal history from a boot world, the last one too, each handle names such an object.
+pub fn histories_keep_handles_named()
+    ensures { (lib : Library) (statements : List Statement) (boot after : World) (history : List TraceItem)
+        → IsBoot lib statements boot → (legal : IsLegalHistory lib boot history after)
+        → Throughout HandlesAreNamed lib boot (flat_map single history) after legal.run × HandlesAreNamed after }
 {}

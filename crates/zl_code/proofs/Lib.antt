@@ -14,6 +14,7 @@ pub mod MapKept
 pub mod HandlesKept
 pub mod NamesKept
 pub mod HandlesNamed
+pub mod RowsNamed
 pub mod ImageBytes
 pub mod ImageCells
 pub mod ImagePieces

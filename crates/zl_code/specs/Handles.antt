@@ -1,4 +1,4 @@
--- Handles: no two share a place, each has rights within the default rights of its kind, and each names an object of that kind.
+-- Handles: their places are apart, their rights are those of a first handle at most, and what they name is there.
 use Rattle.std.specs.Prelude.{ℕ, ◌≡◌, Bool, List, [], ◌∷◌, Some, IsTrue}
 use Rattle.std.specs.List.{All, list_all}
 use Rattle.std.specs.Ordering.{nat_cmp}
@@ -20,7 +20,7 @@ in_order m = is_sorted nat_cmp m
 abbrev pub has_default_rights : Entry → Bool
 has_default_rights e = within (bits e.rights) (default_rights_of e.kind)
 
--- In w no two handles share a place, and each handle's rights are within the default rights of its kind.
+-- The handles of w stand at places of their own, and none has a right that a first handle of its kind lacks.
 -- The place of a queued handle is its position, which no other has.
 pub record HandlesAreSound (w : World) : Type 0 where
   -- no koid stands for two processes

@@ -56,13 +56,13 @@ pub fn runs_reuse_no_koid()
         → IsBoot lib statements boot → Runs lib boot items w → Runs lib w more after → KeepsKoids w after }
 {}
 
-/// In a boot world no two handles share a place, and each handle's rights are within the default rights of its kind.
+/// In a boot world handles stand at places of their own, with rights that a first handle of the kind has.
 pub fn boot_worlds_have_sound_handles()
     ensures { (lib : Library) (statements : List Statement) (w : World)
         → IsBoot lib statements w → HandlesAreSound w }
 {}
 
-/// A step leaves no two handles at one place, and none with rights outside the default rights of its kind.
+/// A step brings no handle to the place of another, and none to rights that a first handle of its kind lacks.
 pub fn steps_keep_handles_sound()
     ensures { (lib : Library) (w : World) (p : ℕ) (x : TraceItem) (after : World)
         → HandlesAreSound w → Step lib w p x after → HandlesAreSound after }

@@ -87,13 +87,15 @@ pub fn boot_worlds_name_objects()
         → IsBoot lib statements w → HandlesAreNamed w }
 {}
 
-/// Where each object has a koid that was given, after a step each handle still names an object that is there, of the kind that the handle has.
+/// Where each object has a koid that was given, after a step each handle still names an object that is
+/// there, of the kind that the handle has.
 pub fn steps_keep_handles_named()
     ensures { (lib : Library) (w : World) (p : ℕ) (x : TraceItem) (after : World)
         → HasGivenKoids w → HandlesAreNamed w → Step lib w p x after → HandlesAreNamed after }
 {}
 
-/// In the last world of a run from a boot world each handle names an object that is there, of the kind that the handle has.
+/// In the last world of a run from a boot world each handle names an object that is there, of the kind
+/// that the handle has.
 pub fn runs_keep_handles_named()
     ensures { (lib : Library) (statements : List Statement) (boot after : World) (items : List TraceItem)
         → IsBoot lib statements boot → Runs lib boot items after → HandlesAreNamed after }

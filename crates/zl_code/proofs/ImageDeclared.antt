@@ -1,13 +1,13 @@
 -- The eight bytes of a declaration.
-use Rattle.std.proofs.Common.{◌≡◌, ℕ, ◌<◌, ◌≤◌, Bool, true, false, List, [], ◌∷◌, ◌++◌, length, take, drop, Option, Some, None, ◌==◌, ◌&&◌, not, refl, sym, ap, ◌∙◌, arith}
+use Rattle.std.proofs.Common.{◌≡◌, ◌≢◌, ℕ, ◌<◌, ◌≤◌, Bool, true, false, List, [], ◌∷◌, ◌++◌, length, take, drop, Option, Some, None, ◌==◌, ◌&&◌, not, refl, sym, ap, ◌∙◌, arith}
 use Rattle.std.specs.Prelude.{slice_index, nat_lt, nat_le, bit_and}
 use Rattle.std.specs.List.{list_all}
-use Rattle.std.proofs.lemmas.Bool.{and_parts, and_from, eqb-true, leb-true}
+use Rattle.std.proofs.lemmas.Bool.{and_parts, and_from, eqb-true, ne_eqb, leb-true}
 use Rattle.std.proofs.lemmas.List.{length-drop, take_all}
 use Rattle.std.proofs.lemmas.Nat.{and_le_l}
 use Rattle.zl_rights.specs.declared.kind.Kind.{Kind}
 use Rattle.zl_rights.specs.declared.kind.Kind.TheVariants as kind
-use Rattle.zl_rights.specs.Numbers.{bits, rights_of, within}
+use Rattle.zl_rights.specs.Numbers.{bits, rights_of, within, kind_number}
 use Rattle.zl_code.specs.declared.image.DecodeFault.TheVariants as faults
 use Rattle.zl_code.specs.declared.image.Start.{Start}
 use Rattle.zl_code.specs.declared.image.SlotArray.{SlotArray}
@@ -19,6 +19,9 @@ has_rights_allowed bytes k b h e = rw h e
 
 pub has_rights_none : (bytes : List ℕ) → kind_at (slice_index bytes 0) ≡ None → has_rights bytes ≡ false
 has_rights_none bytes h = rw h refl
+
+pub kind_at_none : (b : ℕ) → b ≢ 0 → ((k : Kind) → kind_number k ≢ b) → kind_at b ≡ None
+kind_at_none b named missing = rw (ne_eqb b 0 named, ne_eqb 1 b (missing kind.Process), ne_eqb 4 b (missing kind.Channel), ne_eqb 5 b (missing kind.Event), ne_eqb 6 b (missing kind.Port), ne_eqb 17 b (missing kind.Job)) refl
 
 -- ---- the bytes that are read are spelled
 

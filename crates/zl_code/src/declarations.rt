@@ -19,19 +19,18 @@ const MOST_SLOTS: u16 = 256;
 const KNOWN_RIGHTS: u32 = 0x3_f60f;
 
 /// The kind of the byte, where 0 is any kind.
+#[tactic(auto, using(crate::proofs::ImageDeclared::kind_at_none))]
 fn kind_of(byte: u8) -> Result<Option<Kind>, DecodeFault>
     ensures byte { IfOk result (λ kind. kind_byte kind ≡ byte) }
     ensures ok { IfOk result (λ kind. kind_at byte ≡ Some kind) }
     ensures err { IfErr result (λ fault. (fault ≡ faults.BadHeader) × (kind_at byte ≡ None)) }
 {
-    match byte {
-        0 => Ok(None),
-        1 => Ok(Some(Kind::Process)),
-        4 => Ok(Some(Kind::Channel)),
-        5 => Ok(Some(Kind::Event)),
-        6 => Ok(Some(Kind::Port)),
-        17 => Ok(Some(Kind::Job)),
-        _ => Err(DecodeFault::BadHeader),
+    if byte == 0 {
+        return Ok(None);
+    }
+    match Kind::from_number(u32::from(byte)) {
+        Some(kind) => Ok(Some(kind)),
+        None => Err(DecodeFault::BadHeader),
     }
 }
 

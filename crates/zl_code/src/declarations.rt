@@ -15,9 +15,6 @@ use zl_rights::{Kind, Rights};
 /// The longest slot array.
 const MOST_SLOTS: u16 = 256;
 
-/// The rights that have a name.
-const KNOWN_RIGHTS: u32 = 0x3_f60f;
-
 /// The kind of the byte, where 0 is any kind.
 #[tactic(auto, using(crate::proofs::ImageDeclared::kind_at_none))]
 fn kind_of(byte: u8) -> Result<Option<Kind>, DecodeFault>
@@ -40,7 +37,7 @@ fn rights_allowed(kind: Option<Kind>) -> Rights
 {
     match kind {
         Some(kind) => kind.default_rights(),
-        None => Rights::from_bits_retain(KNOWN_RIGHTS),
+        None => Rights::all(),
     }
 }
 

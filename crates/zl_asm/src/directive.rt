@@ -13,9 +13,6 @@ use bitflags::Flags;
 use zl_code::{Image, SlotArray, Start};
 use zl_rights::{Condition, Kind, Rights};
 
-/// The longest slot array.
-const MOST_SLOTS: u32 = 256;
-
 /// A line that declares a field of the image.
 #[derive(Clone, Copy)]
 pub(crate) enum Directive {
@@ -157,7 +154,7 @@ fn slots_of(kind: &[u8], length: &[u8], rights: &[u8]) -> Result<SlotArray, AsmC
 {
     let slots = SlotArray {
         kind: kind_of(kind)?,
-        length: number_within(1, MOST_SLOTS, length)? as u16,
+        length: number_within(1, u32::from(SlotArray::MOST_PLACES), length)? as u16,
         rights: Rights::from_bits_retain(number_operand(rights)?),
     };
     if slots.is_in_range() {

@@ -12,9 +12,6 @@ use bitflags::Flags;
 use std::alloc::Global;
 use zl_rights::{Kind, Rights};
 
-/// The longest slot array.
-const MOST_SLOTS: u16 = 256;
-
 /// The kind of the byte, where 0 is any kind.
 #[tactic(auto, using(crate::proofs::ImageDeclared::kind_at_none))]
 fn kind_of(byte: u8) -> Result<Option<Kind>, DecodeFault>
@@ -116,7 +113,7 @@ impl Start {
 fn is_slots_length(length: u16) -> bool
     ensures { result ≡ (nat_lt 0 length && nat_le length 256) }
 {
-    length > 0 && length <= MOST_SLOTS
+    length > 0 && length <= SlotArray::MOST_PLACES
 }
 
 impl SlotArray {

@@ -50,6 +50,11 @@ pub struct SlotArray {
     pub rights: Rights,
 }
 
+impl SlotArray {
+    /// The most places that a slot array has.
+    pub const MOST_PLACES: u16 = 256;
+}
+
 impl Model for Image {
     ghost use Rattle.std.specs.Prelude.{IsTrue};
     ghost use Rattle.zl_code.specs.Image.{Image as ImageValue, needs_value};

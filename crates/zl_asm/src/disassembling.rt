@@ -11,14 +11,8 @@ ghost use Rattle.zl_asm.specs.Pieces.{ended, fields_text, need_if_among, needs_t
 
 use bitflags::Flags;
 use std::alloc::{AllocError, Global};
-use zl_code::{Ending, Image, Instr, Row, SlotArray, Start};
+use zl_code::{Ending, HandleList, Image, Instr, Row, SlotArray, Start};
 use zl_rights::{Condition, Kind};
-
-/// How many bytes an instruction has.
-const INSTR_LEN: usize = 16;
-
-/// The place of a list of handles that has no register.
-const NO_REGISTER: u8 = 0xff;
 
 /// Adds the marks and numbers of the image.
 fn push_fields(text: &mut String, image: &Image) -> Result<(), AllocError>
@@ -143,7 +137,7 @@ fn push_bytes(text: &mut String, bytes: &[u8]) -> Result<(), AllocError>
 }
 
 /// The registers in the bytes of an instruction.
-fn registers_in(bytes: [u8; INSTR_LEN]) -> [u8; 7]
+fn registers_in(bytes: [u8; Instr::LEN]) -> [u8; 7]
     ensures { result ≡ (reading_of bytes).registers }
 {
     let [_, a, b, c, d, e, f, g, _, _, _, _, _, _, _, _] = bytes;
@@ -151,7 +145,7 @@ fn registers_in(bytes: [u8; INSTR_LEN]) -> [u8; 7]
 }
 
 /// The numbers in the last eight bytes of an instruction.
-fn numbers_in(bytes: [u8; INSTR_LEN]) -> (u32, u32)
+fn numbers_in(bytes: [u8; Instr::LEN]) -> (u32, u32)
     ensures imm { result.0 ≡ (reading_of bytes).imm }
     ensures target { result.1 ≡ (reading_of bytes).target }
 {
@@ -162,7 +156,7 @@ fn numbers_in(bytes: [u8; INSTR_LEN]) -> (u32, u32)
 }
 
 /// The places of a list of handles in the last eight bytes.
-fn places_in(bytes: [u8; INSTR_LEN]) -> [u8; 8]
+fn places_in(bytes: [u8; Instr::LEN]) -> [u8; 8]
     ensures { result ≡ (reading_of bytes).places }
 {
     let [_, _, _, _, _, _, _, _, a, b, c, d, e, f, g, h] = bytes;
@@ -210,7 +204,7 @@ fn push_places<'a>(text: &mut String, separator: &'a str, places: &[u8]) -> Resu
 {
     let mut between = separator;
     for place in places {
-        if *place != NO_REGISTER {
+        if *place != HandleList::NONE {
             push_register(text, between, *place)?;
             between = ", ";
         }
@@ -225,7 +219,7 @@ fn push_tail(
     separator: &str,
     count: usize,
     ending: Ending,
-    bytes: [u8; INSTR_LEN],
+    bytes: [u8; Instr::LEN],
 ) -> Result<(), AllocError>
     ensures { OnOk result (string_bytes text.new ≡ string_bytes text.old ++ behind separator.now (tail_texts count ending (reading_of bytes))) }
 {
@@ -250,7 +244,7 @@ fn push_row(
     text: &mut String,
     count: usize,
     row: Row,
-    bytes: [u8; INSTR_LEN],
+    bytes: [u8; Instr::LEN],
 ) -> Result<(), AllocError>
     requires { row.registers ≤ 7 }
     ensures { OnOk result (string_bytes text.new ≡ string_bytes text.old ++ laid_out count row.name.now row.registers row.ending bytes) }
@@ -270,7 +264,7 @@ fn push_row(
 }
 
 /// Adds the digits of an instruction with an unknown opcode.
-fn push_unknown(text: &mut String, bytes: [u8; INSTR_LEN]) -> Result<(), AllocError>
+fn push_unknown(text: &mut String, bytes: [u8; Instr::LEN]) -> Result<(), AllocError>
     ensures { OnOk result (string_bytes text.new ≡ string_bytes text.old ++ (codes ".bytes " ++ hex_text bytes)) }
 {
     text.push_str(".bytes ")?;
@@ -278,7 +272,7 @@ fn push_unknown(text: &mut String, bytes: [u8; INSTR_LEN]) -> Result<(), AllocEr
 }
 
 /// Adds an instruction, one of so many.
-fn push_instr(text: &mut String, count: usize, bytes: [u8; INSTR_LEN]) -> Result<(), AllocError>
+fn push_instr(text: &mut String, count: usize, bytes: [u8; Instr::LEN]) -> Result<(), AllocError>
     ensures { OnOk result (string_bytes text.new ≡ string_bytes text.old ++ instr_text count bytes) }
 {
     match Row::of_opcode(bytes[0]) {
@@ -316,7 +310,7 @@ fn push_code(text: &mut String, code: &[Instr], targets: &[bool]) -> Result<(), 
 }
 
 /// The target of the instruction, if it has one.
-fn target_of(bytes: [u8; INSTR_LEN]) -> Option<u32>
+fn target_of(bytes: [u8; Instr::LEN]) -> Option<u32>
     ensures target { IfSome result (λ target. (aims (row_of (slice_index bytes 0)) ≡ true) × (target ≡ (reading_of bytes).target)) }
     ensures none { IfNone result (aims (row_of (slice_index bytes 0)) ≡ false) }
 {

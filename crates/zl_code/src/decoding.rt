@@ -6,7 +6,7 @@ ghost use Rattle.zl_code.specs.Image.{Image as ImageValue, needs_value};
 use crate::declarations::{slots_of, starts_of};
 use crate::encoding::{DECLARATION_LEN, HEADER_LEN, MAGIC, VERSION};
 use crate::image::{DecodeFault, Image, Needs};
-use crate::instr_bytes::INSTR_LEN;
+use crate::instr::Instr;
 use crate::known::code_of;
 use std::alloc::Global;
 
@@ -118,7 +118,7 @@ fn header_of(bytes: &[u8]) -> Result<Header, DecodeFault>
         slots: usize::from(bytes[18]),
     };
     let declared = HEADER_LEN + DECLARATION_LEN * header.starts + DECLARATION_LEN * header.slots;
-    if bytes.len() != declared + INSTR_LEN * header.count {
+    if bytes.len() != declared + Instr::LEN * header.count {
         return Err(DecodeFault::Length);
     }
     Ok(header)
@@ -134,11 +134,11 @@ fn declarations_at(bytes: &[u8], offset: usize, count: usize) -> &[[u8; DECLARAT
 }
 
 /// So many instructions, from the offset on.
-fn instrs_at(bytes: &[u8], offset: usize, count: usize) -> &[[u8; INSTR_LEN]]
-    requires { offset + INSTR_LEN * count ≤ length bytes.now }
-    ensures { result.now ≡ pieces INSTR_LEN count (drop offset bytes.now) }
+fn instrs_at(bytes: &[u8], offset: usize, count: usize) -> &[[u8; Instr::LEN]]
+    requires { offset + 16 * count ≤ length bytes.now }
+    ensures { result.now ≡ pieces 16 count (drop offset bytes.now) }
 {
-    let (pieces, _) = bytes[offset..].as_chunks::<INSTR_LEN>();
+    let (pieces, _) = bytes[offset..].as_chunks::<{ Instr::LEN }>();
     &pieces[..count]
 }
 

@@ -7,7 +7,6 @@ ghost use Rattle.zl_code.specs.Spells.{bytes_of, instr_bytes, kind_byte, start_b
 
 use crate::image::{Image, Needs, SlotArray, Start};
 use crate::instr::Instr;
-use crate::instr_bytes::INSTR_LEN;
 use bitflags::Flags;
 use std::alloc::{AllocError, Global};
 use zl_rights::Kind;
@@ -134,7 +133,7 @@ fn put_starts(out: &mut Vec<u8>, starts: &[Start]) -> Result<(), AllocError>
 /// How many bytes the image has.
 fn len_of(image: &Image) -> usize {
     let declarations = image.starts.len() + image.slots.len();
-    HEADER_LEN + DECLARATION_LEN * declarations + INSTR_LEN * image.code.len()
+    HEADER_LEN + DECLARATION_LEN * declarations + Instr::LEN * image.code.len()
 }
 
 /// The bytes of the image, as `decode` reads them. The error says that memory was refused.

@@ -8,8 +8,7 @@ ghost use Rattle.zl_code.specs.Spells.{are_registers, registers_at, number_at, a
 ghost use Rattle.zl_code.specs.Fields.{read_in};
 
 use crate::image::DecodeFault;
-use crate::instr::HandleList;
-use crate::instr_bytes::INSTR_LEN;
+use crate::instr::{HandleList, Instr};
 use crate::layout::{Ending, Row};
 use crate::register::Register;
 
@@ -40,7 +39,7 @@ fn register(number: u8) -> Result<Register, DecodeFault>
 }
 
 /// The fields of the 16 bytes.
-pub(crate) fn fields_of(bytes: [u8; INSTR_LEN]) -> Result<Fields, DecodeFault>
+pub(crate) fn fields_of(bytes: [u8; Instr::LEN]) -> Result<Fields, DecodeFault>
     ensures opcode { IfOk result (λ fields. fields.opcode ≡ slice_index bytes 0) }
     ensures registers { IfOk result (λ fields. (read_in fields).registers ≡ registers_at bytes) }
     ensures imm { IfOk result (λ fields. fields.imm ≡ number_at bytes 8 4) }

@@ -14,6 +14,11 @@ pub enum Instr {
     Unknown([u8; 16]),
 }
 
+impl Instr {
+    /// How many bytes spell an instruction (own profile).
+    pub const LEN: usize = 16;
+}
+
 /// An instruction that is done by its process alone. Registers have 64 bits, and addresses are added
 /// without wrapping.
 #[derive(Clone, Copy)]
@@ -319,8 +324,8 @@ impl HandleList {
     /// How many handles there are at most.
     pub const MOST: usize = 8;
 
-    /// The byte of a place without a register.
-    pub(crate) const NONE: u8 = 0xff;
+    /// The byte of a place without a register (own profile).
+    pub const NONE: u8 = 0xff;
 
     /// The register in this place, counted from 0; nothing behind the last one.
     pub fn get(&self, place: usize) -> Option<Register>

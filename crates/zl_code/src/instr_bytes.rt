@@ -6,11 +6,8 @@ ghost use Rattle.zl_code.specs.Spells.{bytes_of, seven, instr_bytes, local_bytes
 use crate::instr::{CallInstr, HandleList, Instr, LocalInstr};
 use crate::register::Register;
 
-/// How many bytes an instruction has.
-pub(crate) const INSTR_LEN: usize = 16;
-
 /// The bytes of an instruction, with 0 for each register that it doesn't use.
-fn with_registers(opcode: u8, registers: [u8; 7], imm: u32, target: u32) -> [u8; INSTR_LEN]
+fn with_registers(opcode: u8, registers: [u8; 7], imm: u32, target: u32) -> [u8; Instr::LEN]
     ensures { result ≡ opcode ∷ (registers ++ (bytes_of 4 imm ++ bytes_of 4 target)) }
 {
     let [a, b, c, d, e, f, g] = registers;
@@ -27,7 +24,7 @@ fn with_handles(
     c: Register,
     d: Register,
     handles: HandleList,
-) -> [u8; INSTR_LEN]
+) -> [u8; Instr::LEN]
     ensures { result ≡ opcode ∷ (seven (a ∷ b ∷ c ∷ d ∷ []) ++ handles.places) }
 {
     let [h0, h1, h2, h3, h4, h5, h6, h7] = handles.places;
@@ -52,28 +49,28 @@ fn with_handles(
 }
 
 /// The bytes of an instruction without registers.
-fn no_register(opcode: u8, target: u32) -> [u8; INSTR_LEN]
+fn no_register(opcode: u8, target: u32) -> [u8; Instr::LEN]
     ensures { result ≡ fields opcode [] 0 target }
 {
     with_registers(opcode, [0; 7], 0, target)
 }
 
 /// The bytes of an instruction with one register.
-fn one_register(opcode: u8, a: Register, imm: u32, target: u32) -> [u8; INSTR_LEN]
+fn one_register(opcode: u8, a: Register, imm: u32, target: u32) -> [u8; Instr::LEN]
     ensures { result ≡ fields opcode (a ∷ []) imm target }
 {
     with_registers(opcode, [a.number(), 0, 0, 0, 0, 0, 0], imm, target)
 }
 
 /// The bytes of an instruction with two registers.
-fn two_registers(opcode: u8, a: Register, b: Register, imm: u32) -> [u8; INSTR_LEN]
+fn two_registers(opcode: u8, a: Register, b: Register, imm: u32) -> [u8; Instr::LEN]
     ensures { result ≡ fields opcode (a ∷ b ∷ []) imm 0 }
 {
     with_registers(opcode, [a.number(), b.number(), 0, 0, 0, 0, 0], imm, 0)
 }
 
 /// The bytes of an instruction with three registers.
-fn three_registers(opcode: u8, a: Register, b: Register, c: Register, imm: u32) -> [u8; INSTR_LEN]
+fn three_registers(opcode: u8, a: Register, b: Register, c: Register, imm: u32) -> [u8; Instr::LEN]
     ensures { result ≡ fields opcode (a ∷ b ∷ c ∷ []) imm 0 }
 {
     with_registers(
@@ -85,7 +82,13 @@ fn three_registers(opcode: u8, a: Register, b: Register, c: Register, imm: u32) 
 }
 
 /// The bytes of an instruction with four registers.
-fn four_registers(opcode: u8, a: Register, b: Register, c: Register, d: Register) -> [u8; INSTR_LEN]
+fn four_registers(
+    opcode: u8,
+    a: Register,
+    b: Register,
+    c: Register,
+    d: Register,
+) -> [u8; Instr::LEN]
     ensures { result ≡ fields opcode (a ∷ b ∷ c ∷ d ∷ []) 0 0 }
 {
     with_registers(
@@ -104,7 +107,7 @@ fn five_registers(
     c: Register,
     d: Register,
     e: Register,
-) -> [u8; INSTR_LEN]
+) -> [u8; Instr::LEN]
     ensures { result ≡ fields opcode (a ∷ b ∷ c ∷ d ∷ e ∷ []) 0 0 }
 {
     with_registers(
@@ -132,7 +135,7 @@ fn six_registers(
     d: Register,
     e: Register,
     f: Register,
-) -> [u8; INSTR_LEN]
+) -> [u8; Instr::LEN]
     ensures { result ≡ fields opcode (a ∷ b ∷ c ∷ d ∷ e ∷ f ∷ []) 0 0 }
 {
     with_registers(
@@ -162,7 +165,7 @@ fn seven_registers(
     f: Register,
     g: Register,
     imm: u32,
-) -> [u8; INSTR_LEN]
+) -> [u8; Instr::LEN]
     ensures { result ≡ fields opcode (a ∷ b ∷ c ∷ d ∷ e ∷ f ∷ g ∷ []) imm 0 }
 {
     with_registers(
@@ -183,7 +186,7 @@ fn seven_registers(
 
 /// The 16 bytes of the instruction.
 #[tactic(auto, unfolding(crate::specs::Spells::local_parts))]
-fn local_bytes(local: LocalInstr) -> [u8; INSTR_LEN]
+fn local_bytes(local: LocalInstr) -> [u8; Instr::LEN]
     ensures { result ≡ local_bytes local }
 {
     match local {
@@ -302,7 +305,7 @@ fn local_bytes(local: LocalInstr) -> [u8; INSTR_LEN]
 
 /// The 16 bytes of the system call.
 #[tactic(auto, unfolding(crate::specs::Spells::call_parts))]
-fn call_bytes(call: CallInstr) -> [u8; INSTR_LEN]
+fn call_bytes(call: CallInstr) -> [u8; Instr::LEN]
     ensures { result ≡ call_bytes call }
 {
     match call {

@@ -10,7 +10,6 @@ ghost use Rattle.zl_code.specs.Fields.{read_in};
 use crate::fields::{Fields, fields_of, is_unused_zero, names_registers};
 use crate::image::DecodeFault;
 use crate::instr::{CallInstr, HandleList, Instr, LocalInstr};
-use crate::instr_bytes::INSTR_LEN;
 use crate::layout::Row;
 use std::alloc::Global;
 
@@ -328,7 +327,7 @@ fn known(fields: Fields) -> Instr
 }
 
 /// The instruction of 16 bytes with an unknown opcode, which only the raw mark allows.
-fn unknown(raw: bool, bytes: [u8; INSTR_LEN]) -> Result<Instr, DecodeFault>
+fn unknown(raw: bool, bytes: [u8; Instr::LEN]) -> Result<Instr, DecodeFault>
     requires { layout_of (slice_index bytes 0) ≡ None }
     ensures bytes { IfOk result (λ instr. instr_bytes instr ≡ bytes) }
     ensures in_range { IfOk result (λ instr. IsTrue (is_instr_in_range raw instr)) }
@@ -371,7 +370,7 @@ impl Instr {
 pub(crate) fn code_of(
     alloc: Global,
     raw: bool,
-    pieces: &[[u8; INSTR_LEN]],
+    pieces: &[[u8; Instr::LEN]],
 ) -> Result<Vec<Instr>, DecodeFault>
     ensures bytes { IfOk result (λ code. map instr_bytes code.items ≡ pieces.now) }
     ensures in_range { IfOk result (λ code. IsTrue (list_all (is_instr_in_range raw) code.items)) }

@@ -10,12 +10,12 @@ use crate::fault::AsmCause;
 use crate::numbers::{is_name, sixteen_bytes};
 use crate::operands::{misfit, source_of, split_operands};
 use crate::words::is;
-use zl_code::Row;
+use zl_code::{Instr, Row};
 
 /// An instruction: its 16 bytes, with the target 0 where a label names it.
 #[derive(Clone, Copy)]
 pub(crate) struct Source<'a> {
-    pub bytes: [u8; 16],
+    pub bytes: [u8; Instr::LEN],
     pub label: Option<&'a [u8]>,
 }
 

@@ -12,7 +12,7 @@ use crate::fault::AsmCause;
 use crate::line::Source;
 use crate::numbers::{is_name, number, register};
 use crate::words::is;
-use zl_code::{Ending, Row};
+use zl_code::{Ending, HandleList, Instr, Row};
 
 /// What stands behind the registers of an instruction: its last eight bytes, with the target 0
 /// where a label names it.
@@ -116,7 +116,7 @@ fn handles<'a>(words: &[&'a [u8]]) -> Result<Tail<'a>, AsmCause>
     if words.len() > 8 {
         return Err(AsmCause::Operand);
     }
-    let mut bytes = [0xff; 8];
+    let mut bytes = [HandleList::NONE; 8];
     put_registers(&mut bytes, words)?;
     Ok(Tail { bytes, label: None })
 }
@@ -137,7 +137,7 @@ fn tail_of<'a>(ending: Ending, operands: &[&'a [u8]]) -> Result<Tail<'a>, AsmCau
 }
 
 /// The 16 bytes of an instruction.
-fn instruction_bytes(opcode: u8, registers: [u8; 7], last: [u8; 8]) -> [u8; 16]
+fn instruction_bytes(opcode: u8, registers: [u8; 7], last: [u8; 8]) -> [u8; Instr::LEN]
     ensures { result ≡ opcode ∷ (registers ++ last) }
 {
     let [a, b, c, d, e, f, g] = registers;

@@ -12,7 +12,7 @@ use crate::line::Source;
 use zl_code::{Image, Instr};
 
 /// The bytes of an instruction with this target.
-fn with_target(bytes: [u8; 16], target: u32) -> [u8; 16]
+fn with_target(bytes: [u8; Instr::LEN], target: u32) -> [u8; Instr::LEN]
     ensures { result ≡ listing.with_target bytes target }
 {
     let [opcode, a, b, c, d, e, f, g, i0, i1, i2, i3, ..] = bytes;
@@ -22,7 +22,7 @@ fn with_target(bytes: [u8; 16], target: u32) -> [u8; 16]
 
 /// The bytes of the instruction, with the number for which its label stands; nothing where no label
 /// has the name.
-pub(crate) fn resolved(labels: &Labels, source: Source) -> Option<[u8; 16]>
+pub(crate) fn resolved(labels: &Labels, source: Source) -> Option<[u8; Instr::LEN]>
     ensures { result ≡ listing.resolved (labels_shown labels.now.entries) (source_value source.entry) }
 {
     match source.label {
@@ -36,7 +36,7 @@ pub(crate) fn resolved(labels: &Labels, source: Source) -> Option<[u8; 16]>
 
 /// Adds the instruction of these bytes behind the others, of which there are fewer than 4,096.
 /// `Operand` where a field is out of its range.
-pub(crate) fn push_bytes(image: &mut Image, bytes: [u8; 16]) -> Result<(), AsmCause>
+pub(crate) fn push_bytes(image: &mut Image, bytes: [u8; Instr::LEN]) -> Result<(), AsmCause>
     requires { length image.old.code < 4096 }
     ensures pushed { OnOk result (Pushes image.old bytes image.new) }
     ensures refused { IfErr result (λ cause. (cause ≡ NoMemory) ⊎ (is_some (instr_fault image.old.raw bytes) ≡ true)) }

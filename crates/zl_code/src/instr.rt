@@ -11,7 +11,7 @@ pub enum Instr {
     /// A system call.
     Call(CallInstr),
     /// An unknown opcode with its 16 bytes; only an image with the raw mark has it.
-    Unknown([u8; 16]),
+    Unknown([u8; Instr::LEN]),
 }
 
 impl Instr {

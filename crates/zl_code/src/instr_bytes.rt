@@ -434,7 +434,7 @@ fn call_bytes(call: CallInstr) -> [u8; Instr::LEN]
 
 impl Instr {
     /// The 16 bytes that spell the instruction, as an image has them. The layout is own profile.
-    pub fn to_bytes(self) -> [u8; 16]
+    pub fn to_bytes(self) -> [u8; Instr::LEN]
         ensures { result ≡ instr_bytes self }
     {
         match self {

@@ -345,7 +345,7 @@ impl Instr {
     ///
     /// The first fault in this order: `UnknownOp` of an unknown opcode, never under the raw mark;
     /// `BadRegister`; `UnusedField`. The layout is own profile.
-    pub fn from_bytes(raw: bool, bytes: [u8; 16]) -> Result<Instr, DecodeFault>
+    pub fn from_bytes(raw: bool, bytes: [u8; Instr::LEN]) -> Result<Instr, DecodeFault>
         ensures bytes { IfOk result (λ instr. instr_bytes instr ≡ bytes) }
         ensures in_range { IfOk result (λ instr. IsTrue (is_instr_in_range raw instr)) }
         ensures fault { MatchResult result (λ _. instr_fault raw bytes ≡ None) (λ fault. instr_fault raw bytes ≡ Some fault) }

@@ -29,16 +29,19 @@ those test [] rs = []
 those test (f ∷ fs) [] = []
 those test (f ∷ fs) (r ∷ rs) = if test f then r ∷ those test fs rs else those test fs rs
 
+-- the call reads the register
 abbrev pub is_read : Field → Bool
 is_read writes = false
 is_read triples = false
 is_read _ = true
 
+-- the call writes the register
 abbrev pub is_written : Field → Bool
 is_written writes = true
 is_written changes = true
 is_written _ = false
 
+-- the register holds a handle that is gone on every answer
 abbrev pub is_consumed : Field → Bool
 is_consumed (consumes kinds rights) = true
 is_consumed _ = false
@@ -54,11 +57,13 @@ triples_from r (suc n) = r ∷ (r + 1) ∷ (r + 2) ∷ triples_from (r + 3) n
 abbrev pub used : List ℕ → List ℕ
 used places = filter (λ b. nat_lt b 32) places
 
+-- the number in the instruction; 0 where handles stand in its place
 abbrev pub number_in : Last → ℕ
 number_in (Numbers imm target) = imm
 number_in (Room handles) = handles
 number_in (Places places) = 0
 
+-- the registers of the handles that a message is to have
 abbrev pub listed_in : Last → List ℕ
 listed_in (Places places) = used places
 listed_in _ = []
@@ -73,12 +78,14 @@ abbrev pub has_its_memory : Last → List ℕ → Cpu → Bool
 has_its_memory (Numbers imm target) rs c = true
 has_its_memory _ rs c = is_in_memory c (reg c (slice_index rs 2)) (reg c (slice_index rs 3))
 
+-- the bytes that a message is to have, out of the memory
 abbrev pub bytes_in : Last → List ℕ → Cpu → List ℕ
 bytes_in (Places places) rs c = take (reg c (slice_index rs 3)) (drop (reg c (slice_index rs 2)) c.memory)
 bytes_in _ rs c = []
 
 -- ---- by the row
 
+-- what a call of the row asks for
 abbrev pub asked_by : Row → Parts → Cpu → Asked
 asked_by r p c = record {
   operands = map (reg c) (those is_read r.fields p.registers);
@@ -89,10 +96,12 @@ asked_by r p c = record {
   destinations = those is_written r.fields p.registers ++ triples_in p.last p.registers;
 }
 
+-- what is asked for, where the test passes
 abbrev pub asked_if : Bool → Asked → Option Asked
 asked_if true a = Some a
 asked_if false a = None
 
+-- what a call asks for that may have no row
 abbrev pub asked_in : Option Row → Parts → Cpu → Option Asked
 asked_in None p c = None
 asked_in (Some r) p c = asked_if (has_its_memory p.last p.registers c) (asked_by r p c)

@@ -39,6 +39,7 @@ started_process lib program word = record {
 
 -- ---- one statement
 
+-- this cause, where the test passes
 abbrev pub cause_if : Bool → BootCause → Option BootCause
 cause_if true c = Some c
 cause_if false c = None
@@ -49,10 +50,12 @@ first_cause [] = None
 first_cause (None ∷ rest) = first_cause rest
 first_cause (Some c ∷ rest) = Some c
 
+-- the object is a job
 abbrev pub is_job_body : Option Body → Bool
 is_job_body (Some (JobBody parent depth policy killed)) = true
 is_job_body _ = false
 
+-- the koid is that of a job
 abbrev pub is_job : World → ℕ → Bool
 is_job w k = is_job_body (body_of w k)
 

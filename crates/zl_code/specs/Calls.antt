@@ -54,6 +54,7 @@ pub data Choice : Type 0 where
   WantsMemory : Choice
   Values : (vs : List ℕ) → Choice
 
+-- how the call ends by a choice; a refusal leaves no other, and only a call that grows may want memory
 abbrev pub CallBy : Library → World → ℕ → Site → Choice → Option Outcome → Outcome → World → Type 0
 CallBy lib w p s Refused (Some o) answer w2 = (answer ≡ o) × (w2 ≡ after_refusal w p s o)
 CallBy lib w p s WantsMemory None answer w2 =

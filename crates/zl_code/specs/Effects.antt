@@ -51,6 +51,7 @@ with_object w b = record w {
   next_koid = w.next_koid + 1;
 }
 
+-- a process that lives ends with the code and closes its handles; one that has ended stays
 abbrev pub process_ended : ℤ → Process → Process
 process_ended code q = if lives q.state then record q { state = Ended code; handles = []; last = None } else q
 
@@ -76,6 +77,7 @@ new_handles w p _ = []
 
 -- ---- the free choice of values
 
+-- v is the value that was removed last; or, where none is kept, any of 16 bits but 0 that no handle has
 abbrev pub may_get_after : Option ℕ → Process → ℕ → Bool
 may_get_after (Some last) q v = v == last
 may_get_after None q v = nat_lt 0 v && (nat_lt v 65536 && not (has_key q.handles v))
@@ -84,12 +86,14 @@ may_get_after None q v = nat_lt 0 v && (nat_lt v 65536 && not (has_key q.handles
 abbrev pub may_get : Process → ℕ → Bool
 may_get q v = may_get_after q.last q v
 
+-- the new handles may get these values one after another, each beside those before it
 abbrev pub may_get_all : Process → List Entry → List ℕ → Bool
 may_get_all q [] [] = true
 may_get_all q [] (v ∷ vs) = false
 may_get_all q (e ∷ es) [] = false
 may_get_all q (e ∷ es) (v ∷ vs) = may_get q v && may_get_all (process_with v e q) es vs
 
+-- the process is there, and its new handles may get these values
 abbrev pub gets_all : Option Process → List Entry → List ℕ → Bool
 gets_all None es vs = false
 gets_all (Some q) es vs = may_get_all q es vs
@@ -100,6 +104,7 @@ may_choose w taken p request vs = gets_all (get taken.processes p) (new_handles 
 
 -- ---- the effect
 
+-- the object after some of its signals were cleared, and then some raised
 abbrev pub object_changed : ℕ → ℕ → Object → Object
 object_changed clear set o = record o { raised = changed o.raised clear set }
 

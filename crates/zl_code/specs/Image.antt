@@ -12,6 +12,7 @@ use Rattle.zl_code.specs.declared.instr.Instr.TheVariants as instr
 use Rattle.zl_code.specs.declared.instr.LocalInstr.{LocalInstr}
 use Rattle.zl_code.specs.declared.instr.CallInstr.{CallInstr}
 
+-- a program as it is loaded: its instructions, and what it declares
 pub record Image : Type 0 where
   -- unknown opcodes may stand
   pub raw : Bool
@@ -25,6 +26,7 @@ pub record Image : Type 0 where
   pub slots : List SlotArray
   pub code : List Instr
 
+-- an image that processes can run, as a checked program or not
 pub record Program : Type 0 where
   pub checked : Bool
   pub image : Image
@@ -45,6 +47,7 @@ can_be_needed = condition.NewChannel ∷ condition.NewEvent ∷ condition.NewPor
 abbrev pub needs_named : List Condition → List Condition
 needs_named named = filter (λ c. is_among named c) can_be_needed
 
+-- one need more in front, where its flag is set
 abbrev pub need_if : Bool → Condition → List Condition → List Condition
 need_if true c rest = c ∷ rest
 need_if false c rest = rest
@@ -54,20 +57,24 @@ abbrev pub needs_value : Needs → List Condition
 needs_value n =
     need_if n.channel condition.NewChannel (need_if n.event condition.NewEvent (need_if n.port condition.NewPort (need_if n.process condition.NewProcess [])))
 
--- the n-th instruction, and the same if it is a local one or a call
+-- the n-th instruction, counted from 0
 abbrev pub instr_at : Image → ℕ → Option Instr
 instr_at i n = slice_get i.code n
 
+-- the instruction, if it is a local one
 abbrev pub local_in : Option Instr → Option LocalInstr
 local_in (Some (instr.Local i)) = Some i
 local_in _ = None
 
+-- the n-th instruction, if it is a local one
 abbrev pub local_at : Image → ℕ → Option LocalInstr
 local_at i n = local_in (instr_at i n)
 
+-- the instruction, if it is a system call
 abbrev pub call_in : Option Instr → Option CallInstr
 call_in (Some (instr.Call i)) = Some i
 call_in _ = None
 
+-- the n-th instruction, if it is a system call
 abbrev pub call_at : Image → ℕ → Option CallInstr
 call_at i n = call_in (instr_at i n)

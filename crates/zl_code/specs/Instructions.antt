@@ -27,6 +27,7 @@ pub data Field : Type 0 where
   -- it is the first of three registers for each handle that is read
   triples : Field
 
+-- a row of the table: an opcode, its name, what it does with its registers, and how its bytes end
 pub record Row : Type 0 where
   pub opcode : ℕ
   -- as the text of a program has it
@@ -38,9 +39,11 @@ pub record Row : Type 0 where
   -- the condition of making an object, which a policy may deny
   pub condition : Option Condition
 
+-- handles of any kind will do
 abbrev any : List Kind
 any = []
 
+-- handles of this kind alone will do
 abbrev only : Kind → List Kind
 only k = k ∷ []
 
@@ -52,6 +55,7 @@ row opcode name fields ending = record { opcode = opcode; name = name; fields = 
 abbrev pub making : ℕ → List ℕ → List Field → Condition → Row
 making opcode name fields condition = record { opcode = opcode; name = name; fields = fields; ending = ending.Nothing; condition = Some condition }
 
+-- all instructions by their opcodes: from 1 on what a process does alone, from 64 on the system calls
 abbrev pub rows : List Row
 rows =
     row 1 (codes "const") (writes ∷ []) ending.Number
@@ -104,6 +108,7 @@ rows =
     ∷ row 86 (codes "job_set_policy") (writes ∷ names (only kind.Job) SET_POLICY ∷ reads ∷ reads ∷ reads ∷ []) ending.Nothing
     ∷ []
 
+-- the first of these rows that has the opcode
 abbrev pub row_among : List Row → ℕ → Option Row
 row_among [] opcode = None
 row_among (r ∷ rs) opcode = if r.opcode == opcode then Some r else row_among rs opcode
@@ -121,8 +126,10 @@ pub record Layout : Type 0 where
   pub registers : ℕ
   pub ending : Ending
 
+-- a layout by its two parts
 abbrev pub layout : ℕ → Ending → Layout
 layout registers ending = record { registers = registers; ending = ending }
 
+-- the layout of the opcode, if it is known
 abbrev pub layout_of : ℕ → Option Layout
 layout_of opcode = option_map (λ r. layout (length r.fields) r.ending) (row_of opcode)

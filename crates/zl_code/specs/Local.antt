@@ -51,6 +51,7 @@ swaps_in c a place array (Some slots) =
     then Some (record (sets c a (slice_index slots place)) { slots = slice_set c.slots array (slice_set slots place (reg c a)) })
     else None
 
+-- the same by the number of the slot array
 abbrev pub swaps : Cpu → ℕ → ℕ → ℕ → Option Cpu
 swaps c a place array = swaps_in c a place array (slice_get c.slots array)
 

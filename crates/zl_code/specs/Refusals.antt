@@ -14,12 +14,15 @@ use Rattle.zl_code.specs.Tests.{first, answer_if, entry_at, object_at, body_of, 
 
 -- ---- handle operands and rights
 
+-- a handle that the call uses and leaves in the table
 abbrev pub needs : ℕ → List Kind → ℕ → Operand
 needs h kinds rights = record { value = h; kinds = kinds; needed = rights; is_taken = false; may_be_zero = false }
 
+-- a handle that leaves the table, however the call is answered
 abbrev pub taking : ℕ → List Kind → ℕ → Operand
 taking h kinds rights = record { value = h; kinds = kinds; needed = rights; is_taken = true; may_be_zero = false }
 
+-- the handle operands of each call, from left to right, with the kinds and the rights that it asks of them
 unfoldable pub handle_operands : Request → List Operand
 handle_operands (close h) = record (taking h any 0) { may_be_zero = true } ∷ []
 handle_operands (dup h rights) = needs h any DUPLICATE ∷ []
@@ -29,6 +32,7 @@ handle_operands (process_exit code) = []
 
 -- ---- the policy condition
 
+-- the policy condition that the call falls under, if it makes an object
 abbrev pub condition_of : Request → Option Condition
 condition_of event_create = Some condition.NewEvent
 condition_of _ = None

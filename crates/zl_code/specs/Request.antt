@@ -23,6 +23,7 @@ pub record Site : Type 0 where
   -- the registers of the answer, the status first
   pub destinations : List ℕ
 
+-- a call with its registers
 abbrev pub site : Request → List ℕ → List ℕ → Site
 site request consumed destinations = record { request = request; consumed = consumed; destinations = destinations }
 

@@ -42,15 +42,18 @@ pub data Last : Type 0 where
   Room : (handles : ℕ) → Last
   Places : (places : List ℕ) → Last
 
+-- what the 16 bytes of an instruction are made of
 pub record Parts : Type 0 where
   pub opcode : ℕ
   -- the registers that are used, from the first on
   pub registers : List ℕ
   pub last : Last
 
+-- an instruction that ends with a number and a target
 abbrev pub parts : ℕ → List ℕ → ℕ → ℕ → Parts
 parts opcode registers imm target = record { opcode = opcode; registers = registers; last = Numbers imm target }
 
+-- the parts of each local instruction, in the order of the table; what it has no use for is 0
 unfoldable pub local_parts : LocalInstr → Parts
 local_parts (local.Const a imm) = parts 1 (a ∷ []) imm 0
 local_parts (local.Move a b) = parts 2 (a ∷ b ∷ []) 0 0
@@ -78,6 +81,7 @@ local_parts (local.JumpNotBelow a imm target) = parts 23 (a ∷ []) imm target
 local_parts (local.JumpHas a imm target) = parts 24 (a ∷ []) imm target
 local_parts (local.JumpHasNot a imm target) = parts 25 (a ∷ []) imm target
 
+-- the parts of each system call, in the order of the table
 unfoldable pub call_parts : CallInstr → Parts
 call_parts (call.Close a b) = parts 64 (a ∷ b ∷ []) 0 0
 call_parts (call.Dup a b c imm) = parts 65 (a ∷ b ∷ c ∷ []) imm 0
@@ -113,17 +117,21 @@ seven registers = take 7 (registers ++ replicate 7 0)
 abbrev pub fields : ℕ → List ℕ → ℕ → ℕ → List ℕ
 fields opcode registers imm target = opcode ∷ (seven registers ++ (bytes_of 4 imm ++ bytes_of 4 target))
 
+-- the last eight bytes of an instruction
 abbrev pub last_bytes : Last → List ℕ
 last_bytes (Numbers imm target) = bytes_of 4 imm ++ bytes_of 4 target
 last_bytes (Room handles) = bytes_of 4 handles ++ bytes_of 4 0
 last_bytes (Places places) = places
 
+-- the 16 bytes of an instruction with these parts
 abbrev pub parts_bytes : Parts → List ℕ
 parts_bytes p = p.opcode ∷ (seven p.registers ++ last_bytes p.last)
 
+-- the 16 bytes of a local instruction
 abbrev pub local_bytes : LocalInstr → List ℕ
 local_bytes i = parts_bytes (local_parts i)
 
+-- the 16 bytes of a system call
 abbrev pub call_bytes : CallInstr → List ℕ
 call_bytes i = parts_bytes (call_parts i)
 
@@ -135,9 +143,11 @@ instr_bytes (instr.Unknown bytes) = bytes
 
 -- ---- the ranges of an instruction
 
+-- each names one of the 32 registers
 abbrev pub are_registers : List ℕ → Bool
 are_registers rs = list_all (λ r. nat_lt r 32) rs
 
+-- the number has 32 bits at most
 abbrev pub is_word : ℕ → Bool
 is_word n = nat_lt n 4294967296
 
@@ -159,17 +169,21 @@ abbrev pub register_in : Option ℕ → Option ℕ
 register_in None = None
 register_in (Some b) = if nat_lt b 32 then Some b else None
 
+-- the last eight bytes have room for what stands there, and each register that they name is one
 abbrev pub is_last_in_range : List ℕ → Last → Bool
 is_last_in_range registers (Numbers imm target) = is_word imm && is_word target
 is_last_in_range registers (Room handles) = is_room (slice_index registers 6) handles
 is_last_in_range registers (Places places) = (length places == 8) && (are_places places && is_packed places)
 
+-- an instruction with these parts can stand in an image
 abbrev pub are_parts_in_range : Parts → Bool
 are_parts_in_range p = is_last_in_range p.registers p.last && are_registers p.registers
 
+-- the local instruction can stand in an image
 abbrev pub is_local_in_range : LocalInstr → Bool
 is_local_in_range i = are_parts_in_range (local_parts i)
 
+-- the system call can stand in an image
 abbrev pub is_call_in_range : CallInstr → Bool
 is_call_in_range i = are_parts_in_range (call_parts i)
 
@@ -182,6 +196,7 @@ is_instr_in_range raw (instr.Unknown bytes) =
 
 -- ---- declarations
 
+-- a declared kind as a byte, 0 for any kind
 abbrev pub kind_byte : Option Kind → ℕ
 kind_byte None = 0
 kind_byte (Some k) = kind_number k
@@ -199,15 +214,19 @@ start_bytes s = kind_byte s.kind ∷ 0 ∷ 0 ∷ 0 ∷ bytes_of 4 (bits s.rights
 abbrev pub slot_bytes : SlotArray → List ℕ
 slot_bytes s = kind_byte s.kind ∷ 0 ∷ (bytes_of 2 s.length ++ bytes_of 4 (bits s.rights))
 
+-- an image can declare the start handle: with rights that its kind allows
 abbrev pub is_start_in_range : Start → Bool
 is_start_in_range s = within (bits s.rights) (rights_allowed s.kind)
 
+-- an image can declare the slot array: 1 to 256 places, and rights that its kind allows
 abbrev pub is_slot_in_range : SlotArray → Bool
 is_slot_in_range s = nat_lt 0 s.length && (nat_le s.length 256 && within (bits s.rights) (rights_allowed s.kind))
 
+-- the bit of a need that the image has, else 0
 abbrev pub bit_if : List Condition → Condition → ℕ → ℕ
 bit_if needs c bit = if is_among needs c then bit else 0
 
+-- the needs as a byte: bit 0 for channels, 1 for events, 3 for ports, 4 for processes
 abbrev pub needs_byte : List Condition → ℕ
 needs_byte needs =
     bit_if needs condition.NewChannel 1 + (bit_if needs condition.NewEvent 2 + (bit_if needs condition.NewPort 8 + bit_if needs condition.NewProcess 16))
@@ -262,6 +281,7 @@ pub record Spells (bytes : List ℕ) (i : Image) : Type 0 where
 
 -- ---- the first fault of bytes
 
+-- this fault, where the test passes
 abbrev pub fault_if : Bool → DecodeFault → Option DecodeFault
 fault_if true f = Some f
 fault_if false f = None
@@ -276,13 +296,15 @@ first_of (Some f ∷ rest) = Some f
 abbrev pub number_at : List ℕ → ℕ → ℕ → ℕ
 number_at bytes offset n = number_of (take n (drop offset bytes))
 
--- how many instructions, start handles and slot arrays the header says that there are
+-- how many instructions the header says that there are
 abbrev pub count_at : List ℕ → ℕ
 count_at bytes = number_at bytes 6 2
 
+-- how many start handles the header says that there are
 abbrev pub starts_at : List ℕ → ℕ
 starts_at bytes = slice_index bytes 17
 
+-- how many slot arrays the header says that there are
 abbrev pub slots_at : List ℕ → ℕ
 slots_at bytes = slice_index bytes 18
 
@@ -323,6 +345,7 @@ header_fault bytes = first_of (
 
 -- ---- the fault of a declaration
 
+-- the first of these kinds that has the number
 abbrev pub kind_among : List Kind → ℕ → Option Kind
 kind_among [] n = None
 kind_among (k ∷ ks) n = if kind_number k == n then Some k else kind_among ks n
@@ -331,6 +354,7 @@ kind_among (k ∷ ks) n = if kind_number k == n then Some k else kind_among ks n
 abbrev pub kind_at : ℕ → Option (Option Kind)
 kind_at b = if b == 0 then Some None else option_map Some (kind_among (kind.Process ∷ kind.Channel ∷ kind.Event ∷ kind.Port ∷ kind.Job ∷ []) b)
 
+-- the byte is that of a kind, or of any, with which an image can declare the rights
 abbrev pub allows : Option (Option Kind) → ℕ → Bool
 allows None rights = false
 allows (Some k) rights = within rights (rights_allowed k)
@@ -364,6 +388,7 @@ pub record Reading : Type 0 where
   pub target : ℕ
   pub places : List ℕ
 
+-- the fields of the 16 bytes, whichever of them the instruction uses
 abbrev pub reading_of : List ℕ → Reading
 reading_of bytes = record { registers = registers_at bytes; imm = number_at bytes 8 4; target = number_at bytes 12 4; places = drop 8 bytes }
 
@@ -386,6 +411,7 @@ is_ending_clear ending.Handles r = is_packed r.places
 abbrev pub is_unused_zero : Layout → Reading → Bool
 is_unused_zero l r = list_all (λ b. b == 0) (drop l.registers r.registers) && is_ending_clear l.ending r
 
+-- the fault of an instruction by the layout of its opcode; only the raw mark lets pass one that has none
 abbrev pub fault_by : Bool → Reading → Option Layout → Option DecodeFault
 fault_by raw r None = fault_if (not raw) fault.UnknownOp
 fault_by raw r (Some l) = first_of (
@@ -397,7 +423,7 @@ fault_by raw r (Some l) = first_of (
 unfoldable pub instr_fault : Bool → List ℕ → Option DecodeFault
 instr_fault raw bytes = fault_by raw (reading_of bytes) (layout_of (slice_index bytes 0))
 
--- the bytes of an instruction of the layout, with 0 for what it doesn't use
+-- the last eight bytes by their ending, with 0 for what it doesn't use
 abbrev pub ending_bytes : Ending → Reading → List ℕ
 ending_bytes ending.Nothing r = bytes_of 4 0 ++ bytes_of 4 0
 ending_bytes ending.Number r = bytes_of 4 r.imm ++ bytes_of 4 0
@@ -406,6 +432,7 @@ ending_bytes ending.Target r = bytes_of 4 0 ++ bytes_of 4 r.target
 ending_bytes ending.Both r = bytes_of 4 r.imm ++ bytes_of 4 r.target
 ending_bytes ending.Handles r = r.places
 
+-- the 16 bytes of an instruction of the layout, with 0 for what it doesn't use
 abbrev pub row_bytes : ℕ → Layout → Reading → List ℕ
 row_bytes opcode l r = opcode ∷ (seven (take l.registers r.registers) ++ ending_bytes l.ending r)
 
@@ -416,12 +443,15 @@ unfoldable pub pieces : ℕ → ℕ → List ℕ → List (List ℕ)
 pieces size zero bytes = []
 pieces size (suc n) bytes = take size bytes ∷ pieces size n (drop size bytes)
 
+-- the bytes of each start handle
 abbrev pub start_pieces : List ℕ → List (List ℕ)
 start_pieces bytes = pieces 8 (starts_at bytes) (drop 20 bytes)
 
+-- the bytes of each slot array
 abbrev pub slot_pieces : List ℕ → List (List ℕ)
 slot_pieces bytes = pieces 8 (slots_at bytes) (drop (20 + 8 * starts_at bytes) bytes)
 
+-- the bytes of each instruction
 abbrev pub code_pieces : List ℕ → List (List ℕ)
 code_pieces bytes = pieces 16 (count_at bytes) (drop (20 + 8 * starts_at bytes + 8 * slots_at bytes) bytes)
 

@@ -20,16 +20,19 @@ use Rattle.zl_code.specs.Calls.{Calls}
 
 -- ---- what stands next
 
+-- what a process does next: go on by itself, make a system call, or nothing, as it is stuck
 pub data Next : Type 0 where
   -- a local instruction, which leads to this Cpu
   Moves : (to : Cpu) → Next
   AtCall : (call : CallName) (site : Site) → Next
   IsStuck : Next
 
+-- a local instruction without an effect leaves its process stuck
 abbrev pub moves : Option Cpu → Next
 moves None = IsStuck
 moves (Some c) = Moves c
 
+-- so does a call whose operands can't be read
 abbrev pub calls_at : CallName → Option Site → Next
 calls_at call None = IsStuck
 calls_at call (Some s) = AtCall call s
@@ -45,6 +48,7 @@ next_of (Some (instr.Unknown bytes)) c = IsStuck
 unfoldable pub next_at : Image → Cpu → Next
 next_at i c = next_of (instr_at i c.counter) c
 
+-- what the Cpu does next in a program of the library, or in none
 abbrev pub next_in : Option Program → Cpu → Next
 next_in None c = IsStuck
 next_in (Some g) c = next_at g.image c
@@ -74,6 +78,7 @@ pub record Step (lib : Library) (w : World) (p : ℕ) (x : TraceItem) (w2 : Worl
 
 -- ---- runs and histories
 
+-- the process that the item tells of
 abbrev pub pid_of : TraceItem → ℕ
 pid_of (item.Run pid count) = pid
 pid_of (item.Call pid call outcome) = pid
@@ -89,6 +94,7 @@ abbrev pub single : TraceItem → List TraceItem
 single (item.Run pid count) = replicate count (item.Run pid 1)
 single x = x ∷ []
 
+-- no item stands for zero local instructions
 abbrev pub has_count : TraceItem → Bool
 has_count (item.Run pid count) = nat_lt 0 count
 has_count _ = true

@@ -31,6 +31,7 @@ answer_if false s = None
 
 -- ---- what the world has
 
+-- the handle table of a process; an empty one where there is no process
 abbrev pub handles_in : Option Process → Map Entry
 handles_in None = []
 handles_in (Some p) = p.handles
@@ -43,6 +44,7 @@ table_of w p = handles_in (get w.processes p)
 abbrev pub entry_at : World → ℕ → ℕ → Option Entry
 entry_at w p h = get (table_of w p) h
 
+-- the koid of the object that a handle names; 0, which no object has, where there is no handle
 abbrev pub koid_in : Option Entry → ℕ
 koid_in None = 0
 koid_in (Some e) = e.koid
@@ -51,13 +53,16 @@ koid_in (Some e) = e.koid
 abbrev pub object_at : World → ℕ → ℕ → ℕ
 object_at w p h = koid_in (entry_at w p h)
 
+-- what the object is, if there is one
 abbrev pub body_in : Option Object → Option Body
 body_in None = None
 body_in (Some o) = Some o.body
 
+-- what the object k is, if it is there
 abbrev pub body_of : World → ℕ → Option Body
 body_of w k = body_in (get w.objects k)
 
+-- the job above a job or a process; 0 where there is none
 abbrev pub parent_in : Option Body → ℕ
 parent_in (Some (JobBody parent depth policy killed)) = parent
 parent_in (Some (ProcessBody job)) = job
@@ -67,6 +72,7 @@ parent_in _ = 0
 abbrev pub parent_of : World → ℕ → ℕ
 parent_of w k = parent_in (body_of w k)
 
+-- the actions that a job has set; nothing but a job has any
 abbrev pub policy_in : Option Body → Map Action
 policy_in (Some (JobBody parent depth policy killed)) = policy
 policy_in _ = []
@@ -77,6 +83,7 @@ action_of w job c = unwrap_or (get (policy_in (body_of w job)) (condition_number
 
 -- ---- policy
 
+-- the answer, unless the action kills the caller for it
 abbrev pub ends_if_kill : Action → Outcome → Outcome
 ends_if_kill action.Kill o = outcome.Ended BY_POLICY
 ends_if_kill _ o = o
@@ -85,6 +92,7 @@ ends_if_kill _ o = o
 abbrev pub faults : World → ℕ → Condition → Status → Option Outcome
 faults w p c s = Some (ends_if_kill (action_of w (parent_of w p) c) (outcome.Answered s))
 
+-- how the action keeps a caller from making an object, if it does
 abbrev pub unless_allowed : Action → Option Outcome
 unless_allowed action.Allow = None
 unless_allowed action.Deny = Some (outcome.Answered status.AccessDenied)
@@ -94,6 +102,7 @@ unless_allowed action.Kill = Some (outcome.Ended BY_POLICY)
 unfoldable pub creates : World → ℕ → Condition → Option Outcome
 creates w p c = unless_allowed (action_of w (parent_of w p) c)
 
+-- the same of a call; one that makes no object asks no policy
 abbrev pub by_policy : World → ℕ → Option Condition → Option Outcome
 by_policy w p None = None
 by_policy w p (Some c) = creates w p c
@@ -111,13 +120,16 @@ pub record Operand : Type 0 where
   -- 0 passes, and names nothing
   pub may_be_zero : Bool
 
+-- handles of any kind will do
 abbrev pub any : List Kind
 any = []
 
+-- a handle of this kind will do; no kinds stand for any
 abbrev pub takes : List Kind → Kind → Bool
 takes [] k = true
 takes (x ∷ xs) k = list_any (same_kind k) (x ∷ xs)
 
+-- the fault of a handle operand: no handle comes first, then the wrong kind, then a right that is missing
 abbrev pub operand_of : World → ℕ → List Kind → ℕ → Option Entry → Option Outcome
 operand_of w p kinds needed None = faults w p condition.BadHandle status.BadHandle
 operand_of w p kinds needed (Some e) =
@@ -128,15 +140,18 @@ operand_of w p kinds needed (Some e) =
 unfoldable pub operand : World → ℕ → List Kind → ℕ → ℕ → Option Outcome
 operand w p kinds needed h = operand_of w p kinds needed (entry_at w p h)
 
+-- the value is one of these
 abbrev pub contains : List ℕ → ℕ → Bool
 contains xs x = list_any (λ y. y == x) xs
 
+-- the fault of an operand, where the call has taken the values that were seen
 abbrev pub operand_after : World → ℕ → List ℕ → Operand → Option Outcome
 operand_after w p seen o =
     if o.may_be_zero && (o.value == 0) then None
     else (if o.is_taken && contains seen o.value then faults w p condition.BadHandle status.BadHandle
     else operand w p o.kinds o.needed o.value)
 
+-- the values taken so far, and this one if it is taken too
 abbrev pub seen_after : List ℕ → Operand → List ℕ
 seen_after seen o = if o.is_taken then o.value ∷ seen else seen
 
@@ -155,6 +170,7 @@ has_room w p n = nat_le (length (table_of w p) + n) 1024
 unfoldable pub has_koids : World → ℕ → Bool
 has_koids w n = nat_le (w.next_koid + n) (2 ^ 62)
 
+-- how many handles in the messages that wait at a channel end name the object k
 abbrev pub queued_to : ℕ → Body → ℕ
 queued_to k (ChannelEnd peer queue) = sum_by (λ m. count_by (λ h. h.koid == k) m.handles) queue
 queued_to k _ = 0
@@ -167,6 +183,7 @@ handles_to w k =
 
 -- ---- rights
 
+-- a handle to the same object with the rights that were granted, or none
 abbrev pub with_rights : Entry → Option Rights → List Entry
 with_rights e None = []
 with_rights e (Some rights) = record e { rights = rights } ∷ []

@@ -16,6 +16,7 @@ use Rattle.zl_asm.specs.Denotes.{Denotes}
 
 -- ---- words
 
+-- a register, as `r7`
 abbrev pub register_text : ℕ → List ℕ
 register_text r = codes "r" ++ decimal r
 
@@ -27,6 +28,7 @@ label_text n = codes "l" ++ decimal n
 abbrev pub target_text : ℕ → ℕ → List ℕ
 target_text count n = if nat_lt n count then label_text n else decimal n
 
+-- a kind by its name, and `any` for none in particular
 abbrev pub kind_text : Option Kind → List ℕ
 kind_text None = codes "any"
 kind_text (Some k) = kind_name k
@@ -65,6 +67,7 @@ tail_texts count ending.Target r = target_text count r.target ∷ []
 tail_texts count ending.Both r = decimal r.imm ∷ target_text count r.target ∷ []
 tail_texts count ending.Handles r = map register_text (filter (λ place. not (place == 255)) r.places)
 
+-- all operands of an instruction of the row, its registers first
 abbrev pub operand_texts : ℕ → Row → Reading → List (List ℕ)
 operand_texts count row r = map register_text (take (length row.fields) r.registers) ++ tail_texts count row.ending r
 
@@ -72,6 +75,7 @@ operand_texts count row r = map register_text (take (length row.fields) r.regist
 abbrev pub hex_digit : ℕ → ℕ
 hex_digit n = if nat_lt n 10 then 48 + n else 87 + n
 
+-- each byte as two hexadecimal digits
 abbrev pub hex_text : List ℕ → List ℕ
 hex_text bytes = flat_map (λ byte. hex_digit (byte / 16) ∷ hex_digit (byte % 16) ∷ []) bytes
 
@@ -80,9 +84,11 @@ abbrev pub row_text : ℕ → List ℕ → Option Row → List ℕ
 row_text count bytes (Some row) = row.name ++ (codes " " ++ joined (codes ", ") (operand_texts count row (reading_of bytes)))
 row_text count bytes None = codes ".bytes " ++ hex_text bytes
 
+-- the instruction of these bytes, in a program of so many
 abbrev pub instr_text : ℕ → List ℕ → List ℕ
 instr_text count bytes = row_text count bytes (row_of (slice_index bytes 0))
 
+-- an instruction of the row has a target
 abbrev pub aims : Option Row → Bool
 aims None = false
 aims (Some row) = elim row.ending as (λ _. Bool) [ ending.Target ↦ true | ending.Both ↦ true | _ ↦ false ]
@@ -91,9 +97,11 @@ aims (Some row) = elim row.ending as (λ _. Bool) [ ending.Target ↦ true | end
 abbrev pub aims_at : ℕ → List ℕ → Bool
 aims_at n bytes = aims (row_of (slice_index bytes 0)) && ((reading_of bytes).target == n)
 
+-- a target names instruction n
 abbrev pub is_target : List (List ℕ) → ℕ → Bool
 is_target code n = list_any (aims_at n) code
 
+-- the label before instruction n, on a line of its own, where a target names it
 abbrev pub label_lines : List (List ℕ) → ℕ → List (List ℕ)
 label_lines code n = if is_target code n then (label_text n ++ codes ":") ∷ [] else []
 
@@ -102,11 +110,13 @@ unfoldable pub code_lines_from : List (List ℕ) → ℕ → List (List ℕ) →
 code_lines_from code n [] = []
 code_lines_from code n (bytes ∷ rest) = label_lines code n ++ (instr_text (length code) bytes ∷ code_lines_from code (suc n) rest)
 
+-- the lines of a program's instructions
 abbrev pub code_lines : List (List ℕ) → List (List ℕ)
 code_lines code = code_lines_from code 0 code
 
 -- ---- the whole text
 
+-- the text that the disassembler gives for an image: a line for each directive, label and instruction
 unfoldable pub text_of : Image → List ℕ
 text_of i = flat_map (λ line. line ++ codes "\n") (directive_lines i ++ code_lines (map instr_bytes i.code))
 

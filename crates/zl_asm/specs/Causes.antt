@@ -3,6 +3,7 @@ use Rattle.std.specs.Prelude.{ℕ, List, codes}
 use Rattle.zl_asm.specs.declared.fault.AsmCause.{AsmCause}
 use Rattle.zl_asm.specs.declared.fault.AsmCause.TheVariants as cause
 
+-- each cause by its name
 abbrev pub cause_name : AsmCause → List ℕ
 cause_name cause.Token = codes "Token"
 cause_name cause.UnknownName = codes "UnknownName"

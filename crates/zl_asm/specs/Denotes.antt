@@ -6,6 +6,7 @@ use Rattle.zl_code.specs.Image.{Image}
 use Rattle.zl_code.specs.Spells.{bytes_of, magic, needs_byte, start_bytes, slot_bytes, instr_bytes, is_in_range}
 use Rattle.zl_asm.specs.Listing.{Listing, listing_of}
 
+-- what a text has to give, so that it denotes the image
 abbrev pub fields_of : Image → Listing
 fields_of i = record {
   raw = i.raw;

@@ -41,6 +41,7 @@ labels_shown labels = map (λ l. (l.0.now, l.1)) labels
 abbrev pub sources_shown : List SourceLine → List Source
 sources_shown sources = map (λ s. source_value s.source) sources
 
+-- what this draft holds
 abbrev pub held_by : Draft → Held
 held_by d = record {
   image = d.image;

@@ -22,6 +22,7 @@ pub record Source : Type 0 where
   pub bytes : List ℕ
   pub label : Option (List ℕ)
 
+-- what a line says: nothing, a directive, a label, or an instruction
 pub data Line : Type 0 where
   Blank : Line
   Declares : Directive → Line
@@ -52,10 +53,12 @@ need_of word = if_fits (is_among can_be_needed) (condition_named word)
 unfoldable pub kind_of : List ℕ → Option (Option Kind)
 kind_of word = if is_word word (codes "any") then Some None else option_map Some (kind_named word)
 
+-- the start handle by its operands, if each was read and an image can declare it
 abbrev pub start_with : Option (Option Kind) → Option ℕ → Option Start
 start_with (Some kind) (Some rights) = if_fits is_start_in_range (Some (record { kind = kind; rights = rights_of rights }))
 start_with _ _ = None
 
+-- the slot array by its operands, if each was read and an image can declare it
 abbrev pub slots_with : Option (Option Kind) → Option ℕ → Option ℕ → Option SlotArray
 slots_with (Some kind) (Some len) (Some rights) = if_fits is_slot_in_range (Some (record { kind = kind; length = len; rights = rights_of rights }))
 slots_with _ _ _ = None
@@ -76,9 +79,11 @@ directive_of _ _ = None
 
 -- ---- instructions
 
+-- the word parts two operands
 abbrev is_comma : List ℕ → Bool
 is_comma word = is_word word comma
 
+-- the value in front of the others, if none is missing
 abbrev pub onto_all : {X : Type 0} → Option X → Option (List X) → Option (List X)
 onto_all (Some x) (Some xs) = Some (x ∷ xs)
 onto_all _ _ = None
@@ -108,6 +113,7 @@ pub record Tail : Type 0 where
   pub bytes : List ℕ
   pub label : Option (List ℕ)
 
+-- last eight bytes with a number and a target
 abbrev pub tail : ℕ → ℕ → Option (List ℕ) → Tail
 tail imm target label = record { bytes = bytes_of 4 imm ++ bytes_of 4 target; label = label }
 
@@ -129,6 +135,7 @@ tail_of ending.Both (word ∷ target ∷ []) = then_with (number_of word) (λ im
 tail_of ending.Handles words = option_map (λ places. record { bytes = places; label = None }) (then_with (all_of register_of words) places_of)
 tail_of _ _ = None
 
+-- the instruction by its registers and its last eight bytes, if both were read
 abbrev pub source_with : ℕ → Option (List ℕ) → Option Tail → Option Source
 source_with opcode (Some registers) (Some t) = Some (record { bytes = opcode ∷ (seven registers ++ t.bytes); label = t.label })
 source_with opcode _ _ = None
@@ -142,6 +149,7 @@ source_of row operands =
 abbrev pub is_unknown : List ℕ → Bool
 is_unknown bytes = (length bytes == 16) && not (is_some (layout_of (slice_index bytes 0)))
 
+-- what `.bytes` says: one instruction as 32 hexadecimal digits, of an opcode without a mnemonic
 unfoldable pub unknown_of : List (List ℕ) → Option Source
 unknown_of (digits ∷ []) = option_map (λ bytes. record { bytes = bytes; label = None }) (if_fits is_unknown (hex_bytes digits))
 unknown_of _ = None

@@ -24,30 +24,37 @@ pub record Listing : Type 0 where
 
 -- ---- what stands in which lines
 
+-- the raw mark, where the line sets it
 abbrev pub mark_in : Line → List Bool
 mark_in (Declares directive.Raw) = true ∷ []
 mark_in _ = []
 
+-- the size of the data memory that the line gives
 abbrev pub memory_in : Line → List ℕ
 memory_in (Declares (directive.Memory n)) = n ∷ []
 memory_in _ = []
 
+-- the budget that the line gives
 abbrev pub budget_in : Line → List ℕ
 budget_in (Declares (directive.Budget n)) = n ∷ []
 budget_in _ = []
 
+-- the need that the line declares
 abbrev pub need_in : Line → List Condition
 need_in (Declares (directive.Need c)) = c ∷ []
 need_in _ = []
 
+-- the start handle that the line declares
 abbrev pub start_in : Line → List Start
 start_in (Declares (directive.Start s)) = s ∷ []
 start_in _ = []
 
+-- the slot array that the line declares
 abbrev pub slots_in : Line → List SlotArray
 slots_in (Declares (directive.Slots s)) = s ∷ []
 slots_in _ = []
 
+-- the instruction on the line
 abbrev pub source_in : Line → List Source
 source_in (Code s) = s ∷ []
 source_in _ = []
@@ -60,10 +67,12 @@ given _ usual = None
 
 -- ---- the order of lines
 
+-- the line is a directive
 abbrev pub declares : Line → Bool
 declares (Declares d) = true
 declares _ = false
 
+-- the line is a label or an instruction
 abbrev pub is_body : Line → Bool
 is_body (Label name) = true
 is_body (Code s) = true
@@ -113,6 +122,7 @@ is_listing l =
     && (nat_le (length l.code) 4096
     && list_all (λ bytes. not (is_some (instr_fault l.raw bytes))) l.code))
 
+-- the fields together, where no directive that stands once was repeated and each label was found
 abbrev pub listing_with : List Line → Option Bool → Option ℕ → Option ℕ → Option (List (List ℕ)) → Option Listing
 listing_with lines (Some raw) (Some memory) (Some budget) (Some code) = Some (record {
   raw = raw;

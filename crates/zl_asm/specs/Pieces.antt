@@ -17,16 +17,20 @@ use Rattle.zl_asm.specs.Canonical.{kind_text, label_text, joined, register_text,
 abbrev pub ended : List (List ℕ) → List ℕ
 ended lines = flat_map (λ line. line ++ codes "\n") lines
 
+-- the lines of the mark, the data memory and the budget
 abbrev pub fields_text : Bool → ℕ → ℕ → List ℕ
 fields_text raw memory budget =
     (if raw then codes ".raw\n" else []) ++ (codes ".memory " ++ (decimal memory ++ (codes "\n.budget " ++ (decimal budget ++ codes "\n"))))
 
+-- the line of a need
 abbrev pub need_text : Condition → List ℕ
 need_text c = codes ".need " ++ (condition_name c ++ codes "\n")
 
+-- the line of a start handle
 abbrev pub start_text : Start → List ℕ
 start_text s = codes ".start " ++ (kind_text s.kind ++ (codes " " ++ (decimal (bits s.rights) ++ codes "\n")))
 
+-- the line of a slot array
 abbrev pub slots_text : SlotArray → List ℕ
 slots_text s = codes ".slots " ++ (kind_text s.kind ++ (codes " " ++ (decimal s.length ++ (codes " " ++ (decimal (bits s.rights) ++ codes "\n")))))
 
@@ -34,11 +38,13 @@ slots_text s = codes ".slots " ++ (kind_text s.kind ++ (codes " " ++ (decimal s.
 abbrev pub need_if_among : List Condition → Condition → List ℕ
 need_if_among needs c = if is_among needs c then need_text c else []
 
+-- the lines of all needs, in the order of their numbers
 abbrev pub needs_text : List Condition → List ℕ
 needs_text needs =
     need_if_among needs condition.NewChannel
     ++ (need_if_among needs condition.NewEvent ++ (need_if_among needs condition.NewPort ++ need_if_among needs condition.NewProcess))
 
+-- the lines of all directives
 abbrev pub directives_text : Image → List ℕ
 directives_text i = fields_text i.raw i.memory i.budget ++ (needs_text i.needs ++ (flat_map start_text i.starts ++ flat_map slots_text i.slots))
 

@@ -17,6 +17,7 @@ is_ascii text = list_all (λ byte. nat_lt byte 128) text
 unfoldable pub is_word : List ℕ → List ℕ → Bool
 is_word word bytes = pointwise ◌==◌ word bytes
 
+-- the word that parts operands
 abbrev pub comma : List ℕ
 comma = codes ","
 
@@ -35,6 +36,7 @@ words_from word (byte ∷ bytes) =
     else (if byte == 44 then word_before word (comma ∷ words_from [] bytes)
     else words_from (word ++ (byte ∷ [])) bytes))
 
+-- the words of a line
 abbrev pub words_of : List ℕ → List (List ℕ)
 words_of line = words_from [] line
 
@@ -70,6 +72,7 @@ number_of word = if starts_with ◌==◌ word (codes "0x") then value_of 16 (dro
 
 -- ---- registers
 
+-- a digit of decimal numbers
 abbrev is_decimal : ℕ → Bool
 is_decimal byte = nat_le 48 byte && nat_le byte 57
 
@@ -84,9 +87,11 @@ register_of _ = None
 
 -- ---- names of labels
 
+-- `a` to `z`
 abbrev is_small_letter : ℕ → Bool
 is_small_letter byte = nat_le 97 byte && nat_le byte 122
 
+-- what may stand in a name behind its first letter
 abbrev pub is_name_byte : ℕ → Bool
 is_name_byte byte = is_small_letter byte || (is_decimal byte || (byte == 95))
 

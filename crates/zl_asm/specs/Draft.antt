@@ -1,4 +1,4 @@
--- What a draft of an image holds of the lines that were read.
+-- What a draft of an image holds of the lines that were read. No public clause cites this module.
 use denote.Ref.{Bor}
 use Rattle.std.specs.Prelude.{ℕ, ◌≡◌, Bool, true, false, ◌&&◌, nat_le, List, [], ◌∷◌, ◌++◌, map, Option, Some, None, if◌then◌else◌, ◌⊎◌}
 use Rattle.std.specs.List.{flat_map, list_any}

@@ -1,4 +1,4 @@
--- The pieces of a text as the disassembler writes them, each line with its end.
+-- The pieces of a text as the disassembler writes them, each line with its end. No public clause cites this module.
 use Rattle.std.specs.Prelude.{ℕ, ◌≡◌, ◌<◌, Bool, false, List, [], ◌∷◌, ◌++◌, codes, map, length, take, get_or, if◌then◌else◌}
 use Rattle.std.specs.List.{flat_map}
 use Rattle.std.specs.Fmt.{decimal}

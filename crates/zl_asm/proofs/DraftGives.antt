@@ -40,9 +40,6 @@ pub resolves_none : (h : Held) → h.image.code ≡ [] → Resolves h h.image
 unfolding all_of
 resolves_none h e = record { code = rw e refl; fine = rw e refl; same = refl }
 
-nothing_wrong : {X : Type 0} (o : Option X) → o ≡ None → (not (is_some o) && true) ≡ true
-nothing_wrong o e = rw e refl
-
 pub resolves_one : (h : Held) (i new : Image) (s : Source) (bytes : List ℕ) → Resolves h i → length i.code < length h.sources → s ≡ get_or h.sources (length i.code) s → resolved h.labels s ≡ Some bytes → Pushes i bytes new → Resolves h new
 resolves_one h i new s bytes r below at target p =
     let raw : i.raw ≡ h.image.raw = ap (λ (x : Image). x.raw) r.same in

@@ -30,11 +30,7 @@ joined-more between word words more =
     ∙ sym (append_assoc word (each_behind between words) (each_behind between more))
     ∙ ap (λ (x : List ℕ). x ++ each_behind between more) (sym (joined-cons between word words))
 
--- the first of the words, and another one
-pub first_word : (between word : List ℕ) → joined between ([] ++ (word ∷ [])) ≡ word
-unfolding joined
-first_word between word = refl
-
+-- one more word
 pub next_word : (between word : List ℕ) (words : List (List ℕ)) → 0 < length words → joined between (words ++ (word ∷ [])) ≡ joined between words ++ (between ++ word)
 next_word between word [] h = absurd (omega arith)
 next_word between word (first ∷ words) h = joined-more between first words (word ∷ []) ∙ ap (λ (x : List ℕ). joined between (first ∷ words) ++ x) (one_behind between word)

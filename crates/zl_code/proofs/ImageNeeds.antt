@@ -1,5 +1,5 @@
 -- The byte of the needs.
-use Rattle.std.proofs.Common.{◌≡◌, ℕ, zero, suc, ◌<◌, ◌/◌, ◌%◌, Bool, true, false, ◌==◌, ◌&&◌, ◌||◌, not, if◌then◌else◌, List, [], ◌∷◌, ◌++◌, refl, sym, ap, ◌∙◌, arith, inl, inr}
+use Rattle.std.proofs.Common.{◌≡◌, ℕ, zero, suc, ◌<◌, ◌/◌, ◌%◌, Bool, true, false, ◌==◌, ◌&&◌, ◌||◌, not, if◌then◌else◌, List, [], ◌∷◌, refl, ap, ◌∙◌, arith, inl, inr}
 use Rattle.std.specs.Prelude.{nat_lt, map}
 use Rattle.std.proofs.lemmas.Bool.{and_parts, eqb-true, ltb-true, cases_Bool}
 use Rattle.zl_rights.specs.declared.policy.Condition.{Condition}
@@ -208,25 +208,3 @@ flags_again c e p q = let a = among c e p q in needs_named-flags (flags c e p q)
 -- needs in order name themselves
 pub needs_named-needs : (needs : List Condition) → are_needs needs ≡ true → needs_named needs ≡ needs
 needs_named-needs needs h = let f = flagged needs h in rw f.1 (flags_again f.0.channel f.0.event f.0.port f.0.process)
-
--- what is named once more may stand in front or behind
-among_last : (named : List Condition) (c d : Condition) → is_among (named ++ (c ∷ [])) d ≡ (condition_number c == condition_number d) || is_among named d
-among_last [] c d = refl
-among_last (x ∷ named) c d = ap (λ (b : Bool). (condition_number x == condition_number d) || b) (among_last named c d) ∙ turned (condition_number x == condition_number d) (condition_number c == condition_number d) (is_among named d)
-  where
-    turned : (a b r : Bool) → a || (b || r) ≡ b || (a || r)
-    turned true true r = refl
-    turned true false r = refl
-    turned false true r = refl
-    turned false false r = refl
-
--- one more condition is named, after needs that are gathered already
-pub needs_named-again : (named : List Condition) (c : Condition) → needs_named (c ∷ needs_named named) ≡ needs_named (named ++ (c ∷ []))
-needs_named-again named c =
-    let a = among (is_among named condition.NewChannel) (is_among named condition.NewEvent) (is_among named condition.NewPort) (is_among named condition.NewProcess) in
-    needs_named-flags (c ∷ needs_named named)
-    ∙ (λ i. flags (one condition.NewChannel a.channel i) (one condition.NewEvent a.event i) (one condition.NewPort a.port i) (one condition.NewProcess a.process i))
-    ∙ sym (needs_named-flags (named ++ (c ∷ [])))
-  where
-    one : (d : Condition) → is_among (named_flags named) d ≡ is_among named d → is_among (c ∷ needs_named named) d ≡ is_among (named ++ (c ∷ [])) d
-    one d h = ap (λ (b : Bool). (condition_number c == condition_number d) || b) (ap (λ (xs : List Condition). is_among xs d) (needs_named-flags named) ∙ h) ∙ sym (among_last named c d)

@@ -13,7 +13,7 @@ use Rattle.zl_code.specs.declared.image.DecodeFault.TheVariants as faults
 use Rattle.zl_code.specs.Instructions.{Layout, layout_of}
 use Rattle.zl_code.specs.Spells.{Parts, Last, Numbers, Room, Places, local_parts, call_parts, parts_bytes, last_bytes, seven, bytes_of, are_registers, are_places, is_packed, is_last_in_range, are_parts_in_range, is_instr_in_range, instr_bytes, instr_fault, fault_by, fault_if, first_of, reading_of, names_registers, is_unused_zero, row_bytes}
 use Rattle.zl_code.proofs.ImageBytes.{IsBytes, IsBytes-take}
-use Rattle.zl_code.proofs.ImageTable.{instr_fits, read_instr}
+use Rattle.zl_code.proofs.ImageTable.{instr_fits}
 use Rattle.zl_code.proofs.ImageInstr.{row_bytes-read}
 
 -- ---- an instruction in range
@@ -23,10 +23,6 @@ instr_bytes-no_fault raw i h = (instr_fits raw i h).fault
 
 pub length-instr_bytes : (raw : Bool) (i : Instr) → is_instr_in_range raw i ≡ true → length (instr_bytes i) ≡ 16
 length-instr_bytes raw i h = (instr_fits raw i h).len
-
--- instructions with the same bytes are the same
-pub instr_bytes-injective : (raw : Bool) (i j : Instr) → is_instr_in_range raw i ≡ true → is_instr_in_range raw j ≡ true → instr_bytes i ≡ instr_bytes j → i ≡ j
-instr_bytes-injective raw i j h k e = sym (instr_fits raw i h).again ∙ ap read_instr e ∙ (instr_fits raw j k).again
 
 -- ---- each of them is a byte
 

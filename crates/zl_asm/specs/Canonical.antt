@@ -97,15 +97,15 @@ aims (Some row) = elim row.ending as (λ _. Bool) [ ending.Target ↦ true | end
 abbrev pub aims_at : ℕ → List ℕ → Bool
 aims_at n bytes = aims (row_of (slice_index bytes 0)) && ((reading_of bytes).target == n)
 
--- a target names instruction n
+-- an instruction aims at the one with the number n
 abbrev pub is_target : List (List ℕ) → ℕ → Bool
 is_target code n = list_any (aims_at n) code
 
--- the label before instruction n, on a line of its own, where a target names it
+-- the line with the label of instruction n, if an instruction aims at it
 abbrev pub label_lines : List (List ℕ) → ℕ → List (List ℕ)
 label_lines code n = if is_target code n then (label_text n ++ codes ":") ∷ [] else []
 
--- the instructions from number n on, each behind its label where a target names it
+-- the instructions from number n on, and the labels of those that are aimed at
 unfoldable pub code_lines_from : List (List ℕ) → ℕ → List (List ℕ) → List (List ℕ)
 code_lines_from code n [] = []
 code_lines_from code n (bytes ∷ rest) = label_lines code n ++ (instr_text (length code) bytes ∷ code_lines_from code (suc n) rest)

@@ -58,7 +58,7 @@ abbrev pub laid_out : ℕ → List ℕ → ℕ → Ending → List ℕ → List 
 laid_out count name registers ending bytes =
     name ++ (codes " " ++ joined (codes ", ") (map register_text (take registers (reading_of bytes).registers) ++ tail_texts count ending (reading_of bytes)))
 
--- the line of instruction n, behind its label where a target names it
+-- the line of instruction n, and its label if it is aimed at
 abbrev pub line_text : ℕ → ℕ → Bool → List ℕ → List ℕ
 line_text count n is_target bytes = (if is_target then label_text n ++ codes ":\n" else []) ++ (instr_text count bytes ++ codes "\n")
 

@@ -281,7 +281,7 @@ fn push_instr(text: &mut String, count: usize, bytes: [u8; Instr::LEN]) -> Resul
     }
 }
 
-/// Adds the line of instruction n, behind its label where a target names it.
+/// Adds the line of instruction n, and its label if a jump goes to it.
 fn push_line(
     text: &mut String,
     count: usize,
@@ -347,8 +347,9 @@ fn targets_of(alloc: Global, code: &[Instr]) -> Result<Vec<bool>, AllocError>
 }
 
 /// The text of the image: its directives in the order of the grammar, with `.memory` and `.budget`
-/// always there, and then its instructions, with a label `lN:` before instruction N where a target
-/// names it. The error says that memory was refused. The layout is own profile.
+/// always there, and then its instructions. One that a jump goes to has its label on the line
+/// above: `l` with its number, counted from 0. The error says that memory was refused. The layout
+/// is own profile.
 pub fn disassemble(alloc: Global, image: &Image) -> Result<String, AllocError>
     // It is laid out so.
     ensures text { IfOk result (λ text. string_bytes text ≡ text_of image.now) }

@@ -41,7 +41,7 @@ is_written writes = true
 is_written changes = true
 is_written _ = false
 
--- the register holds a handle that is gone on every answer
+-- the register gives its handle away, however the call is answered
 abbrev pub is_consumed : Field → Bool
 is_consumed (consumes kinds rights) = true
 is_consumed _ = false

@@ -4,7 +4,7 @@ ghost use Rattle.zl_asm.specs.declared.fault.AsmCause.TheVariants.{NoMemory};
 
 use std::alloc::{AllocError, AllocFailed};
 
-/// Why a text denotes no image, or want of memory.
+/// Why a text denotes no image, or want of memory. Own profile.
 #[derive(Clone, Copy, PartialEq, Eq, Debug)]
 pub enum AsmCause {
     /// What stands there is no word of the grammar, as a tab, a byte outside ASCII, or a missing
@@ -26,7 +26,7 @@ pub enum AsmCause {
     NoMemory,
 }
 
-/// The line of a text that is at fault, counted from 1, and why.
+/// The line of a text that is at fault, counted from 1, and why. Own profile.
 #[derive(Clone, Copy, PartialEq, Eq, Debug)]
 pub struct AsmFault {
     pub line: u64,
@@ -34,7 +34,7 @@ pub struct AsmFault {
 }
 
 impl AsmCause {
-    /// The name of the cause, as answers have it (own profile).
+    /// The name of the cause, as answers have it.
     pub fn name(self) -> &'static str
         ensures { result.now ≡ cause_name self }
     {

@@ -3,6 +3,9 @@
 //! It stands on `zl_code`, `zl_rights`, `bitflags` and `indexmap`. It promises that `assemble` and
 //! `disassemble` are exact against the grammar of the text; `laws` proves of the definitions that no
 //! text denotes two images, and that the text of each image denotes it.
+//!
+//! Each public type says where its rule comes from, and so do `assemble` and `disassemble`; methods
+//! follow their type.
 #![tactic(auto)]
 
 mod assembling;

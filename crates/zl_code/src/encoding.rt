@@ -136,7 +136,8 @@ fn len_of(image: &Image) -> usize {
     HEADER_LEN + DECLARATION_LEN * declarations + Instr::LEN * image.code.len()
 }
 
-/// The bytes of the image, as `decode` reads them. The error says that memory was refused.
+/// The bytes of the image, as `decode` reads them. The error says that memory was refused. The
+/// format is own profile.
 pub fn encode(alloc: Global, image: &Image) -> Result<Vec<u8>, AllocError>
     ensures spelled { IfOk result (λ bytes. Spells bytes.items image.now) }
 {

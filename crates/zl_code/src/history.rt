@@ -1,6 +1,9 @@
 use zl_rights::{Pid, Status};
 
 /// The name of a system call.
+///
+/// Source: the pages of the system calls in the Fuchsia documentation, as "zx_handle_close" of
+/// `Close`; the names here are own profile.
 #[derive(Clone, Copy, PartialEq, Eq, Debug)]
 pub enum CallName {
     Close,
@@ -28,7 +31,7 @@ pub enum CallName {
     JobSetPolicy,
 }
 
-/// How a system call ends.
+/// How a system call ends. Own profile.
 #[derive(Clone, Copy, PartialEq, Eq, Debug)]
 pub enum Outcome {
     /// It is answered with this status.
@@ -39,7 +42,7 @@ pub enum Outcome {
     Ended(i32),
 }
 
-/// One item of a trace.
+/// One item of a trace. Own profile.
 #[derive(Clone, Copy, PartialEq, Eq, Debug)]
 pub enum TraceItem {
     /// So many local instructions in a row, at least one.
@@ -59,7 +62,7 @@ pub enum TraceItem {
     },
 }
 
-/// What a process is in, as a trace tells it.
+/// What a process is in, as a trace tells it. Own profile.
 #[derive(Clone, Copy, PartialEq, Eq, Debug)]
 pub enum ProcState {
     Created,

@@ -9,7 +9,7 @@ use std::marker::Model;
 use zl_rights::{Condition, Kind, Rights};
 
 /// A program as it is loaded: instructions, the size of its data memory, its budget, and what it
-/// declares.
+/// declares. Own profile.
 #[derive(Drop)]
 pub struct Image {
     pub(crate) raw: bool,
@@ -30,7 +30,7 @@ pub(crate) struct Needs {
     pub process: bool,
 }
 
-/// A handle with which a process of the program starts.
+/// A handle with which a process of the program starts. Own profile.
 #[derive(Clone, Copy)]
 pub struct Start {
     /// No kind is any kind.
@@ -39,7 +39,7 @@ pub struct Start {
     pub rights: Rights,
 }
 
-/// An array of places for handles.
+/// An array of places for handles. Own profile.
 #[derive(Clone, Copy)]
 pub struct SlotArray {
     /// No kind is any kind.
@@ -214,7 +214,8 @@ impl<T: Drop> From<AllocFailed<T>> for DecodeFault {
     }
 }
 
-/// Why bytes are no image, or want of memory; `decode` says in which order they are examined.
+/// Why bytes are no image, or want of memory; `decode` says in which order they are examined. Own
+/// profile.
 #[derive(Clone, Copy, PartialEq, Eq, Debug)]
 pub enum DecodeFault {
     /// Fewer bytes than a header has.

@@ -15,12 +15,12 @@ pub enum Instr {
 }
 
 impl Instr {
-    /// How many bytes spell an instruction (own profile).
+    /// How many bytes spell an instruction.
     pub const LEN: usize = 16;
 }
 
-/// An instruction that is done by its process alone. Registers have 64 bits, and addresses are added
-/// without wrapping.
+/// An instruction that is done by its process alone. Registers have 64 bits, and addresses are
+/// added without wrapping. Own profile.
 #[derive(Clone, Copy)]
 pub enum LocalInstr {
     /// The register becomes the number.
@@ -168,7 +168,8 @@ pub enum LocalInstr {
     },
 }
 
-/// A system call with its registers. The status register gets the answer.
+/// A system call with its registers. The status register gets the answer. The fields are own
+/// profile; `CallName` says where the calls come from.
 #[derive(Clone, Copy)]
 pub enum CallInstr {
     Close {
@@ -313,7 +314,7 @@ pub enum CallInstr {
     },
 }
 
-/// The registers of the handles that `chan_write` sends, at most 8.
+/// The registers of the handles that `chan_write` sends, at most 8. Own profile.
 #[derive(Clone, Copy)]
 pub struct HandleList {
     // Registers from the first place on, and `HandleList::NONE` in the places behind them.
@@ -324,7 +325,7 @@ impl HandleList {
     /// How many handles there are at most.
     pub const MOST: usize = 8;
 
-    /// The byte of a place without a register (own profile).
+    /// The byte of a place without a register.
     pub const NONE: u8 = 0xff;
 
     /// The register in this place, counted from 0; nothing behind the last one.

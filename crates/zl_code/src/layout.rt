@@ -2,7 +2,7 @@ ghost use Rattle.std.specs.Prelude.{◌≡◌, ◌≤◌, map, IfSome, length};
 ghost use Rattle.std.specs.Option.{option_map};
 ghost use Rattle.zl_code.specs.Instructions.{layout as layout_with, layout_of, row_of, row_named};
 
-/// What stands in the last eight bytes of an instruction.
+/// What stands in the last eight bytes of an instruction. Own profile.
 #[derive(Clone, Copy)]
 pub enum Ending {
     /// Neither a number nor a target.

@@ -2,7 +2,7 @@ ghost use Rattle.std.specs.Prelude.{ℕ, ◌≡◌, ◌<◌, ◌≤◌, IfSome, 
 
 use std::marker::Model;
 
-/// One of the 32 registers of a process.
+/// One of the 32 registers of a process. Own profile.
 #[derive(Clone, Copy)]
 pub struct Register {
     number: u8,

@@ -24,8 +24,3 @@ mod words;
 pub use assembling::{assemble, assemble_bytes};
 pub use disassembling::disassemble;
 pub use fault::{AsmCause, AsmFault};
-
-#[cfg(test)]
-mod line_tests;
-#[cfg(test)]
-mod text_tests;

@@ -31,6 +31,3 @@ pub use image::{DecodeFault, Image, SlotArray, Start};
 pub use instr::{CallInstr, HandleList, Instr, LocalInstr};
 pub use layout::{Ending, Row};
 pub use register::Register;
-
-#[cfg(test)]
-mod tests;

@@ -6,11 +6,15 @@
 //! `step_engine`, `asm_engine` and `words`, that what is written is the answer to what was read.
 #![tactic(auto)]
 
+#[cfg(test)]
+mod assembler_tests;
 mod assembling;
 #[cfg(test)]
 mod assembling_tests;
 mod engine;
 mod fault;
+#[cfg(test)]
+mod image_tests;
 mod input;
 mod output;
 mod scenario;

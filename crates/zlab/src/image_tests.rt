@@ -1,6 +1,8 @@
-use super::*;
+//! Images: what decoding answers, and what encoding and building give.
+
 use std::alloc::Global;
 use std::test::*;
+use zl_code::{CallInstr, DecodeFault, Ending, Image, Instr, Row, decode, encode};
 use zl_rights::{Condition, Kind};
 
 /// One `process_exit`.

@@ -1,6 +1,8 @@
-use crate::fault::{AsmCause, AsmFault};
-use crate::{assemble, assemble_bytes, disassemble};
+//! Texts of programs: the images that they denote, and what they are refused for.
+
+use std::alloc::Global;
 use std::test::*;
+use zl_asm::{AsmCause, AsmFault, assemble, assemble_bytes, disassemble};
 use zl_code::encode;
 
 /// `event_create`, `const`, `signal`, `dup`, `close` three times, `process_exit`.
@@ -101,4 +103,99 @@ fn one_line_more_than_an_image_holds(rt: HostRuntime) -> Result<(), Fail> {
         assert_eq!(rt; assemble_bytes(rt.alloc(), &text).err(), fault);
     }
     Ok(())
+}
+
+#[test]
+fn causes_of_refused_lines(rt: HostRuntime) {
+    for (line, cause) in [
+        (&b"const\tr2, 1"[..], AsmCause::Token),
+        (b"const r2, 1\r", AsmCause::Token),
+        (b"const r2 1", AsmCause::Token),
+        (b"const r2,, 1", AsmCause::Token),
+        (b"const r2, 1,", AsmCause::Token),
+        (b"const r2, -1", AsmCause::Token),
+        (b"Loop:", AsmCause::Token),
+        (b".need NEW_PORT,", AsmCause::Token),
+        (b"constant r2, 1", AsmCause::UnknownName),
+        (b"name :", AsmCause::UnknownName),
+        (b".version 1", AsmCause::UnknownName),
+        (b".start Event 0", AsmCause::UnknownName),
+        (b".need NEW_EVENTPAIR", AsmCause::UnknownName),
+        (b"const r32, 1", AsmCause::Operand),
+        (b"const r02, 1", AsmCause::Operand),
+        (b"const 2, 1", AsmCause::Operand),
+        (b"const r2, r3", AsmCause::Operand),
+        (b"const r2, 4294967296", AsmCause::Operand),
+        (b"const r2", AsmCause::Operand),
+        (b"const r2, 1, 2", AsmCause::Operand),
+        (
+            b"chan_write r2, r3, r0, r0, r1, r1, r1, r1, r1, r1, r1, r1, r1",
+            AsmCause::Operand,
+        ),
+        (b".raw 1", AsmCause::Operand),
+        (b".memory r2", AsmCause::Operand),
+        (b".need NEW_ANY", AsmCause::Operand),
+        (b".start event 8", AsmCause::Operand),
+        (b".start any 1048576", AsmCause::Operand),
+        (
+            b".bytes 01000000000000000000000000000000",
+            AsmCause::Operand,
+        ),
+        (b".bytes c8", AsmCause::Operand),
+        (b".memory 65537", AsmCause::Limit),
+        (b".memory 99999999999", AsmCause::Limit),
+        (b".budget 0", AsmCause::Limit),
+        (b".budget 1000001", AsmCause::Limit),
+        (b".slots any 0 0", AsmCause::Limit),
+        (b".slots any 257 0", AsmCause::Limit),
+    ] {
+        let fault = Some(AsmFault { line: 1, cause });
+        assert_eq!(rt; assemble_bytes(rt.alloc(), line).err(), fault);
+    }
+}
+
+#[test]
+fn lines_of_every_form(rt: HostRuntime) {
+    for line in [
+        &b""[..],
+        b"  ; a comment, and more; and more",
+        b" .raw ",
+        b".memory 0x10000",
+        b".budget 1000000;",
+        b".need NEW_PROCESS",
+        b".start channel 16388",
+        b".slots any 256 0",
+        b"r2:",
+        b"r2:\njmp r2",
+        b"jmp 0xffffffff",
+        b"chan_write r2, r3, r0, r0",
+    ] {
+        assert_eq!(rt; assemble_bytes(rt.alloc(), line).err(), None);
+    }
+}
+
+/// Whether the bytes are the last of those of the image.
+fn ends_with(alloc: Global, text: &[u8], bytes: &[u8]) -> Result<bool, AsmFault> {
+    let image = assemble_bytes(alloc, text)?;
+    Ok(encode(alloc, &image).is_ok_and(|all| all.as_slice().ends_with(bytes)))
+}
+
+#[test]
+fn bytes_of_instructions(rt: HostRuntime) {
+    for (text, bytes) in [
+        (
+            &b"jeq r31,0xA , 258;"[..],
+            [20, 31, 0, 0, 0, 0, 0, 0, 10, 0, 0, 0, 2, 1, 0, 0],
+        ),
+        (
+            b"chan_write r2, r3, r4, r5, r31, r0",
+            [68, 2, 3, 4, 5, 0, 0, 0, 31, 0, 255, 255, 255, 255, 255, 255],
+        ),
+        (
+            b".raw\n.bytes C8000000000000000000000000000aFf",
+            [200, 0, 0, 0, 0, 0, 0, 0, 0, 0, 0, 0, 0, 0, 10, 255],
+        ),
+    ] {
+        assert_eq!(rt; ends_with(rt.alloc(), text, &bytes), Ok(true));
+    }
 }

@@ -24,6 +24,7 @@ mod Joined
 mod Laid
 mod Labels
 mod ListingRefused
+pub mod Numbered
 mod ListingText
 mod DraftHolds
 mod DraftRefuses

@@ -1,9 +1,9 @@
 -- The lines of a whole text.
-use Rattle.std.proofs.Common.{◌≡◌, ℕ, ◌+◌, ◌<◌, Bool, true, false, ◌&&◌, cond, ltb, eqb, List, [], ◌∷◌, ◌++◌, length, map, take, drop, get_or, Option, Some, None, Result, Ok, Err, ◌⊎◌, refl, sym, ap, ◌∙◌, arith, take-append-drop, inl, inr}
+use Rattle.std.proofs.Common.{◌≡◌, ℕ, ◌+◌, ◌<◌, Bool, true, false, ◌&&◌, cond, ltb, eqb, List, [], ◌∷◌, ◌++◌, length, take, drop, get_or, Option, Some, None, Result, Ok, Err, ◌⊎◌, refl, sym, ap, ◌∙◌, arith, take-append-drop, inl, inr}
 use Rattle.std.specs.Prelude.{IsTrue, IfOk, IfErr, MatchResult}
 use Rattle.std.specs.List.{enumerate_from, onto_first, list_all}
 use Rattle.std.proofs.lemmas.Bool.{eqb-true}
-use Rattle.std.proofs.lemmas.List.{at_drop_more, take-map}
+use Rattle.std.proofs.lemmas.List.{at_drop_more}
 use Rattle.std.proofs.lemmas.List.FromFn.{length-enumerate_from, get_or-enumerate_from}
 use Rattle.zl_code.specs.Image.{Image}
 use Rattle.zl_code.specs.Spells.{is_in_range}
@@ -98,24 +98,6 @@ stops_at text before rest line h cut s (inr r) = by (lines_said text) refl
         ap listing_from split.1 ∙ r.2 s.0 s.2 split.0
 
 -- ---- the lines that were numbered
-
-second_enumerated : {X : Type 0} (n : ℕ) (xs : List X) → map (λ p. p.1) (enumerate_from n xs) ≡ xs
-second_enumerated n [] = refl
-second_enumerated n (x ∷ xs) = ap (λ (ys : List _). x ∷ ys) (second_enumerated (n + 1) xs)
-
-second_shown : {A B : Type 0} (v : A → B) (ys : List (ℕ × A)) → map (λ p. p.1) (map {B = ℕ × B} (λ p. (p.0, v p.1)) ys) ≡ map (λ p. v p.1) ys
-second_shown v [] = refl
-second_shown v (y ∷ ys) = ap (λ (zs : List _). v y.1 ∷ zs) (second_shown v ys)
-
--- so many lines were yielded
-pub lines_so_far : {A : Type 0} (v : A → List ℕ) (lines : List (List ℕ)) (ys : List (ℕ × A)) → map {B = ℕ × List ℕ} (λ p. (p.0, v p.1)) ys ≡ take (length ys) (enumerate_from 0 lines)
-    → map (λ p. v p.1) ys ≡ take (length ys) lines
-lines_so_far v lines ys e =
-    sym (second_shown v ys) ∙ ap (map (λ (p : ℕ × List ℕ). p.1)) e ∙ sym (take-map (λ (p : ℕ × List ℕ). p.1) (length ys) (enumerate_from 0 lines)) ∙ ap (take (length ys)) (second_enumerated 0 lines)
-
--- all lines were yielded
-pub lines_all : {A : Type 0} (v : A → List ℕ) (lines : List (List ℕ)) (ys : List (ℕ × A)) → map {B = ℕ × List ℕ} (λ p. (p.0, v p.1)) ys ≡ enumerate_from 0 lines → map (λ p. v p.1) ys ≡ lines
-lines_all v lines ys e = sym (second_shown v ys) ∙ ap (map (λ (p : ℕ × List ℕ). p.1)) e ∙ second_enumerated 0 lines
 
 -- the lines before the one that is yielded next, and behind it
 pub cut_at : (lines : List (List ℕ)) (n index : ℕ) (line : List ℕ) → n < length (enumerate_from 0 lines) → ◌≡◌ {A = ℕ × List ℕ} (index, line) (get_or (enumerate_from 0 lines) n (index, line)) → lines ≡ take n lines ++ line ∷ drop (n + 1) lines

@@ -2,10 +2,11 @@
 use Rattle.std.proofs.Common.{◌≡◌, ℕ, ◌+◌, ◌*◌, ◌/◌, ◌%◌, ◌<◌, Bool, true, List, [], ◌∷◌, length, Some, refl, ap, nat_lt, arith}
 use Rattle.std.specs.List.{list_all}
 use Rattle.std.proofs.lemmas.Bool.{and_parts, and_from, ltb-true}
+use Rattle.zl_code.proofs.Below.{all_below, below}
 use Rattle.zl_asm.specs.Words.{digit_of, hex_bytes}
 use Rattle.zl_asm.specs.Canonical.{hex_digit, hex_text}
 use Rattle.zl_asm.proofs.RoundWords.{is_plain, is_plain_word}
-use Rattle.zl_asm.proofs.RoundRegisters.{all_below, below, is_just, just}
+use Rattle.zl_asm.proofs.RoundRegisters.{is_just, just}
 
 digit_again : ℕ → Bool
 digit_again n = is_just (digit_of (hex_digit n)) n

@@ -1,29 +1,15 @@
 -- Registers, and the handles behind them, are read as they are written.
-use Rattle.std.proofs.Common.{◌≡◌, ℕ, zero, suc, ◌-◌, ◌<◌, ◌≤◌, Bool, true, false, ◌&&◌, ◌||◌, ◌==◌, not, List, [], ◌∷◌, ◌++◌, length, map, take, replicate, filter, Option, Some, None, refl, sym, ap, ◌∙◌, nat_lt, nat_le, arith, inl, inr}
+use Rattle.std.proofs.Common.{◌≡◌, ℕ, zero, suc, ◌-◌, ◌<◌, ◌≤◌, Bool, true, false, ◌||◌, ◌==◌, not, List, [], ◌∷◌, ◌++◌, length, map, take, replicate, filter, Option, Some, None, refl, sym, ap, ◌∙◌, nat_lt, nat_le, arith}
 use Rattle.std.specs.Prelude.{if◌then◌else◌}
 use Rattle.std.specs.List.{list_all}
 use Rattle.std.specs.Fmt.{digits}
-use Rattle.std.proofs.lemmas.Bool.{and_parts, and_from, eqb-true, ltb-true, cases_Bool, le-leb}
+use Rattle.std.proofs.lemmas.Bool.{and_parts, and_from, eqb-true, ltb-true, le-leb}
 use Rattle.zl_code.specs.Spells.{are_registers, are_places, is_packed}
+use Rattle.zl_code.proofs.Below.{all_below, below}
 use Rattle.zl_asm.specs.Words.{register_of}
 use Rattle.zl_asm.specs.Lines.{all_of, places_of}
 use Rattle.zl_asm.specs.Canonical.{register_text}
 use Rattle.zl_asm.proofs.RoundWords.{is_plain_word}
-
--- the test holds for each number below n
-unfoldable pub all_below : (ℕ → Bool) → ℕ → Bool
-all_below test zero = true
-all_below test (suc n) = test n && all_below test n
-
-pub below : (test : ℕ → Bool) (n b : ℕ) → all_below test n ≡ true → b < n → test b ≡ true
-unfolding all_below
-below test zero b h lt = absurd (omega arith)
-below test (suc n) b h lt =
-    let both = and_parts (test n) (all_below test n) h in
-    elim (cases_Bool (b == n)) as (λ _. test b ≡ true) [
-      | inl here ↦ ap test (eqb-true b n here) ∙ both.0
-      | inr apart ↦ below test n b both.1 (grind arith)
-    ]
 
 -- the value is there, and is n
 abbrev pub is_just : Option ℕ → ℕ → Bool

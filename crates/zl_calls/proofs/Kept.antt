@@ -1,17 +1,16 @@
 -- dup keeps the invariant of the world.
-use Rattle.std.proofs.Common.{◌≡◌, ◌<◌, ◌≤◌, ◌+◌, ◌^◌, ℕ, true, false, ◌==◌, List, refl, sym, ap, ◌∙◌, subst, cond, Some, inl, inr, ◌⊎◌, IsTrue, length, arith, eq-eqb}
-use Rattle.std.specs.Prelude.{bit_and, nat_lt, if◌then◌else◌}
+use Rattle.std.proofs.Common.{◌≡◌, ◌<◌, ◌≤◌, ◌+◌, ◌^◌, ℕ, true, false, ◌==◌, List, refl, sym, ap, ◌∙◌, subst, cond, Some, inl, inr, IsTrue, length, arith}
+use Rattle.std.specs.Prelude.{nat_lt, if◌then◌else◌}
 use Rattle.std.specs.List.{count_by}
 use Rattle.std.proofs.lemmas.Bool.{cases_Bool, eqb-true, or_left}
 use Rattle.std.proofs.lemmas.Bool.Decides.{nat_tests}
-use Rattle.std.proofs.lemmas.Option.{none-some, same_Some}
-use Rattle.zl_rights.specs.declared.rights.Rights.{Rights}
+use Rattle.std.proofs.lemmas.Option.{same_Some}
 use Rattle.zl_rights.specs.declared.entry.Entry.{Entry}
-use Rattle.zl_rights.specs.Numbers.{bits, within, narrowed, default_rights_of, SAME_RIGHTS, rights_of}
-use Rattle.std.proofs.lemmas.Nat.{and_assoc}
+use Rattle.zl_rights.specs.Numbers.{default_rights_of}
 use Rattle.zl_rights.specs.Map.{Map, get}
 use Rattle.zl_rights.specs.Signals.{is_process, runs}
 use Rattle.zl_rights.proofs.MapLaws.{get-put}
+use Rattle.zl_rights.proofs.Narrowed.{narrowed_within}
 use Rattle.zl_code.specs.Tests.{handles_to}
 use Rattle.zl_table.specs.Table.{Handles, IsTable, Inserts}
 use Rattle.zl_table.proofs.MapEdits.{sorted_put, length-put_new, put_key, is_sorted-update, has_key-update}
@@ -52,29 +51,6 @@ found_inserted A t e v t2 inserts value q at new old =
 body_held : (o : Object) → (held_once_more o).body ≡ o.body
 body_held o = elim (nat_lt o.handles (2 ^ 62)) as (λ b. (cond b (record o { handles = o.handles + 1 }) o).body ≡ o.body) [ true ↦ refl | false ↦ refl ]
 
--- ---- rights
-
-part_of : (a b c : ℕ) → IsTrue (within a b) → IsTrue (within b c) → IsTrue (within a c)
-part_of a b c first second =
-    let ab : bit_and b a ≡ a = eqb-true (bit_and b a) a first in
-    let bc : bit_and c b ≡ b = eqb-true (bit_and c b) b second in
-    eq-eqb (bit_and c a) a (ap (λ (x : ℕ). bit_and c x) (sym ab) ∙ (sym (and_assoc a c b) ∙ (ap (λ (x : ℕ). bit_and x a) bc ∙ ab)))
-
-allowed_within : (have : Rights) (asked : ℕ) (granted : Rights) (whole : ℕ) → narrowed have asked ≡ Some granted → IsTrue (within (bits have) whole) → IsTrue (within (bits granted) whole)
-allowed_within have asked granted whole allowed inside = by_same (cases_Bool (asked == SAME_RIGHTS))
-  where
-    by_part : ((asked == SAME_RIGHTS) ≡ false) → IsTrue (within asked (bits have)) ⊎ (within asked (bits have) ≡ false) → IsTrue (within (bits granted) whole)
-    by_part other (inl part) =
-        let is : rights_of asked ≡ granted = same_Some (rights_of asked) granted (rw (other, part) at allowed) in
-        subst (λ (r : Rights). IsTrue (within (bits r) whole)) is (part_of asked (bits have) whole part inside)
-    by_part other (inr apart) = absurd (none-some granted (rw (other, apart) at allowed))
-
-    by_same : IsTrue (asked == SAME_RIGHTS) ⊎ ((asked == SAME_RIGHTS) ≡ false) → IsTrue (within (bits granted) whole)
-    by_same (inl same) =
-        let is : have ≡ granted = same_Some have granted (rw same at allowed) in
-        subst (λ (r : Rights). IsTrue (within (bits r) whole)) is inside
-    by_same (inr other) = by_part other (cases_Bool (within asked (bits have)))
-
 -- ---- dup
 
 module _ (before after : List Process) (p p2 : Process) (write : IsWrite before after p p2) (r : Registry) (lab : IsLab before r) (h asked made : ℕ) (r2 : Registry) (dups : Dups p.table r h asked made p2.table r2) where
@@ -92,7 +68,7 @@ module _ (before after : List Process) (p p2 : Process) (write : IsWrite before 
     object = original_named.object;
     there = original_named.there;
     kind = original_named.kind;
-    rights = allowed_within dups.original.rights asked dups.granted (default_rights_of dups.original.kind) dups.allowed original_named.rights;
+    rights = narrowed_within dups.original.rights asked dups.granted (default_rights_of dups.original.kind) dups.allowed original_named.rights;
   }
 
   counts : (j : ℕ) → handles_to (world_value after (holding r k)) j ≡ handles_to (world_value before r) j + cond (k == j) 1 0

@@ -1,9 +1,8 @@
 -- In every world of a run from a boot world no two handles share a place, and none has more rights than its kind gives.
-use Rattle.std.proofs.Common.{◌≡◌, ◌⊎◌, inl, inr, ℕ, Bool, true, false, ◌==◌, List, [], ◌∷◌, refl, ap, sym, subst, ◌∙◌, IsTrue, Option, Some, None, eq-eqb}
-use Rattle.std.specs.Prelude.{if◌then◌else◌, not, ℤ, bit_and}
+use Rattle.std.proofs.Common.{◌≡◌, inl, inr, ℕ, Bool, true, false, ◌==◌, List, [], ◌∷◌, refl, subst, IsTrue, Option, Some, None}
+use Rattle.std.specs.Prelude.{if◌then◌else◌, not, ℤ}
 use Rattle.std.specs.List.{list_all, fold, flat_map}
-use Rattle.std.proofs.lemmas.Bool.{and_parts, cases_Bool, eqb-true}
-use Rattle.std.proofs.lemmas.Nat.{and_assoc}
+use Rattle.std.proofs.lemmas.Bool.{and_parts, cases_Bool}
 use Rattle.std.proofs.lemmas.Option.{none-some, same_Some}
 use Rattle.zl_rights.specs.declared.rights.Rights.{Rights}
 use Rattle.zl_rights.specs.declared.entry.Entry.{Entry}
@@ -11,11 +10,12 @@ use Rattle.zl_rights.specs.declared.status.Status.{Status}
 use Rattle.zl_rights.specs.declared.status.Status.TheVariants as status
 use Rattle.zl_rights.specs.Map.{Map, get, put, without, where_key, has_key}
 use Rattle.zl_rights.specs.World.{World, Process, State, Created, Ready, Blocked, Ended, Gone, SignalOf, PacketAt, Object, Body, ChannelEnd, EventBody, PortBody, JobBody, ProcessBody, Packet}
-use Rattle.zl_rights.specs.Numbers.{bits, within, narrowed, meets, rights_of, default_rights_of, SAME_RIGHTS}
+use Rattle.zl_rights.specs.Numbers.{narrowed, meets, default_rights_of}
 use Rattle.zl_rights.specs.Signals.{lives, active}
 use Rattle.zl_rights.specs.Settle.{Settles, without_others, queue_of}
 use Rattle.zl_rights.specs.Settle.{process_without as process_settled}
 use Rattle.zl_rights.specs.Wakes.{wakes, fired, packets_for, packet_values, woken, made_ready, with_body, woken_by_first, woken_by, woken_at_port, woken_from, woken_if_there, body_with_packets}
+use Rattle.zl_rights.proofs.Narrowed.{narrowed_within}
 use Rattle.zl_code.specs.declared.boot.Statement.{Statement}
 use Rattle.zl_code.specs.declared.boot.Statement.TheVariants as statement
 use Rattle.zl_code.specs.declared.history.Outcome.{Outcome}
@@ -168,28 +168,6 @@ object_is_signaled w k clear set s = record {
 }
 
 -- ---- the rights of new handles
-
-part_of : (a b c : ℕ) → IsTrue (within a b) → IsTrue (within b c) → IsTrue (within a c)
-part_of a b c first second =
-    let ab : bit_and b a ≡ a = eqb-true (bit_and b a) a first in
-    let bc : bit_and c b ≡ b = eqb-true (bit_and c b) b second in
-    eq-eqb (bit_and c a) a (ap (λ (x : ℕ). bit_and c x) (sym ab) ∙ (sym (and_assoc a c b) ∙ (ap (λ (x : ℕ). bit_and x a) bc ∙ ab)))
-
--- a copy has the rights of its original, or a part of them
-narrowed_within : (have : Rights) (asked : ℕ) (granted : Rights) (whole : ℕ) → narrowed have asked ≡ Some granted → IsTrue (within (bits have) whole) → IsTrue (within (bits granted) whole)
-narrowed_within have asked granted whole allowed inside = by_same (cases_Bool (asked == SAME_RIGHTS))
-  where
-    by_part : ((asked == SAME_RIGHTS) ≡ false) → IsTrue (within asked (bits have)) ⊎ (within asked (bits have) ≡ false) → IsTrue (within (bits granted) whole)
-    by_part other (inl part) =
-        let is : rights_of asked ≡ granted = same_Some (rights_of asked) granted (rw (other, part) at allowed) in
-        subst (λ (r : Rights). IsTrue (within (bits r) whole)) is (part_of asked (bits have) whole part inside)
-    by_part other (inr apart) = absurd (none-some granted (rw (other, apart) at allowed))
-
-    by_same : IsTrue (asked == SAME_RIGHTS) ⊎ ((asked == SAME_RIGHTS) ≡ false) → IsTrue (within (bits granted) whole)
-    by_same (inl same) =
-        let is : have ≡ granted = same_Some have granted (rw same at allowed) in
-        subst (λ (r : Rights). IsTrue (within (bits r) whole)) is inside
-    by_same (inr other) = by_part other (cases_Bool (within asked (bits have)))
 
 copy_is_fine : (e : Option Entry) (asked : ℕ) → ((x : Entry) → e ≡ Some x → IsTrue (has_default_rights x)) → IsTrue (list_all has_default_rights (copy_of e asked))
 copy_is_fine None asked fine = refl

@@ -1,33 +1,19 @@
 -- The byte of the needs.
-use Rattle.std.proofs.Common.{◌≡◌, ℕ, zero, suc, ◌<◌, ◌/◌, ◌%◌, Bool, true, false, ◌==◌, ◌&&◌, ◌||◌, not, if◌then◌else◌, List, [], ◌∷◌, refl, ap, ◌∙◌, arith, inl, inr}
+use Rattle.std.proofs.Common.{◌≡◌, ℕ, ◌<◌, ◌/◌, ◌%◌, Bool, true, false, ◌==◌, ◌||◌, not, if◌then◌else◌, List, [], ◌∷◌, refl, ap, ◌∙◌}
 use Rattle.std.specs.Prelude.{nat_lt, map}
-use Rattle.std.proofs.lemmas.Bool.{and_parts, eqb-true, ltb-true, cases_Bool}
+use Rattle.std.proofs.lemmas.Bool.{and_parts, eqb-true, ltb-true}
 use Rattle.zl_rights.specs.declared.policy.Condition.{Condition}
 use Rattle.zl_rights.specs.declared.policy.Condition.TheVariants as condition
 use Rattle.zl_rights.specs.Numbers.{condition_number}
 use Rattle.zl_code.specs.declared.image.Needs.{Needs}
 use Rattle.zl_code.specs.Image.{is_among, need_if, needs_named, needs_value}
 use Rattle.zl_code.specs.Spells.{needs_byte, is_needs_byte, are_needs, ascend_from}
+use Rattle.zl_code.proofs.Below.{all_below, below}
 
 -- the needs whose bits are in the byte
 abbrev pub needs_at : ℕ → List Condition
 needs_at b =
     need_if (b % 2 == 1) condition.NewChannel (need_if (b / 2 % 2 == 1) condition.NewEvent (need_if (b / 8 % 2 == 1) condition.NewPort (need_if (b / 16 % 2 == 1) condition.NewProcess [])))
-
--- the test holds for each number below n
-all_below : (ℕ → Bool) → ℕ → Bool
-all_below test zero = true
-all_below test (suc n) = test n && all_below test n
-
-below : (test : ℕ → Bool) (n b : ℕ) → all_below test n ≡ true → b < n → test b ≡ true
-unfolding all_below
-below test zero b h lt = absurd (omega arith)
-below test (suc n) b h lt =
-    let both = and_parts (test n) (all_below test n) h in
-    elim (cases_Bool (b == n)) as (λ _. test b ≡ true) [
-      | inl here ↦ ap test (eqb-true b n here) ∙ both.0
-      | inr apart ↦ below test n b both.1 (grind arith)
-    ]
 
 again : ℕ → Bool
 again b = not (is_needs_byte b) || (needs_byte (needs_at b) == b)

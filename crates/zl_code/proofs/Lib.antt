@@ -19,6 +19,7 @@ pub mod ImageBytes
 pub mod ImageCells
 pub mod ImagePieces
 pub mod ImageDeclared
+pub mod Below
 pub mod ImageNeeds
 pub mod ImageInstr
 pub mod ImageRanges

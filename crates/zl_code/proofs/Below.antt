@@ -1,0 +1,18 @@
+-- A fact of each number below a bound, by one computation.
+use Rattle.std.proofs.Common.{◌≡◌, ℕ, zero, suc, ◌<◌, Bool, true, ◌==◌, ◌&&◌, ap, ◌∙◌, arith, inl, inr}
+use Rattle.std.proofs.lemmas.Bool.{and_parts, eqb-true, cases_Bool}
+
+-- the test holds for each number below n
+unfoldable pub all_below : (ℕ → Bool) → ℕ → Bool
+all_below test zero = true
+all_below test (suc n) = test n && all_below test n
+
+pub below : (test : ℕ → Bool) (n b : ℕ) → all_below test n ≡ true → b < n → test b ≡ true
+unfolding all_below
+below test zero b h lt = absurd (omega arith)
+below test (suc n) b h lt =
+    let both = and_parts (test n) (all_below test n) h in
+    elim (cases_Bool (b == n)) as (λ _. test b ≡ true) [
+      | inl here ↦ ap test (eqb-true b n here) ∙ both.0
+      | inr apart ↦ below test n b both.1 (grind arith)
+    ]

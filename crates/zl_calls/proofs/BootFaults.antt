@@ -8,13 +8,15 @@ use Rattle.std.proofs.Common.{get_or, ◌≡◌, ◌<◌, ◌≤◌, ℕ, true, 
 use Rattle.std.specs.Prelude.{slice_get, nat_lt, nat_le}
 use Rattle.std.specs.Option.{option_map}
 use Rattle.std.proofs.lemmas.Bool.Decides.{nat_tests}
+use Rattle.std.specs.Bool.{then_some}
+use Rattle.zl_code.specs.First.{first_some}
 use Rattle.zl_rights.specs.Map.{get}
 use Rattle.zl_code.specs.declared.boot.BootCause.{BootCause}
 use Rattle.zl_code.specs.declared.boot.BootCause.TheVariants as cause
 use Rattle.zl_code.specs.declared.boot.Statement.TheVariants as statement
 use Rattle.zl_code.specs.Image.{Library, Program}
 use Rattle.zl_code.specs.Tests.{body_in}
-use Rattle.zl_code.specs.Boot.{boot_fault, is_job_body, is_job, first_cause, cause_if}
+use Rattle.zl_code.specs.Boot.{boot_fault, is_job_body, is_job}
 use Rattle.zl_calls.specs.declared.objects.Body.TheVariants as body
 use Rattle.zl_calls.specs.declared.objects.Object.{Object}
 use Rattle.zl_calls.specs.declared.process.Process.{Process}
@@ -64,7 +66,7 @@ module _ (lib : Library) (ps : List Process) (r : Registry) (job program word : 
 
   pub fault_no_program : length lib ≤ program → fault ≡ Some cause.Unknown
   unfolding boot_fault
-  fault_no_program past = rw (slice_get_past lib program past) (elim (is_job (world_value ps r) job) as (λ b. first_cause (cause_if (not b || true) cause.Unknown ∷ cause_if (nat_le 64 (length (map process_entry ps)) || nat_lt 1024 r.next_koid) cause.Limit ∷ []) ≡ Some cause.Unknown) [ true ↦ refl | false ↦ refl ])
+  fault_no_program past = rw (slice_get_past lib program past) (elim (is_job (world_value ps r) job) as (λ b. first_some (then_some (not b || true) cause.Unknown ∷ then_some (nat_le 64 (length (map process_entry ps)) || nat_lt 1024 r.next_koid) cause.Limit ∷ []) ≡ Some cause.Unknown) [ true ↦ refl | false ↦ refl ])
 
   pub fault_no_job : is_job_object (get r.objects job) ≡ false → fault ≡ Some cause.Unknown
   unfolding boot_fault

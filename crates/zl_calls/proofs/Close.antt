@@ -6,6 +6,8 @@ use Rattle.std.proofs.lemmas.List.Sums.{sum_by-cons}
 use Rattle.std.proofs.lemmas.Nat.{and_le_r}
 use Rattle.std.proofs.lemmas.Bool.{cases_Bool, false≢true}
 use Rattle.std.proofs.lemmas.Option.{none-some}
+use Rattle.std.specs.Bool.{then_some}
+use Rattle.zl_code.specs.First.{first_some}
 use Rattle.zl_rights.specs.declared.status.Status.{Status}
 use Rattle.zl_rights.specs.declared.status.Status.TheVariants as status
 use Rattle.zl_rights.specs.declared.entry.Entry.{Entry}
@@ -20,7 +22,7 @@ use Rattle.zl_code.specs.declared.history.Outcome.{Outcome}
 use Rattle.zl_code.specs.declared.history.Outcome.TheVariants as outcome
 use Rattle.zl_code.specs.Image.{Library}
 use Rattle.zl_code.specs.Request.{Site, site, close}
-use Rattle.zl_code.specs.Tests.{table_of, operand_of, operand, examined, any, first}
+use Rattle.zl_code.specs.Tests.{table_of, operand_of, operand, examined, any}
 use Rattle.zl_code.specs.Refusals.{refusal, handle_operands, listed}
 use Rattle.zl_code.specs.Effects.{on_process, process_without, may_choose, new_handles, remove_all, taken_handles, effect, gives}
 use Rattle.zl_code.specs.Steps.{AtCall, next_for}
@@ -29,7 +31,7 @@ use Rattle.zl_table.specs.Table.{Handles, IsTable}
 use Rattle.zl_table.proofs.MapEdits.{get-without, sorted_without, length-without}
 use Rattle.zl_calls.specs.declared.process.Process.{Process}
 use Rattle.zl_calls.specs.Registry.{Registry, released}
-use Rattle.zl_calls.specs.Parts.{RepliesWith, answer_of, status_if, close_refusal, without_handle, closing}
+use Rattle.zl_calls.specs.Parts.{RepliesWith, answer_of, close_refusal, without_handle, closing}
 use Rattle.zl_calls.specs.World.{process_value, state_value, world_value}
 use Rattle.zl_calls.specs.Lab.{IsLab}
 use Rattle.zl_calls.proofs.Answered.{IsWrite, replied_with}
@@ -52,9 +54,9 @@ module _ (lib : Library) (w : World) (free : NoPolicy w) (p : ℕ) where
   unfolding refusal handle_operands examined operand listed
   close_refused h = by_entry (h == 0) (get (table_of w p) h)
     where
-      by_entry : (zero : Bool) (o : Option Entry) → first (first ((if zero then None else operand_of w p any 0 o) ∷ None ∷ []) ∷ None ∷ []) ≡ answers (status_if (not zero && not (is_some o)) status.BadHandle)
+      by_entry : (zero : Bool) (o : Option Entry) → first_some (first_some ((if zero then None else operand_of w p any 0 o) ∷ None ∷ []) ∷ None ∷ []) ≡ answers (then_some (not zero && not (is_some o)) status.BadHandle)
       by_entry true o = refl
-      by_entry false None = ap (λ (x : Option Outcome). first (first (x ∷ None ∷ []) ∷ None ∷ [])) (fault_answers w free p condition.BadHandle status.BadHandle)
+      by_entry false None = ap (λ (x : Option Outcome). first_some (first_some (x ∷ None ∷ []) ∷ None ∷ [])) (fault_answers w free p condition.BadHandle status.BadHandle)
       by_entry false (Some e) = rw (no_bits (bits e.rights)) refl
 
 -- ---- the relation of calls

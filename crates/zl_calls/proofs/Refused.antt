@@ -2,6 +2,9 @@
 use Rattle.std.proofs.Common.{◌≡◌, ◌+◌, ◌^◌, ℕ, Bool, true, false, not, ◌&&◌, ◌||◌, ◌==◌, [], ◌∷◌, refl, ap, ◌∙◌, Option, Some, None, inl, inr, IsTrue, map}
 use Rattle.std.specs.Prelude.{nat_le}
 use Rattle.std.proofs.lemmas.Bool.{cases_Bool}
+use Rattle.std.specs.Bool.{then_some}
+use Rattle.std.specs.Option.{option_or}
+use Rattle.zl_code.specs.First.{first_some}
 use Rattle.zl_rights.specs.declared.status.Status.{Status}
 use Rattle.zl_rights.specs.declared.status.Status.TheVariants as status
 use Rattle.zl_rights.specs.declared.entry.Entry.{Entry}
@@ -15,7 +18,7 @@ use Rattle.zl_code.specs.declared.history.Outcome.{Outcome}
 use Rattle.zl_code.specs.declared.history.Outcome.TheVariants as outcome
 use Rattle.zl_code.specs.Image.{Library}
 use Rattle.zl_code.specs.Request.{Site, Request, dup, event_create}
-use Rattle.zl_code.specs.Tests.{policy_in, body_in, body_of, faults, creates, parent_of, examined, operand, operand_of, has_room, has_koids, handles_to, table_of, copy_of, with_rights, answer_if, first, any, koid_in}
+use Rattle.zl_code.specs.Tests.{policy_in, body_in, body_of, faults, creates, parent_of, examined, operand, operand_of, has_room, has_koids, handles_to, table_of, copy_of, with_rights, answer_if, any, koid_in}
 use Rattle.zl_code.specs.Refusals.{refusal, handle_operands, listed}
 use Rattle.zl_code.specs.Effects.{gives}
 use Rattle.zl_code.specs.Calls.{Calls, WantsMemory, Refused, grows, replied, taken}
@@ -23,7 +26,7 @@ use Rattle.zl_calls.specs.declared.objects.Body.{Body}
 use Rattle.zl_calls.specs.declared.objects.Body.TheVariants as body
 use Rattle.zl_calls.specs.declared.objects.Object.{Object}
 use Rattle.zl_calls.specs.Registry.{has_place}
-use Rattle.zl_calls.specs.Parts.{IsRefusedBy, dup_refusal, dup_refusal_of, event_refusal, has_room_in, status_if, first_status}
+use Rattle.zl_calls.specs.Parts.{IsRefusedBy, dup_refusal, dup_refusal_of, event_refusal, has_room_in}
 use Rattle.zl_calls.specs.World.{object_entry, body_value}
 
 -- ---- policy
@@ -77,14 +80,14 @@ module _ (lib : Library) (w : World) (p : ℕ) (s : Site) where
 module _ (lib : Library) (w : World) (free : NoPolicy w) (p : ℕ) (objects : Map Object) where
   abbrev dup_with : ℕ → Option Entry → Option Outcome
   dup_with asked o =
-      first (first (operand_of w p any DUPLICATE o ∷ None ∷ [])
+      first_some (first_some (operand_of w p any DUPLICATE o ∷ None ∷ [])
       ∷ None
       ∷ answer_if (is_empty (copy_of o asked)) status.InvalidArgs
       ∷ answer_if (not (has_room w p 1) || nat_le (2 ^ 62) (handles_to w (koid_in o))) status.NoResources
       ∷ [])
 
-  by_tests : (a b c d : Bool) → first (first (answer_if (not a) status.AccessDenied ∷ None ∷ []) ∷ None ∷ answer_if b status.InvalidArgs ∷ answer_if (not c || d) status.NoResources ∷ [])
-      ≡ answers (first_status (status_if (not a) status.AccessDenied) (first_status (status_if b status.InvalidArgs) (status_if (not c || not (not d)) status.NoResources)))
+  by_tests : (a b c d : Bool) → first_some (first_some (answer_if (not a) status.AccessDenied ∷ None ∷ []) ∷ None ∷ answer_if b status.InvalidArgs ∷ answer_if (not c || d) status.NoResources ∷ [])
+      ≡ answers (option_or (then_some (not a) status.AccessDenied) (option_or (then_some b status.InvalidArgs) (then_some (not c || not (not d)) status.NoResources)))
   by_tests false b c d = refl
   by_tests true true c d = refl
   by_tests true false false d = refl
@@ -98,13 +101,13 @@ module _ (lib : Library) (w : World) (free : NoPolicy w) (p : ℕ) (objects : Ma
   dup_refused counts h asked = by_entry (get (table_of w p) h) refl
     where
       by_entry : (o : Option Entry) → get (table_of w p) h ≡ o → dup_with asked o ≡ answers (dup_refusal_of (table_of w p) objects asked o)
-      by_entry None is = ap (λ (x : Option Outcome). first (first (x ∷ None ∷ []) ∷ None ∷ answer_if true status.InvalidArgs ∷ answer_if (not (has_room w p 1) || nat_le (2 ^ 62) (handles_to w 0)) status.NoResources ∷ [])) (fault_answers w free p condition.BadHandle status.BadHandle)
+      by_entry None is = ap (λ (x : Option Outcome). first_some (first_some (x ∷ None ∷ []) ∷ None ∷ answer_if true status.InvalidArgs ∷ answer_if (not (has_room w p 1) || nat_le (2 ^ 62) (handles_to w 0)) status.NoResources ∷ [])) (fault_answers w free p condition.BadHandle status.BadHandle)
       by_entry (Some e) is = rw (counts h e is) (by_tests (within DUPLICATE (bits e.rights)) (is_empty (with_rights e (narrowed e.rights asked))) (has_room_in (table_of w p)) (nat_le (2 ^ 62) (handles_to w e.koid)))
 
   pub event_refused : refusal lib w p event_create ≡ answers (event_refusal (table_of w p) w.next_koid)
   unfolding refusal handle_operands examined listed has_room has_koids
   event_refused = rw (may_create w free p condition.NewEvent) (by_test (has_room_in (table_of w p) && nat_le (w.next_koid + 1) (2 ^ 62)))
     where
-      by_test : (b : Bool) → first (None ∷ None ∷ answer_if (not b) status.NoResources ∷ []) ≡ answers (status_if (not b) status.NoResources)
+      by_test : (b : Bool) → first_some (None ∷ None ∷ answer_if (not b) status.NoResources ∷ []) ≡ answers (then_some (not b) status.NoResources)
       by_test true = refl
       by_test false = refl

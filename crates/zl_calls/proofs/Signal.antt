@@ -1,6 +1,9 @@
 -- signal, from its table and objects to a step.
 use Rattle.std.proofs.Common.{◌≡◌, ℕ, Bool, true, false, not, ◌==◌, List, [], ◌∷◌, map, refl, sym, ap, ◌∙◌, subst, Option, Some, None, inl, inr, IsTrue, arith}
 use Rattle.std.proofs.lemmas.Bool.{cases_Bool, eqb-true}
+use Rattle.std.specs.Bool.{then_some}
+use Rattle.std.specs.Option.{option_or}
+use Rattle.zl_code.specs.First.{first_some}
 use Rattle.zl_rights.specs.declared.status.Status.{Status}
 use Rattle.zl_rights.specs.declared.status.Status.TheVariants as status
 use Rattle.zl_rights.specs.declared.entry.Entry.{Entry}
@@ -14,7 +17,7 @@ use Rattle.zl_code.specs.declared.history.Outcome.{Outcome}
 use Rattle.zl_code.specs.declared.history.Outcome.TheVariants as outcome
 use Rattle.zl_code.specs.Image.{Library}
 use Rattle.zl_code.specs.Request.{Site, site, signal}
-use Rattle.zl_code.specs.Tests.{table_of, body_of, body_in, operand_of, operand, examined, any, first, answer_if, koid_in, handles_to}
+use Rattle.zl_code.specs.Tests.{table_of, body_of, body_in, operand_of, operand, examined, any, answer_if, koid_in, handles_to}
 use Rattle.zl_code.specs.Refusals.{refusal, handle_operands, listed, settable_of, may_change}
 use Rattle.zl_code.specs.Effects.{on_object, object_changed, may_choose, new_handles, remove_all, taken_handles, effect, gives}
 use Rattle.zl_code.specs.Steps.{AtCall, next_for}
@@ -25,7 +28,7 @@ use Rattle.zl_calls.specs.declared.objects.Body.TheVariants as body
 use Rattle.zl_calls.specs.declared.objects.Object.{Object}
 use Rattle.zl_calls.specs.declared.process.Process.{Process}
 use Rattle.zl_calls.specs.Registry.{Registry, raised_changed, changing, is_kept}
-use Rattle.zl_calls.specs.Parts.{RepliesWith, signal_refusal, signal_refusal_of, first_status, status_if, settable_at, may_change_at, SignalsObject}
+use Rattle.zl_calls.specs.Parts.{RepliesWith, signal_refusal, signal_refusal_of, settable_at, may_change_at, SignalsObject}
 use Rattle.zl_calls.specs.World.{process_entry, process_value, object_entry, object_value, body_value, state_value, world_value}
 use Rattle.zl_calls.specs.Lab.{IsLab, IsNamed, AgreesOn, is_in_job}
 use Rattle.zl_calls.proofs.Answered.{IsWrite, seen_entry, replied_with, same_world}
@@ -67,9 +70,9 @@ settable_named os e named = rw (get_seen os e.koid, named.there, named.kind) (by
 
 module _ (lib : Library) (w : World) (free : NoPolicy w) (p : ℕ) where
   abbrev signal_with : ℕ → ℕ → Option Entry → Option Outcome
-  signal_with clear set o = first (first (operand_of w p any SIGNAL o ∷ None ∷ []) ∷ None ∷ answer_if (not (may_change (body_of w (koid_in o)) clear set)) status.InvalidArgs ∷ [])
+  signal_with clear set o = first_some (first_some (operand_of w p any SIGNAL o ∷ None ∷ []) ∷ None ∷ answer_if (not (may_change (body_of w (koid_in o)) clear set)) status.InvalidArgs ∷ [])
 
-  by_tests : (a b : Bool) → first (first (answer_if (not a) status.AccessDenied ∷ None ∷ []) ∷ None ∷ answer_if (not b) status.InvalidArgs ∷ []) ≡ answers (first_status (status_if (not a) status.AccessDenied) (status_if (not b) status.InvalidArgs))
+  by_tests : (a b : Bool) → first_some (first_some (answer_if (not a) status.AccessDenied ∷ None ∷ []) ∷ None ∷ answer_if (not b) status.InvalidArgs ∷ []) ≡ answers (option_or (then_some (not a) status.AccessDenied) (then_some (not b) status.InvalidArgs))
   by_tests false b = refl
   by_tests true false = refl
   by_tests true true = refl
@@ -80,7 +83,7 @@ module _ (lib : Library) (w : World) (free : NoPolicy w) (p : ℕ) where
   signal_refused settable h clear set = by_entry (get (table_of w p) h) refl
     where
       by_entry : (o : Option Entry) → get (table_of w p) h ≡ o → signal_with clear set o ≡ answers (signal_refusal_of clear set o)
-      by_entry None is = ap (λ (x : Option Outcome). first (first (x ∷ None ∷ []) ∷ None ∷ answer_if (not (may_change (body_of w 0) clear set)) status.InvalidArgs ∷ [])) (fault_answers w free p condition.BadHandle status.BadHandle)
+      by_entry None is = ap (λ (x : Option Outcome). first_some (first_some (x ∷ None ∷ []) ∷ None ∷ answer_if (not (may_change (body_of w 0) clear set)) status.InvalidArgs ∷ [])) (fault_answers w free p condition.BadHandle status.BadHandle)
       by_entry (Some e) is = rw (settable h e is) (by_tests (within SIGNAL (bits e.rights)) (may_change_at e.kind clear set))
 
 -- ---- the relation of calls

@@ -1,6 +1,8 @@
 -- Which calls can be answered that memory was refused.
 use Rattle.std.proofs.Common.{◌≡◌, ℕ, ℤ, Bool, true, false, not, ◌&&◌, Option, Some, None, Result, Ok, Err, refl, sym, ◌∙◌, IsTrue, ◌==◌}
 use Rattle.std.specs.Prelude.{⊤, IfErr}
+use Rattle.std.specs.Bool.{then_some}
+use Rattle.std.specs.Option.{option_or}
 use Rattle.zl_rights.specs.declared.status.Status.{Status}
 use Rattle.zl_rights.specs.declared.status.Status.TheVariants as status
 use Rattle.zl_rights.specs.declared.entry.Entry.{Entry}
@@ -14,7 +16,7 @@ use Rattle.zl_code.specs.Request.{name_of}
 use Rattle.zl_code.specs.Local.{reg}
 use Rattle.zl_calls.specs.declared.process.Process.{Process}
 use Rattle.zl_calls.specs.Acted.{Acted}
-use Rattle.zl_calls.specs.Parts.{answer_of, answer_to, status_if, first_status, signal_refusal, signal_refusal_of, may_change_at}
+use Rattle.zl_calls.specs.Parts.{answer_of, answer_to, signal_refusal, signal_refusal_of, may_change_at}
 use Rattle.zl_calls.specs.Registry.{Registry}
 use Rattle.zl_calls.specs.Steps.{takes_memory}
 
@@ -25,7 +27,7 @@ Wants o = o ≡ outcome.Answered status.NoMemory
 wants_status : (s : Status) → Wants (outcome.Answered s) → s ≡ status.NoMemory
 wants_status s wants = cc
 
-closes_without : (zero live : Bool) → answer_of (status_if (not zero && not live) status.BadHandle) ≡ status.NoMemory → ⊥
+closes_without : (zero live : Bool) → answer_of (then_some (not zero && not live) status.BadHandle) ≡ status.NoMemory → ⊥
 closes_without true live wants = cc
 closes_without false true wants = cc
 closes_without false false wants = cc
@@ -34,7 +36,7 @@ signals_without : (s : Status) (clear set : ℕ) (o : Option Entry) → signal_r
 signals_without s clear set None is wants = cc
 signals_without s clear set (Some e) is wants = by_tests (within SIGNAL (bits e.rights)) (may_change_at e.kind clear set) is
   where
-    by_tests : (a b : Bool) → first_status (status_if (not a) status.AccessDenied) (status_if (not b) status.InvalidArgs) ≡ Some s → ⊥
+    by_tests : (a b : Bool) → option_or (then_some (not a) status.AccessDenied) (then_some (not b) status.InvalidArgs) ≡ Some s → ⊥
     by_tests false b is = cc
     by_tests true false is = cc
     by_tests true true is = cc

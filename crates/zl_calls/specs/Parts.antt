@@ -1,5 +1,7 @@
 -- What calls do to the table of their caller and to the objects.
-use Rattle.std.specs.Prelude.{ℕ, ◌≡◌, ◌<◌, IsTrue, ◌+◌, ◌^◌, Bool, true, false, ◌&&◌, ◌||◌, not, nat_le, List, [], ◌∷◌, length, Option, Some, None, Result, Ok, Err, ℤ, ⊤, ◌==◌, if◌then◌else◌}
+use Rattle.std.specs.Prelude.{ℕ, ◌≡◌, ◌<◌, IsTrue, ◌+◌, ◌^◌, Bool, ◌&&◌, ◌||◌, not, nat_le, List, [], ◌∷◌, length, Option, Some, None, Result, Ok, Err, ℤ, ⊤, ◌==◌, if◌then◌else◌}
+use Rattle.std.specs.Bool.{then_some}
+use Rattle.std.specs.Option.{option_or}
 use Rattle.zl_rights.specs.declared.kind.Kind.{Kind}
 use Rattle.zl_rights.specs.declared.kind.Kind.TheVariants as kind
 use Rattle.zl_rights.specs.declared.status.Status.{Status}
@@ -22,16 +24,6 @@ use Rattle.zl_calls.specs.declared.process.Process.{Process}
 use Rattle.zl_calls.specs.Registry.{Registry, has_place, with_new, holding, changing, released, process_ended, Closes}
 
 -- ---- refusals
-
--- this status, where the test passes
-abbrev pub status_if : Bool → Status → Option Status
-status_if true s = Some s
-status_if false s = None
-
--- the first that is there
-abbrev pub first_status : Option Status → Option Status → Option Status
-first_status None later = later
-first_status (Some s) later = Some s
 
 -- the status is the refusal; where nothing refuses the call it is the want of memory
 abbrev pub IsRefusedBy : Option Status → Status → Type 0
@@ -82,7 +74,7 @@ answer_to (Err s) = s
 
 -- the answer of close other than OK; 0 passes
 abbrev pub close_refusal : Map Entry → ℕ → Option Status
-close_refusal entries value = status_if (not (value == 0) && not (has_key entries value)) status.BadHandle
+close_refusal entries value = then_some (not (value == 0) && not (has_key entries value)) status.BadHandle
 
 -- the table without the handle
 abbrev pub without_handle : Handles → ℕ → Handles
@@ -99,9 +91,9 @@ closing r (Some e) = released r e.koid
 abbrev pub dup_refusal_of : Map Entry → Map Object → ℕ → Option Entry → Option Status
 dup_refusal_of entries objects asked None = Some status.BadHandle
 dup_refusal_of entries objects asked (Some e) =
-    first_status (status_if (not (within DUPLICATE (bits e.rights))) status.AccessDenied)
-    (first_status (status_if (is_empty (with_rights e (narrowed e.rights asked))) status.InvalidArgs)
-    (status_if (not (has_room_in entries) || not (has_place (get objects e.koid))) status.NoResources))
+    option_or (then_some (not (within DUPLICATE (bits e.rights))) status.AccessDenied)
+    (option_or (then_some (is_empty (with_rights e (narrowed e.rights asked))) status.InvalidArgs)
+    (then_some (not (has_room_in entries) || not (has_place (get objects e.koid))) status.NoResources))
 
 -- the answer of dup other than OK
 abbrev pub dup_refusal : Map Entry → Map Object → ℕ → ℕ → Option Status
@@ -123,7 +115,7 @@ pub record Dups (t : Handles) (r : Registry) (value asked made : ℕ) (t2 : Hand
 
 -- the answer of event_create other than OK
 abbrev pub event_refusal : Map Entry → ℕ → Option Status
-event_refusal entries next_koid = status_if (not (has_room_in entries && nat_le (next_koid + 1) (2 ^ 62))) status.NoResources
+event_refusal entries next_koid = then_some (not (has_room_in entries && nat_le (next_koid + 1) (2 ^ 62))) status.NoResources
 
 -- a handle to a new event gets the value made
 pub record CreatesEvent (t : Handles) (r : Registry) (made : ℕ) (t2 : Handles) (r2 : Registry) : Type 0 where
@@ -148,8 +140,8 @@ may_change_at k clear set = within clear (settable_at k) && within set (settable
 abbrev pub signal_refusal_of : ℕ → ℕ → Option Entry → Option Status
 signal_refusal_of clear set None = Some status.BadHandle
 signal_refusal_of clear set (Some e) =
-    first_status (status_if (not (within SIGNAL (bits e.rights))) status.AccessDenied)
-    (status_if (not (may_change_at e.kind clear set)) status.InvalidArgs)
+    option_or (then_some (not (within SIGNAL (bits e.rights))) status.AccessDenied)
+    (then_some (not (may_change_at e.kind clear set)) status.InvalidArgs)
 
 -- the answer of signal other than OK
 abbrev pub signal_refusal : Map Entry → ℕ → ℕ → ℕ → Option Status

@@ -1,13 +1,14 @@
 //! The system calls, each over its process and the objects, with the answer as the result.
 
 ghost use Rattle.std.specs.Prelude.{◌≡◌, ◌<◌, ◌^◌, ◌==◌, not, [], ◌∷◌, length, IfOk, IfErr, OnOk, OnErr, Some, None, if◌then◌else◌};
+ghost use Rattle.std.specs.Bool.{then_some};
 ghost use Rattle.zl_rights.specs.Numbers.{bits, within};
 ghost use Rattle.zl_rights.specs.Map.{get};
 ghost use Rattle.zl_code.specs.Effects.{signed_word};
 ghost use Rattle.zl_code.specs.Local.{reg};
 ghost use Rattle.zl_code.specs.Request.{site, close, dup, event_create, signal};
 ghost use Rattle.zl_table.specs.Table.{Inserts, looked_up};
-ghost use Rattle.zl_calls.specs.Parts.{IsRefusedBy, status_if, Replies, RepliesWith, answer_of, answer_to, close_refusal, without_handle, closing, Dups, dup_refusal, CreatesEvent, event_refusal, settable_at, signal_refusal, SignalsObject, Ends};
+ghost use Rattle.zl_calls.specs.Parts.{IsRefusedBy, Replies, RepliesWith, answer_of, answer_to, close_refusal, without_handle, closing, Dups, dup_refusal, CreatesEvent, event_refusal, settable_at, signal_refusal, SignalsObject, Ends};
 
 use crate::objects::{Body, Objects};
 use crate::process::Process;
@@ -56,7 +57,7 @@ fn close_value(table: &mut Table, objects: &mut Objects, value: u64) -> Status
 
 /// What it is answered to close a value that isn't live.
 fn unless_zero(value: u64) -> Status
-    ensures { result ≡ answer_of (status_if (not (value == 0)) Status.BadHandle) }
+    ensures { result ≡ answer_of (then_some (not (value == 0)) Status.BadHandle) }
 {
     if value == 0 {
         Status::Ok

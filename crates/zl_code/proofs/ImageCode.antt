@@ -4,20 +4,21 @@ use Rattle.std.specs.List.{list_all}
 use Rattle.std.proofs.lemmas.Bool.{and_from}
 use Rattle.std.proofs.lemmas.List.{map_more, map-append, take_more}
 use Rattle.std.proofs.lemmas.List.Folds.{list_all-append}
+use Rattle.zl_code.specs.First.{first_some}
 use Rattle.zl_code.specs.declared.image.DecodeFault.{DecodeFault}
-use Rattle.zl_code.specs.Spells.{first_of}
 
-first_of-none : (fault : Option DecodeFault) (rest : List (Option DecodeFault)) → first_of (fault ∷ rest) ≡ None → (fault ≡ None) × (first_of rest ≡ None)
+
+first_of-none : (fault : Option DecodeFault) (rest : List (Option DecodeFault)) → first_some (fault ∷ rest) ≡ None → (fault ≡ None) × (first_some rest ≡ None)
 first_of-none None rest h = (refl, h)
 first_of-none (Some f) rest h = absurd cc
 
-first_of-append : (xs ys : List (Option DecodeFault)) → first_of xs ≡ None → first_of (xs ++ ys) ≡ first_of ys
+first_of-append : (xs ys : List (Option DecodeFault)) → first_some xs ≡ None → first_some (xs ++ ys) ≡ first_some ys
 first_of-append [] ys h = refl
 first_of-append (None ∷ xs) ys h = first_of-append xs ys h
 first_of-append (Some f ∷ xs) ys h = absurd cc
 
 -- the first fault is that of the first piece with one
-pub first_fault_at : (f : List ℕ → Option DecodeFault) (pieces : List (List ℕ)) (i : ℕ) (d : List ℕ) (fault : DecodeFault) → i < length pieces → first_of (map f (take i pieces)) ≡ None → f (get_or pieces i d) ≡ Some fault → first_of (map f pieces) ≡ Some fault
+pub first_fault_at : (f : List ℕ → Option DecodeFault) (pieces : List (List ℕ)) (i : ℕ) (d : List ℕ) (fault : DecodeFault) → i < length pieces → first_some (map f (take i pieces)) ≡ None → f (get_or pieces i d) ≡ Some fault → first_some (map f pieces) ≡ Some fault
 first_fault_at f [] i d fault lt h here = absurd (omega arith)
 first_fault_at f (x ∷ xs) zero d fault lt h here = rw here refl
 first_fault_at f (x ∷ xs) (suc i) d fault lt h here =
@@ -25,8 +26,8 @@ first_fault_at f (x ∷ xs) (suc i) d fault lt h here =
     rw parts.0 (first_fault_at f xs i d fault (omega arith) parts.1 here)
 
 -- one more piece without a fault
-pub no_fault_more : (f : List ℕ → Option DecodeFault) (pieces : List (List ℕ)) (i : ℕ) (d : List ℕ) → i < length pieces → first_of (map f (take i pieces)) ≡ None → f (get_or pieces i d) ≡ None → first_of (map f (take (i + 1) pieces)) ≡ None
-no_fault_more f pieces i d lt h here = ap first_of (map_more f pieces i d lt) ∙ first_of-append (map f (take i pieces)) (f (get_or pieces i d) ∷ []) h ∙ rw here refl
+pub no_fault_more : (f : List ℕ → Option DecodeFault) (pieces : List (List ℕ)) (i : ℕ) (d : List ℕ) → i < length pieces → first_some (map f (take i pieces)) ≡ None → f (get_or pieces i d) ≡ None → first_some (map f (take (i + 1) pieces)) ≡ None
+no_fault_more f pieces i d lt h here = ap first_some (map_more f pieces i d lt) ∙ first_of-append (map f (take i pieces)) (f (get_or pieces i d) ∷ []) h ∙ rw here refl
 
 -- one more that has the bytes of its piece
 pub bytes_more : {X : Type 0} (spell : X → List ℕ) (xs : List X) (x : X) (pieces : List (List ℕ)) (i : ℕ) (d : List ℕ) → i < length pieces → map spell xs ≡ take i pieces → spell x ≡ get_or pieces i d → map spell (xs ++ x ∷ []) ≡ take (i + 1) pieces

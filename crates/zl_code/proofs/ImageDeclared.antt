@@ -5,13 +5,14 @@ use Rattle.std.specs.List.{list_all}
 use Rattle.std.proofs.lemmas.Bool.{and_parts, and_from, eqb-true, ne_eqb, leb-true}
 use Rattle.std.proofs.lemmas.List.{length-drop, take_all}
 use Rattle.std.proofs.lemmas.Nat.{and_le_l}
+use Rattle.std.specs.Bool.{then_some}
 use Rattle.zl_rights.specs.declared.kind.Kind.{Kind}
 use Rattle.zl_rights.specs.declared.kind.Kind.TheVariants as kind
 use Rattle.zl_rights.specs.Numbers.{bits, rights_of, within, kind_number}
 use Rattle.zl_code.specs.declared.image.DecodeFault.TheVariants as faults
 use Rattle.zl_code.specs.declared.image.Start.{Start}
 use Rattle.zl_code.specs.declared.image.SlotArray.{SlotArray}
-use Rattle.zl_code.specs.Spells.{number_of, number_at, bytes_of, kind_byte, kind_at, rights_allowed, allows, has_rights, has_length, start_bytes, slot_bytes, is_start_in_range, is_slot_in_range, start_fault, slot_fault, fault_if}
+use Rattle.zl_code.specs.Spells.{number_of, number_at, bytes_of, kind_byte, kind_at, rights_allowed, allows, has_rights, has_length, start_bytes, slot_bytes, is_start_in_range, is_slot_in_range, start_fault, slot_fault}
 use Rattle.zl_code.proofs.ImageBytes.{IsBytes, bytes_of-number_at, number_of-bytes_of, parts_at}
 
 pub has_rights_allowed : (bytes : List ℕ) (k : Option Kind) (b : Bool) → kind_at (slice_index bytes 0) ≡ Some k → within (number_at bytes 4 4) (rights_allowed k) ≡ b → has_rights bytes ≡ b
@@ -77,16 +78,16 @@ slot_in_range-read bytes s there size allowed =
 
 -- ---- faults
 
-pub start_fault-by : (bytes : List ℕ) (zero there : Bool) → list_all (λ b. b == 0) (take 3 (drop 1 bytes)) ≡ zero → has_rights bytes ≡ there → start_fault bytes ≡ fault_if (not (zero && there)) faults.BadHeader
+pub start_fault-by : (bytes : List ℕ) (zero there : Bool) → list_all (λ b. b == 0) (take 3 (drop 1 bytes)) ≡ zero → has_rights bytes ≡ there → start_fault bytes ≡ then_some (not (zero && there)) faults.BadHeader
 unfolding start_fault
-start_fault-by bytes zero there h e = λ i. fault_if (not (h i && e i)) faults.BadHeader
+start_fault-by bytes zero there h e = λ i. then_some (not (h i && e i)) faults.BadHeader
 
 pub start_fault-zero : (bytes : List ℕ) → list_all (λ b. b == 0) (take 3 (drop 1 bytes)) ≡ false → start_fault bytes ≡ Some faults.BadHeader
 start_fault-zero bytes h = start_fault-by bytes false _ h refl
 
-pub slot_fault-by : (bytes : List ℕ) (long there : Bool) → has_length bytes ≡ long → has_rights bytes ≡ there → slot_fault bytes ≡ fault_if (not (long && there)) faults.BadHeader
+pub slot_fault-by : (bytes : List ℕ) (long there : Bool) → has_length bytes ≡ long → has_rights bytes ≡ there → slot_fault bytes ≡ then_some (not (long && there)) faults.BadHeader
 unfolding slot_fault
-slot_fault-by bytes long there h e = λ i. fault_if (not (h i && e i)) faults.BadHeader
+slot_fault-by bytes long there h e = λ i. then_some (not (h i && e i)) faults.BadHeader
 
 pub slot_fault-length : (bytes : List ℕ) → has_length bytes ≡ false → slot_fault bytes ≡ Some faults.BadHeader
 slot_fault-length bytes h = slot_fault-by bytes false _ h refl

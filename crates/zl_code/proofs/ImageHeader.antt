@@ -5,10 +5,12 @@ use Rattle.std.specs.List.{starts_with}
 use Rattle.std.specs.Cmp.Lexicographic.{pointwise}
 use Rattle.std.proofs.lemmas.Bool.{and_parts, ltb-false, le-ltb, leb-true, eqb-true, eq-eqb}
 use Rattle.std.proofs.lemmas.List.{length-drop, get_or-drop}
+use Rattle.std.specs.Bool.{then_some}
+use Rattle.zl_code.specs.First.{first_some}
 use Rattle.zl_code.specs.declared.image.DecodeFault.{DecodeFault}
 use Rattle.zl_code.specs.declared.image.DecodeFault.TheVariants as faults
 use Rattle.zl_code.specs.Image.{Image}
-use Rattle.zl_code.specs.Spells.{header, header_fault, is_header_in_range, is_needs_byte, needs_byte, fault_if, first_of, magic, number_at, bytes_of, count_at, starts_at, slots_at, length_at, is_raw_at}
+use Rattle.zl_code.specs.Spells.{header, header_fault, is_header_in_range, is_needs_byte, needs_byte, magic, number_at, bytes_of, count_at, starts_at, slots_at, length_at, is_raw_at}
 use Rattle.zl_code.proofs.ImageBytes.{IsBytes, bytes_of-number_at, parts_at}
 
 -- what bytes without a fault of the header keep
@@ -19,7 +21,7 @@ pub record HeaderFits (bytes : List ℕ) : Type 0 where
   pub in_range : is_header_in_range bytes ≡ true
   pub len : length bytes ≡ length_at bytes
 
-no_fault_if : (b : Bool) (f : DecodeFault) (rest : List (Option DecodeFault)) → first_of (fault_if b f ∷ rest) ≡ None → (b ≡ false) × (first_of rest ≡ None)
+no_fault_if : (b : Bool) (f : DecodeFault) (rest : List (Option DecodeFault)) → first_some (then_some b f ∷ rest) ≡ None → (b ≡ false) × (first_some rest ≡ None)
 no_fault_if true f rest h = absurd cc
 no_fault_if false f rest h = (refl, h)
 

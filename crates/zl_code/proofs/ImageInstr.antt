@@ -4,13 +4,15 @@ use Rattle.std.specs.Prelude.{slice_index, IfSome}
 use Rattle.std.specs.List.{list_all}
 use Rattle.std.proofs.lemmas.Bool.{and_parts, and_from, eqb-true, eq-eqb}
 use Rattle.std.proofs.lemmas.List.{take_all, length-take, length-drop}
+use Rattle.std.specs.Bool.{then_some}
+use Rattle.zl_code.specs.First.{first_some}
 use Rattle.zl_code.specs.declared.instr.Instr.TheVariants as instr
 use Rattle.zl_code.specs.declared.image.DecodeFault.{DecodeFault}
 use Rattle.zl_code.specs.declared.image.DecodeFault.TheVariants as faults
 use Rattle.zl_code.specs.declared.layout.Ending.{Ending}
 use Rattle.zl_code.specs.declared.layout.Ending.TheVariants as ending
 use Rattle.zl_code.specs.Instructions.{Layout, layout_of}
-use Rattle.zl_code.specs.Spells.{Reading, reading_of, is_instr_in_range, are_registers, names_registers, is_ending_clear, is_unused_zero, ending_bytes, row_bytes, seven, instr_fault, fault_by, fault_if, first_of, registers_at, number_at, bytes_of}
+use Rattle.zl_code.specs.Spells.{Reading, reading_of, is_instr_in_range, are_registers, names_registers, is_ending_clear, is_unused_zero, ending_bytes, row_bytes, seven, instr_fault, fault_by, registers_at, number_at, bytes_of}
 use Rattle.zl_code.proofs.ImageBytes.{IsBytes, bytes_of-number_at, parts_at, list_all-from_IsBytes}
 
 -- numbers of which those from the nth on are 0 are the first n and zeros
@@ -80,7 +82,7 @@ row_bytes-read bytes opcode l r spelled len fits first from unused e =
 
 -- ---- faults
 
-pub instr_fault-unknown : (raw : Bool) (bytes : List ℕ) → layout_of (slice_index bytes 0) ≡ None → instr_fault raw bytes ≡ fault_if (not raw) faults.UnknownOp
+pub instr_fault-unknown : (raw : Bool) (bytes : List ℕ) → layout_of (slice_index bytes 0) ≡ None → instr_fault raw bytes ≡ then_some (not raw) faults.UnknownOp
 unfolding instr_fault
 instr_fault-unknown raw bytes h = ap (fault_by raw (reading_of bytes)) h
 
@@ -99,15 +101,15 @@ instr_fault-named raw bytes l r h good from bad =
 
 -- with registers in their range, a fault is a set field that isn't used
 pub instr_fault-known : (raw : Bool) (bytes : List ℕ) (l : Layout) (r : Reading) (unused : Bool) → layout_of (slice_index bytes 0) ≡ Some l → are_registers (registers_at bytes) ≡ true
-    → IsReadFrom bytes r → names_registers l.ending r ≡ true → is_unused_zero l r ≡ unused → instr_fault raw bytes ≡ fault_if (not unused) faults.UnusedField
+    → IsReadFrom bytes r → names_registers l.ending r ≡ true → is_unused_zero l r ≡ unused → instr_fault raw bytes ≡ then_some (not unused) faults.UnusedField
 unfolding instr_fault
 instr_fault-known raw bytes l r unused h good from named e =
     let read = as_read bytes r from in
     let there : names_registers l.ending (reading_of bytes) ≡ true = sym (ap (names_registers l.ending) read) ∙ named in
     let same : is_unused_zero l (reading_of bytes) ≡ unused = sym (ap (is_unused_zero l) read) ∙ e in
-    ap (fault_by raw (reading_of bytes)) h ∙ rw (good, there, same) (only (fault_if (not unused) faults.UnusedField))
+    ap (fault_by raw (reading_of bytes)) h ∙ rw (good, there, same) (only (then_some (not unused) faults.UnusedField))
   where
-    only : (f : Option DecodeFault) → first_of (f ∷ []) ≡ f
+    only : (f : Option DecodeFault) → first_some (f ∷ []) ≡ f
     only None = refl
     only (Some f) = refl
 

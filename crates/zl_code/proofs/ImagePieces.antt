@@ -5,8 +5,9 @@ use Rattle.std.specs.Simd.{first_chunks}
 use Rattle.std.proofs.lemmas.Bool.{and_parts}
 use Rattle.std.proofs.lemmas.List.{length-append, length-drop, take-append-drop, drop-drop, take_at, drop_at, take_rest}
 use Rattle.std.proofs.lemmas.List.Concat.{flat_map-cons}
+use Rattle.zl_code.specs.First.{first_some}
 use Rattle.zl_code.specs.declared.image.DecodeFault.{DecodeFault}
-use Rattle.zl_code.specs.Spells.{pieces, first_of}
+use Rattle.zl_code.specs.Spells.{pieces}
 
 -- ---- chunks
 
@@ -85,7 +86,7 @@ pub record Parted {X : Type 0} (size : ℕ) (spell : X → List ℕ) (fault : Li
   pub len : length (flat_map spell xs) ≡ span size (length xs)
   pub pieces_are : pieces size (length xs) (flat_map spell xs ++ behind) ≡ map spell xs
   pub rest_is : after size (length xs) (flat_map spell xs ++ behind) ≡ behind
-  pub no_fault : first_of (map fault (map spell xs)) ≡ None
+  pub no_fault : first_some (map fault (map spell xs)) ≡ None
   pub again : map read (map spell xs) ≡ xs
 
 -- what one such thing keeps

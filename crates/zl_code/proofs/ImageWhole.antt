@@ -4,10 +4,11 @@ use Rattle.std.specs.Prelude.{nat_le, nat_lt, slice_index}
 use Rattle.std.specs.List.{list_all, flat_map}
 use Rattle.std.proofs.lemmas.Bool.{and_from, le-leb, lt-ltb}
 use Rattle.std.proofs.lemmas.List.{length-map, length-append, drop-drop, drop_all}
+use Rattle.zl_code.specs.First.{first_some}
 use Rattle.zl_code.specs.declared.image.DecodeFault.{DecodeFault}
 use Rattle.zl_code.specs.declared.image.DecodeFault.TheVariants as faults
 use Rattle.zl_code.specs.Image.{Image}
-use Rattle.zl_code.specs.Spells.{header, spelling, Spells, needs_byte, are_needs, is_in_range, is_start_in_range, is_slot_in_range, is_instr_in_range, start_bytes, slot_bytes, instr_bytes, start_fault, slot_fault, instr_fault, header_fault, first_fault, first_of, pieces, start_pieces, slot_pieces, code_pieces, number_at, count_at, starts_at, slots_at, is_raw_at}
+use Rattle.zl_code.specs.Spells.{header, spelling, Spells, needs_byte, are_needs, is_in_range, is_start_in_range, is_slot_in_range, is_instr_in_range, start_bytes, slot_bytes, instr_bytes, start_fault, slot_fault, instr_fault, header_fault, first_fault, pieces, start_pieces, slot_pieces, code_pieces, number_at, count_at, starts_at, slots_at, is_raw_at}
 use Rattle.zl_code.proofs.ImageBytes.{IsBytes, number_of-bytes_of}
 use Rattle.zl_code.proofs.ImageNeeds.{needs_at, needs_fit}
 use Rattle.zl_code.proofs.ImageDeclared.{start_fits, slots_fit, read_start, read_slots}
@@ -110,20 +111,20 @@ unfolding first_fault
 first_fault-header bytes fault h = rw h refl
 
 -- the faults of the parts behind the header, up to one that has some
-pub first_fault-starts : (bytes : List ℕ) (fault : DecodeFault) → header_fault bytes ≡ None → first_of (map start_fault (start_pieces bytes)) ≡ Some fault → first_fault bytes ≡ Some fault
+pub first_fault-starts : (bytes : List ℕ) (fault : DecodeFault) → header_fault bytes ≡ None → first_some (map start_fault (start_pieces bytes)) ≡ Some fault → first_fault bytes ≡ Some fault
 unfolding first_fault
 first_fault-starts bytes fault none h = rw (none, h) refl
 
-pub first_fault-slots : (bytes : List ℕ) (fault : DecodeFault) → header_fault bytes ≡ None → first_of (map start_fault (start_pieces bytes)) ≡ None → first_of (map slot_fault (slot_pieces bytes)) ≡ Some fault → first_fault bytes ≡ Some fault
+pub first_fault-slots : (bytes : List ℕ) (fault : DecodeFault) → header_fault bytes ≡ None → first_some (map start_fault (start_pieces bytes)) ≡ None → first_some (map slot_fault (slot_pieces bytes)) ≡ Some fault → first_fault bytes ≡ Some fault
 unfolding first_fault
 first_fault-slots bytes fault none starts h = rw (none, starts, h) refl
 
-pub first_fault-code : (bytes : List ℕ) (fault : Option DecodeFault) → header_fault bytes ≡ None → first_of (map start_fault (start_pieces bytes)) ≡ None → first_of (map slot_fault (slot_pieces bytes)) ≡ None
-    → first_of (map (instr_fault (is_raw_at bytes)) (code_pieces bytes)) ≡ fault → first_fault bytes ≡ fault
+pub first_fault-code : (bytes : List ℕ) (fault : Option DecodeFault) → header_fault bytes ≡ None → first_some (map start_fault (start_pieces bytes)) ≡ None → first_some (map slot_fault (slot_pieces bytes)) ≡ None
+    → first_some (map (instr_fault (is_raw_at bytes)) (code_pieces bytes)) ≡ fault → first_fault bytes ≡ fault
 unfolding first_fault
 first_fault-code bytes fault none starts slots h = rw (none, starts, slots, h) (last fault)
   where
-    last : (f : Option DecodeFault) → first_of (f ∷ []) ≡ f
+    last : (f : Option DecodeFault) → first_some (f ∷ []) ≡ f
     last None = refl
     last (Some f) = refl
 
@@ -190,9 +191,9 @@ module _ (i : Image) (r : Ranges i) where
   spelled_no_fault : first_fault (spelling i) ≡ None
   spelled_no_fault =
       first_fault-code (spelling i) None (no_header_fault (spelling i) spelled_fits)
-      (ap (λ (p : List (List ℕ)). first_of (map start_fault p)) starts_again ∙ starts_parts.no_fault)
-      (ap (λ (p : List (List ℕ)). first_of (map slot_fault p)) slots_again ∙ slots_parts.no_fault)
-      ((λ k. first_of (map (instr_fault (mark_again i.raw k)) (code_again k))) ∙ code_parts.no_fault)
+      (ap (λ (p : List (List ℕ)). first_some (map start_fault p)) starts_again ∙ starts_parts.no_fault)
+      (ap (λ (p : List (List ℕ)). first_some (map slot_fault p)) slots_again ∙ slots_parts.no_fault)
+      ((λ k. first_some (map (instr_fault (mark_again i.raw k)) (code_again k))) ∙ code_parts.no_fault)
 
 -- the image that is read from bytes
 image_at : List ℕ → Image

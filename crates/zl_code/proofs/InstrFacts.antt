@@ -3,6 +3,8 @@ use Rattle.std.proofs.Common.{◌≡◌, ℕ, zero, suc, ◌<◌, ◌%◌, Bool,
 use Rattle.std.specs.Prelude.{slice_index, is_some}
 use Rattle.std.specs.List.{list_all}
 use Rattle.std.proofs.lemmas.Bool.{and_parts, eqb-true, ltb-true, cases_Bool}
+use Rattle.std.specs.Bool.{then_some}
+use Rattle.zl_code.specs.First.{first_some}
 use Rattle.zl_code.specs.declared.instr.Instr.{Instr}
 use Rattle.zl_code.specs.declared.instr.Instr.TheVariants as instr
 use Rattle.zl_code.specs.declared.instr.LocalInstr.{LocalInstr}
@@ -11,7 +13,7 @@ use Rattle.zl_code.specs.declared.instr.CallInstr.{CallInstr}
 use Rattle.zl_code.specs.declared.instr.CallInstr.TheVariants as call
 use Rattle.zl_code.specs.declared.image.DecodeFault.TheVariants as faults
 use Rattle.zl_code.specs.Instructions.{Layout, layout_of}
-use Rattle.zl_code.specs.Spells.{Parts, Last, Numbers, Room, Places, local_parts, call_parts, parts_bytes, last_bytes, seven, bytes_of, are_registers, are_places, is_packed, is_last_in_range, are_parts_in_range, is_instr_in_range, instr_bytes, instr_fault, fault_by, fault_if, first_of, reading_of, names_registers, is_unused_zero, row_bytes}
+use Rattle.zl_code.specs.Spells.{Parts, Last, Numbers, Room, Places, local_parts, call_parts, parts_bytes, last_bytes, seven, bytes_of, are_registers, are_places, is_packed, is_last_in_range, are_parts_in_range, is_instr_in_range, instr_bytes, instr_fault, fault_by, reading_of, names_registers, is_unused_zero, row_bytes}
 use Rattle.zl_code.proofs.ImageBytes.{IsBytes, IsBytes-take}
 use Rattle.zl_code.proofs.ImageTable.{instr_fits}
 use Rattle.zl_code.proofs.ImageInstr.{row_bytes-read}
@@ -105,7 +107,7 @@ no_fault-row raw bytes l at none =
     let p = by (are_registers (reading_of bytes).registers) (names_registers l.ending (reading_of bytes)) (is_unused_zero l (reading_of bytes)) (sym (ap (fault_by raw (reading_of bytes)) at) ∙ none) in
     record { registers = p.0; named = p.1; unused = p.2 }
   where
-    by : (a b c : Bool) → first_of (fault_if (not (a && b)) faults.BadRegister ∷ fault_if (not c) faults.UnusedField ∷ []) ≡ None → (a ≡ true) × (b ≡ true) × (c ≡ true)
+    by : (a b c : Bool) → first_some (then_some (not (a && b)) faults.BadRegister ∷ then_some (not c) faults.UnusedField ∷ []) ≡ None → (a ≡ true) × (b ≡ true) × (c ≡ true)
     by true true true h = (refl, refl, refl)
     by true true false h = absurd cc
     by true false c h = absurd cc

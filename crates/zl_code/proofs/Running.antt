@@ -2,6 +2,7 @@
 use Rattle.std.proofs.Common.{◌≡◌, ℕ, Bool, true, false, List, [], ◌∷◌, refl, ap, IsTrue, Option, Some, None}
 use Rattle.std.specs.Prelude.{is_some}
 use Rattle.std.specs.List.{flat_map, list_all}
+use Rattle.std.specs.Bool.{then_some}
 use Rattle.zl_rights.specs.declared.status.Status.TheVariants as status
 use Rattle.zl_rights.specs.Numbers.{STUCK}
 use Rattle.zl_rights.specs.Map.{get, put, without, where_key, each, update}
@@ -30,16 +31,12 @@ use Rattle.zl_code.specs.Steps.{Next, Moves, AtCall, IsStuck, next_at, next_for,
 abbrev pub Acted : Type 0
 Acted = Option (TraceItem × World)
 
-abbrev pub then_if : Bool → TraceItem × World → Acted
-then_if true x = Some x
-then_if false x = None
-
 abbrev pub call_by : Library → World → ℕ → CallName → Site → Choice → Option Outcome → Acted
 call_by lib w p call s Refused (Some o) = Some (item.Call p call o, after_refusal w p s o)
 call_by lib w p call s WantsMemory None =
-    then_if (grows s.request) (item.Call p call (outcome.Answered status.NoMemory), after_refusal w p s (outcome.Answered status.NoMemory))
+    then_some (grows s.request) (item.Call p call (outcome.Answered status.NoMemory), after_refusal w p s (outcome.Answered status.NoMemory))
 call_by lib w p call s (Values vs) None =
-    then_if (may_choose w (taken w p s) p s.request vs) (item.Call p call (ok_outcome w p s.request), after_ok lib w p s vs (ok_outcome w p s.request))
+    then_some (may_choose w (taken w p s) p s.request vs) (item.Call p call (ok_outcome w p s.request), after_ok lib w p s vs (ok_outcome w p s.request))
 call_by lib w p call s _ _ = None
 
 abbrev pub act_by : Library → World → ℕ → Choice → Next → Acted
@@ -50,7 +47,7 @@ act_by lib w p choice IsStuck = Some (item.Stuck p, ended w p STUCK)
 -- the world settles in n rounds, and wakes
 abbrev pub settle_by : ℕ → Acted → Acted
 settle_by n None = None
-settle_by n (Some (x, w)) = then_if (stays w (shrunk w n (keys_of w.objects))) (x, wakes (settled_in w n))
+settle_by n (Some (x, w)) = then_some (stays w (shrunk w n (keys_of w.objects))) (x, wakes (settled_in w n))
 
 abbrev pub step_in : Library → World → ℕ → Choice → Process → State → Acted
 step_in lib w p choice q Ready = settle_by 3 (act_by lib w p choice (next_for lib q))
@@ -66,7 +63,7 @@ step_by lib w p choice = step_from lib w p choice (get w.processes p)
 
 -- ---- what is computed is a step
 
-then_if-is : (b : Bool) (x y : TraceItem × World) → then_if b x ≡ Some y → IsTrue b × (x ≡ y)
+then_if-is : (b : Bool) (x y : TraceItem × World) → then_some b x ≡ Some y → IsTrue b × (x ≡ y)
 then_if-is true x y e = (refl, cc)
 then_if-is false x y e = cc
 

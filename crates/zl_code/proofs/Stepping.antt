@@ -3,6 +3,7 @@ use Rattle.std.proofs.Common.{◌≡◌, ◌≢◌, ◌<◌, ◌≤◌, arith, �
 use Rattle.std.specs.Prelude.{if◌then◌else◌, is_some, nat_le}
 use Rattle.std.specs.List.{filter}
 use Rattle.std.proofs.lemmas.Bool.{true≢false, and_parts, and_from, or_parts, cases_Bool, leb-true, lt-ltb, not-false, ne_eqb, eq-eqb}
+use Rattle.zl_code.specs.First.{first_some}
 use Rattle.zl_rights.specs.declared.kind.Kind.{Kind}
 use Rattle.zl_rights.specs.declared.entry.Entry.{Entry}
 use Rattle.zl_rights.specs.declared.status.Status.{Status}
@@ -26,7 +27,7 @@ use Rattle.zl_code.specs.declared.history.TraceItem.{TraceItem}
 use Rattle.zl_code.specs.declared.history.TraceItem.TheVariants as item
 use Rattle.zl_code.specs.Image.{Library}
 use Rattle.zl_code.specs.Request.{Site, Request, close, dup, event_create, signal, process_exit}
-use Rattle.zl_code.specs.Tests.{first, answer_if, entry_at, object_at, body_of, parent_of, action_of, ends_if_kill, faults, unless_allowed, creates, by_policy, Operand, takes, operand_of, operand, contains, operand_after, seen_after, examined, has_room, has_koids, handles_to, with_rights, copy_of}
+use Rattle.zl_code.specs.Tests.{answer_if, entry_at, object_at, body_of, parent_of, action_of, ends_if_kill, faults, unless_allowed, creates, by_policy, Operand, takes, operand_of, operand, contains, operand_after, seen_after, examined, has_room, has_koids, handles_to, with_rights, copy_of}
 use Rattle.zl_code.specs.Refusals.{refusal, may_change, listed, handle_operands, condition_of}
 use Rattle.zl_code.specs.Effects.{on_process, remove_all, taken_handles, new_handles, may_get, gets_all, may_choose, process_without, ended}
 use Rattle.zl_code.specs.Calls.{taken, after_ok, after_refusal, ok_outcome, Refused, Values}
@@ -38,7 +39,7 @@ abbrev is_want : Option Outcome → Bool
 is_want (Some (outcome.Answered status.NoMemory)) = true
 is_want _ = false
 
-first_wants : (o : Option Outcome) (os : List (Option Outcome)) → is_want o ≡ false → is_want (first os) ≡ false → is_want (first (o ∷ os)) ≡ false
+first_wants : (o : Option Outcome) (os : List (Option Outcome)) → is_want o ≡ false → is_want (first_some os) ≡ false → is_want (first_some (o ∷ os)) ≡ false
 first_wants None os g h = h
 first_wants (Some o) os g h = g
 
@@ -46,11 +47,11 @@ answer_wants : (b : Bool) (s : Status) → is_want (Some (outcome.Answered s)) �
 answer_wants true s h = h
 answer_wants false s h = refl
 
-answer_wants_alone : (b : Bool) (s : Status) → is_want (Some (outcome.Answered s)) ≡ false → is_want (first (answer_if b s ∷ [])) ≡ false
+answer_wants_alone : (b : Bool) (s : Status) → is_want (Some (outcome.Answered s)) ≡ false → is_want (first_some (answer_if b s ∷ [])) ≡ false
 answer_wants_alone true s h = h
 answer_wants_alone false s h = refl
 
-two_want : (b : Bool) (s : Status) (c : Bool) (t : Status) → is_want (Some (outcome.Answered s)) ≡ false → is_want (Some (outcome.Answered t)) ≡ false → is_want (first (answer_if b s ∷ answer_if c t ∷ [])) ≡ false
+two_want : (b : Bool) (s : Status) (c : Bool) (t : Status) → is_want (Some (outcome.Answered s)) ≡ false → is_want (Some (outcome.Answered t)) ≡ false → is_want (first_some (answer_if b s ∷ answer_if c t ∷ [])) ≡ false
 two_want true s c t g h = g
 two_want false s c t g h = answer_wants_alone c t h
 
@@ -88,7 +89,7 @@ unfolding creates
 by_policy_wants w p None = refl
 by_policy_wants w p (Some c) = policy_wants _
 
-listed_wants : (lib : Library) (w : World) (p : ℕ) (r : Request) → is_want (first (listed lib w p r)) ≡ false
+listed_wants : (lib : Library) (w : World) (p : ℕ) (r : Request) → is_want (first_some (listed lib w p r)) ≡ false
 unfolding listed
 listed_wants lib w p (close h) = refl
 listed_wants lib w p (dup h rights) = two_want (is_empty (copy_of (entry_at w p h) rights)) status.InvalidArgs (not (has_room w p 1) || nat_le (2 ^ 62) (handles_to w (object_at w p h))) status.NoResources refl refl
@@ -104,15 +105,15 @@ refusal_wants lib w p r =
 
 -- ---- what holds where a call isn't refused
 
-first_none : (o : Option Outcome) (os : List (Option Outcome)) → first (o ∷ os) ≡ None → first os ≡ None
+first_none : (o : Option Outcome) (os : List (Option Outcome)) → first_some (o ∷ os) ≡ None → first_some os ≡ None
 first_none None os h = h
 first_none (Some o) os h = cc
 
-answer_none : (b : Bool) (s : Status) (os : List (Option Outcome)) → first (answer_if b s ∷ os) ≡ None → b ≡ false
+answer_none : (b : Bool) (s : Status) (os : List (Option Outcome)) → first_some (answer_if b s ∷ os) ≡ None → b ≡ false
 answer_none true s os h = cc
 answer_none false s os h = refl
 
-listed_none : (lib : Library) (w : World) (p : ℕ) (r : Request) → refusal lib w p r ≡ None → first (listed lib w p r) ≡ None
+listed_none : (lib : Library) (w : World) (p : ℕ) (r : Request) → refusal lib w p r ≡ None → first_some (listed lib w p r) ≡ None
 unfolding refusal
 listed_none lib w p r h =
     first_none (by_policy w p (condition_of r)) _ (first_none (examined w p [] (handle_operands r)) _ h)
@@ -183,7 +184,7 @@ module _ (lib : Library) (w : World) (p : ℕ) (q : Process) (there : get w.proc
   unfolding may_choose new_handles taken_handles handle_operands remove_all on_process listed
   values_there (close h) passes = ([], rw (get-update w.processes p (process_without h) p, eq-eqb p p refl, there) refl)
   values_there (dup h rights) passes =
-      let open_tests : first (listed lib w p (dup h rights)) ≡ None = listed_none lib w p (dup h rights) passes in
+      let open_tests : first_some (listed lib w p (dup h rights)) ≡ None = listed_none lib w p (dup h rights) passes in
       let some_copy : is_empty (copy_of (entry_at w p h) rights) ≡ false = answer_none _ status.InvalidArgs _ open_tests in
       let room : has_room w p 1 ≡ true = not-false _ (or_parts (not (has_room w p 1)) _ (answer_none _ status.NoResources [] (first_none (answer_if (is_empty (copy_of (entry_at w p h) rights)) status.InvalidArgs) _ open_tests))).0 in
       let chosen = copy_values rights (entry_at w p h) some_copy room in

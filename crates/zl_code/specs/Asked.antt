@@ -1,6 +1,7 @@
 -- What each call asks for, read from the registers by its row of the table of instructions.
 use Rattle.std.specs.Prelude.{ℕ, zero, suc, ◌+◌, Bool, true, false, nat_lt, List, [], ◌∷◌, ◌++◌, map, take, drop, Option, Some, None, if◌then◌else◌, slice_index}
 use Rattle.std.specs.List.{filter}
+use Rattle.std.specs.Bool.{then_some}
 use Rattle.zl_rights.specs.World.{Cpu}
 use Rattle.zl_code.specs.declared.instr.CallInstr.{CallInstr}
 use Rattle.zl_code.specs.Instructions.{Field, writes, changes, consumes, triples, Row, row_of}
@@ -96,15 +97,10 @@ asked_by r p c = record {
   destinations = those is_written r.fields p.registers ++ triples_in p.last p.registers;
 }
 
--- what is asked for, where the test passes
-abbrev pub asked_if : Bool → Asked → Option Asked
-asked_if true a = Some a
-asked_if false a = None
-
 -- what a call asks for that may have no row
 abbrev pub asked_in : Option Row → Parts → Cpu → Option Asked
 asked_in None p c = None
-asked_in (Some r) p c = asked_if (has_its_memory p.last p.registers c) (asked_by r p c)
+asked_in (Some r) p c = then_some (has_its_memory p.last p.registers c) (asked_by r p c)
 
 -- what the call asks for, or nothing where its memory isn't there
 unfoldable pub asked_of : CallInstr → Cpu → Option Asked

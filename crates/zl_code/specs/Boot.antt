@@ -1,5 +1,7 @@
 -- The world that a list of statements makes, or the first fault.
 use Rattle.std.specs.Prelude.{ℕ, ◌≡◌, ◌<◌, Bool, true, false, ◌||◌, not, nat_lt, nat_le, List, [], ◌∷◌, length, replicate, map, take, Option, Some, None, is_some, slice_get, slice_set}
+use Rattle.std.specs.Bool.{then_some}
+use Rattle.zl_code.specs.First.{first_some}
 use Rattle.zl_rights.specs.Map.{put}
 use Rattle.zl_rights.specs.World.{World, Cpu, Process, Ready, Body, JobBody, ProcessBody}
 use Rattle.zl_rights.specs.Settle.{Settles}
@@ -39,17 +41,6 @@ started_process lib program word = record {
 
 -- ---- one statement
 
--- this cause, where the test passes
-abbrev pub cause_if : Bool → BootCause → Option BootCause
-cause_if true c = Some c
-cause_if false c = None
-
--- the first that is there
-abbrev pub first_cause : List (Option BootCause) → Option BootCause
-first_cause [] = None
-first_cause (None ∷ rest) = first_cause rest
-first_cause (Some c ∷ rest) = Some c
-
 -- the object is a job
 abbrev pub is_job_body : Option Body → Bool
 is_job_body (Some (JobBody parent depth policy killed)) = true
@@ -61,9 +52,9 @@ is_job w k = is_job_body (body_of w k)
 
 -- why the statement can't be done: no such job or program; the 65th process, or no koid up to 1,024 is left
 unfoldable pub boot_fault : Library → World → Statement → Option BootCause
-boot_fault lib w (statement.Process job program word) = first_cause (
-    cause_if (not (is_job w job) || not (is_some (slice_get lib program))) cause.Unknown
-    ∷ cause_if (nat_le 64 (length w.processes) || nat_lt 1024 w.next_koid) cause.Limit
+boot_fault lib w (statement.Process job program word) = first_some (
+    then_some (not (is_job w job) || not (is_some (slice_get lib program))) cause.Unknown
+    ∷ then_some (nat_le 64 (length w.processes) || nat_lt 1024 w.next_koid) cause.Limit
     ∷ [])
 
 -- the world with the process k

@@ -1,3 +1,4 @@
+pub mod First
 pub mod Image
 pub mod Instructions
 pub mod Spells

@@ -1,5 +1,6 @@
 -- The table of calls: the answers other than OK, each row in its order.
 use Rattle.std.specs.Prelude.{ℕ, ◌^◌, Bool, true, false, ◌&&◌, ◌||◌, not, nat_le, List, [], ◌∷◌, Option, Some, None}
+use Rattle.zl_code.specs.First.{first_some}
 use Rattle.zl_rights.specs.declared.kind.Kind.{Kind}
 use Rattle.zl_rights.specs.declared.status.Status.TheVariants as status
 use Rattle.zl_rights.specs.declared.policy.Condition.{Condition}
@@ -10,7 +11,7 @@ use Rattle.zl_rights.specs.Signals.{is_empty}
 use Rattle.zl_code.specs.declared.history.Outcome.{Outcome}
 use Rattle.zl_code.specs.Image.{Library}
 use Rattle.zl_code.specs.Request.{Request, close, dup, event_create, signal, process_exit}
-use Rattle.zl_code.specs.Tests.{first, answer_if, entry_at, object_at, body_of, by_policy, Operand, any, examined, has_room, has_koids, handles_to, copy_of}
+use Rattle.zl_code.specs.Tests.{answer_if, entry_at, object_at, body_of, by_policy, Operand, any, examined, has_room, has_koids, handles_to, copy_of}
 
 -- ---- handle operands and rights
 
@@ -68,4 +69,4 @@ listed lib w p (process_exit code) = []
 -- The answer of a call other than OK: handle operands from left to right, then policy, then the listed answers.
 unfoldable pub refusal : Library → World → ℕ → Request → Option Outcome
 refusal lib w p request =
-    first (examined w p [] (handle_operands request) ∷ by_policy w p (condition_of request) ∷ listed lib w p request)
+    first_some (examined w p [] (handle_operands request) ∷ by_policy w p (condition_of request) ∷ listed lib w p request)

@@ -2,6 +2,8 @@
 use Rattle.std.specs.Prelude.{ℕ, zero, suc, ◌≡◌, ◌+◌, ◌*◌, ◌/◌, ◌%◌, Bool, true, false, ◌&&◌, ◌||◌, not, ◌==◌, nat_lt, nat_le, List, [], ◌∷◌, ◌++◌, map, take, drop, replicate, length, slice_index, Option, Some, None, is_some, if◌then◌else◌, IsTrue}
 use Rattle.std.specs.Option.{option_map}
 use Rattle.std.specs.List.{flat_map, list_all, starts_with}
+use Rattle.std.specs.Bool.{then_some}
+use Rattle.zl_code.specs.First.{first_some}
 use Rattle.zl_rights.specs.declared.kind.Kind.{Kind}
 use Rattle.zl_rights.specs.declared.kind.Kind.TheVariants as kind
 use Rattle.zl_rights.specs.declared.policy.Condition.{Condition}
@@ -281,17 +283,6 @@ pub record Spells (bytes : List ℕ) (i : Image) : Type 0 where
 
 -- ---- the first fault of bytes
 
--- this fault, where the test passes
-abbrev pub fault_if : Bool → DecodeFault → Option DecodeFault
-fault_if true f = Some f
-fault_if false f = None
-
--- the first that is there
-abbrev pub first_of : List (Option DecodeFault) → Option DecodeFault
-first_of [] = None
-first_of (None ∷ rest) = first_of rest
-first_of (Some f ∷ rest) = Some f
-
 -- the number in the bytes from the offset on
 abbrev pub number_at : List ℕ → ℕ → ℕ → ℕ
 number_at bytes offset n = number_of (take n (drop offset bytes))
@@ -335,12 +326,12 @@ length_at bytes = 20 + 8 * starts_at bytes + 8 * slots_at bytes + 16 * count_at 
 
 -- the first fault of the header, or a length that isn't what the header says
 unfoldable pub header_fault : List ℕ → Option DecodeFault
-header_fault bytes = first_of (
-    fault_if (nat_lt (length bytes) 20) fault.Short
-    ∷ fault_if (not (starts_with ◌==◌ bytes magic)) fault.Magic
-    ∷ fault_if (not (slice_index bytes 4 == 1)) fault.Version
-    ∷ fault_if (not (is_header_in_range bytes)) fault.BadHeader
-    ∷ fault_if (not (length bytes == length_at bytes)) fault.Length
+header_fault bytes = first_some (
+    then_some (nat_lt (length bytes) 20) fault.Short
+    ∷ then_some (not (starts_with ◌==◌ bytes magic)) fault.Magic
+    ∷ then_some (not (slice_index bytes 4 == 1)) fault.Version
+    ∷ then_some (not (is_header_in_range bytes)) fault.BadHeader
+    ∷ then_some (not (length bytes == length_at bytes)) fault.Length
     ∷ [])
 
 -- ---- the fault of a declaration
@@ -365,7 +356,7 @@ has_rights bytes = allows (kind_at (slice_index bytes 0)) (number_at bytes 4 4)
 
 -- the fault of the 8 bytes of a start handle
 unfoldable pub start_fault : List ℕ → Option DecodeFault
-start_fault bytes = fault_if (not (list_all (λ b. b == 0) (take 3 (drop 1 bytes)) && has_rights bytes)) fault.BadHeader
+start_fault bytes = then_some (not (list_all (λ b. b == 0) (take 3 (drop 1 bytes)) && has_rights bytes)) fault.BadHeader
 
 -- a byte 0, and behind it the length of a slot array
 abbrev pub has_length : List ℕ → Bool
@@ -373,7 +364,7 @@ has_length bytes = (slice_index bytes 1 == 0) && (nat_lt 0 (number_at bytes 2 2)
 
 -- the fault of the 8 bytes of a slot array
 unfoldable pub slot_fault : List ℕ → Option DecodeFault
-slot_fault bytes = fault_if (not (has_length bytes && has_rights bytes)) fault.BadHeader
+slot_fault bytes = then_some (not (has_length bytes && has_rights bytes)) fault.BadHeader
 
 -- ---- the fault of an instruction
 
@@ -413,10 +404,10 @@ is_unused_zero l r = list_all (λ b. b == 0) (drop l.registers r.registers) && i
 
 -- the fault of an instruction by the layout of its opcode; only the raw mark lets pass one that has none
 abbrev pub fault_by : Bool → Reading → Option Layout → Option DecodeFault
-fault_by raw r None = fault_if (not raw) fault.UnknownOp
-fault_by raw r (Some l) = first_of (
-    fault_if (not (are_registers r.registers && names_registers l.ending r)) fault.BadRegister
-    ∷ fault_if (not (is_unused_zero l r)) fault.UnusedField
+fault_by raw r None = then_some (not raw) fault.UnknownOp
+fault_by raw r (Some l) = first_some (
+    then_some (not (are_registers r.registers && names_registers l.ending r)) fault.BadRegister
+    ∷ then_some (not (is_unused_zero l r)) fault.UnusedField
     ∷ [])
 
 -- the fault of the 16 bytes of an instruction
@@ -457,9 +448,9 @@ code_pieces bytes = pieces 16 (count_at bytes) (drop (20 + 8 * starts_at bytes +
 
 -- the fault that is met first, where bytes spell no image
 unfoldable pub first_fault : List ℕ → Option DecodeFault
-first_fault bytes = first_of (
+first_fault bytes = first_some (
     header_fault bytes
-    ∷ first_of (map start_fault (start_pieces bytes))
-    ∷ first_of (map slot_fault (slot_pieces bytes))
-    ∷ first_of (map (instr_fault (is_raw_at bytes)) (code_pieces bytes))
+    ∷ first_some (map start_fault (start_pieces bytes))
+    ∷ first_some (map slot_fault (slot_pieces bytes))
+    ∷ first_some (map (instr_fault (is_raw_at bytes)) (code_pieces bytes))
     ∷ [])

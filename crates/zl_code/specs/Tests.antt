@@ -1,6 +1,8 @@
 -- The words in which the table of calls is written.
-use Rattle.std.specs.Prelude.{ℕ, ◌+◌, ◌^◌, Bool, true, false, ◌&&◌, not, ◌==◌, nat_le, List, [], ◌∷◌, length, Option, Some, None, if◌then◌else◌, unwrap_or}
+use Rattle.std.specs.Prelude.{ℕ, ◌+◌, ◌^◌, Bool, true, ◌&&◌, not, ◌==◌, nat_le, List, [], ◌∷◌, length, Option, Some, None, if◌then◌else◌, unwrap_or}
 use Rattle.std.specs.List.{list_any, sum_by, count_by}
+use Rattle.std.specs.Bool.{then_some}
+use Rattle.zl_code.specs.First.{first_some}
 use Rattle.zl_rights.specs.declared.rights.Rights.{Rights}
 use Rattle.zl_rights.specs.declared.kind.Kind.{Kind}
 use Rattle.zl_rights.specs.declared.status.Status.{Status}
@@ -18,16 +20,9 @@ use Rattle.zl_code.specs.declared.history.Outcome.TheVariants as outcome
 
 -- ---- answers
 
--- the first that is there
-abbrev pub first : List (Option Outcome) → Option Outcome
-first [] = None
-first (None ∷ rest) = first rest
-first (Some o ∷ rest) = Some o
-
 -- this answer, where the test passes
 abbrev pub answer_if : Bool → Status → Option Outcome
-answer_if true s = Some (outcome.Answered s)
-answer_if false s = None
+answer_if test s = then_some test (outcome.Answered s)
 
 -- ---- what the world has
 
@@ -158,7 +153,7 @@ seen_after seen o = if o.is_taken then o.value ∷ seen else seen
 -- from left to right, where a taken value that was taken before isn't live any more
 unfoldable pub examined : World → ℕ → List ℕ → List Operand → Option Outcome
 examined w p seen [] = None
-examined w p seen (o ∷ os) = first (operand_after w p seen o ∷ examined w p (seen_after seen o) os ∷ [])
+examined w p seen (o ∷ os) = first_some (operand_after w p seen o ∷ examined w p (seen_after seen o) os ∷ [])
 
 -- ---- counts
 

@@ -2,9 +2,10 @@
 
 ghost use Rattle.std.specs.Prelude.{map, ◌≡◌, ◌⊎◌, ◌==◌, IsTrue, IfOk, IfErr, IfSome, IfNone, OnOk, OnSome, MatchResult, true, false, ◌&&◌, nat_lt, nat_le, Some, None, slice_index};
 ghost use Rattle.std.specs.List.{list_all};
+ghost use Rattle.zl_code.specs.First.{first_some};
 ghost use Rattle.zl_rights.specs.Numbers.{bits, within};
 ghost use Rattle.zl_code.specs.declared.image.DecodeFault.TheVariants as faults;
-ghost use Rattle.zl_code.specs.Spells.{number_at, kind_byte, kind_at, rights_allowed, has_rights, has_length, start_bytes, slot_bytes, is_start_in_range, is_slot_in_range, start_fault, slot_fault, first_of};
+ghost use Rattle.zl_code.specs.Spells.{number_at, kind_byte, kind_at, rights_allowed, has_rights, has_length, start_bytes, slot_bytes, is_start_in_range, is_slot_in_range, start_fault, slot_fault};
 
 use crate::encoding::DECLARATION_LEN;
 use crate::image::{DecodeFault, SlotArray, Start};
@@ -164,8 +165,8 @@ pub(crate) fn starts_of(
 ) -> Result<Vec<Start>, DecodeFault>
     ensures bytes { IfOk result (λ starts. map start_bytes starts.items ≡ pieces.now) }
     ensures in_range { IfOk result (λ starts. IsTrue (list_all is_start_in_range starts.items)) }
-    ensures none { OnOk result (first_of (map start_fault pieces.now) ≡ None) }
-    ensures fault { IfErr result (λ fault. (fault ≡ faults.NoMemory) ⊎ (first_of (map start_fault pieces.now) ≡ Some fault)) }
+    ensures none { OnOk result (first_some (map start_fault pieces.now) ≡ None) }
+    ensures fault { IfErr result (λ fault. (fault ≡ faults.NoMemory) ⊎ (first_some (map start_fault pieces.now) ≡ Some fault)) }
 {
     let mut starts = Vec::with_capacity(alloc, pieces.len())?;
     for piece in pieces {
@@ -182,8 +183,8 @@ pub(crate) fn slots_of(
 ) -> Result<Vec<SlotArray>, DecodeFault>
     ensures bytes { IfOk result (λ slots. map slot_bytes slots.items ≡ pieces.now) }
     ensures in_range { IfOk result (λ slots. IsTrue (list_all is_slot_in_range slots.items)) }
-    ensures none { OnOk result (first_of (map slot_fault pieces.now) ≡ None) }
-    ensures fault { IfErr result (λ fault. (fault ≡ faults.NoMemory) ⊎ (first_of (map slot_fault pieces.now) ≡ Some fault)) }
+    ensures none { OnOk result (first_some (map slot_fault pieces.now) ≡ None) }
+    ensures fault { IfErr result (λ fault. (fault ≡ faults.NoMemory) ⊎ (first_some (map slot_fault pieces.now) ≡ Some fault)) }
 {
     let mut slots = Vec::with_capacity(alloc, pieces.len())?;
     for piece in pieces {

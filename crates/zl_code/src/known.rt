@@ -2,9 +2,10 @@
 
 ghost use Rattle.std.specs.Prelude.{map, ◌<◌, ◌≤◌, ◌≡◌, ◌⊎◌, IsTrue, IfOk, IfErr, IfSome, OnOk, MatchResult, slice_index, true, is_some, Bool, Some, None};
 ghost use Rattle.std.specs.List.{list_all};
+ghost use Rattle.zl_code.specs.First.{first_some};
 ghost use Rattle.zl_code.specs.declared.image.DecodeFault.TheVariants as faults;
 ghost use Rattle.zl_code.specs.Instructions.{layout_of};
-ghost use Rattle.zl_code.specs.Spells.{are_registers, names_registers, is_unused_zero, row_bytes, local_bytes, call_bytes, instr_bytes, is_local_in_range, is_call_in_range, is_instr_in_range, instr_fault, first_of};
+ghost use Rattle.zl_code.specs.Spells.{are_registers, names_registers, is_unused_zero, row_bytes, local_bytes, call_bytes, instr_bytes, is_local_in_range, is_call_in_range, is_instr_in_range, instr_fault};
 ghost use Rattle.zl_code.specs.Fields.{read_in};
 
 use crate::fields::{Fields, fields_of, is_unused_zero, names_registers};
@@ -374,8 +375,8 @@ pub(crate) fn code_of(
 ) -> Result<Vec<Instr>, DecodeFault>
     ensures bytes { IfOk result (λ code. map instr_bytes code.items ≡ pieces.now) }
     ensures in_range { IfOk result (λ code. IsTrue (list_all (is_instr_in_range raw) code.items)) }
-    ensures none { OnOk result (first_of (map (instr_fault raw) pieces.now) ≡ None) }
-    ensures fault { IfErr result (λ fault. (fault ≡ faults.NoMemory) ⊎ (first_of (map (instr_fault raw) pieces.now) ≡ Some fault)) }
+    ensures none { OnOk result (first_some (map (instr_fault raw) pieces.now) ≡ None) }
+    ensures fault { IfErr result (λ fault. (fault ≡ faults.NoMemory) ⊎ (first_some (map (instr_fault raw) pieces.now) ≡ Some fault)) }
 {
     let mut code = Vec::with_capacity(alloc, pieces.len())?;
     for piece in pieces {

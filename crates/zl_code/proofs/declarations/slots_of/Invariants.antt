@@ -1,6 +1,7 @@
 use Rattle.std.proofs.Common.{◌≡◌, true, None, map, take}
 use Rattle.std.specs.List.{list_all}
-use Rattle.zl_code.specs.Spells.{slot_bytes, is_slot_in_range, slot_fault, first_of}
+use Rattle.zl_code.specs.First.{first_some}
+use Rattle.zl_code.specs.Spells.{slot_bytes, is_slot_in_range, slot_fault}
 use Rattle.zl_code.proofs.declarations.slots_of.Given as goal
 
 abbrev pub invariant-loop-piece : goal.invariant-loop-piece
@@ -8,5 +9,5 @@ invariant-loop-piece l =
     record {
       bytes : map slot_bytes l.slots.items ≡ take l.piece-index l.pieces;
       in_range : list_all is_slot_in_range l.slots.items ≡ true;
-      none : first_of (map slot_fault (take l.piece-index l.pieces)) ≡ None;
+      none : first_some (map slot_fault (take l.piece-index l.pieces)) ≡ None;
     }

@@ -1,6 +1,7 @@
 use Rattle.std.proofs.Common.{◌≡◌, true, None, map, take}
 use Rattle.std.specs.List.{list_all}
-use Rattle.zl_code.specs.Spells.{start_bytes, is_start_in_range, start_fault, first_of}
+use Rattle.zl_code.specs.First.{first_some}
+use Rattle.zl_code.specs.Spells.{start_bytes, is_start_in_range, start_fault}
 use Rattle.zl_code.proofs.declarations.starts_of.Given as goal
 
 abbrev pub invariant-loop-piece : goal.invariant-loop-piece
@@ -8,5 +9,5 @@ invariant-loop-piece l =
     record {
       bytes : map start_bytes l.starts.items ≡ take l.piece-index l.pieces;
       in_range : list_all is_start_in_range l.starts.items ≡ true;
-      none : first_of (map start_fault (take l.piece-index l.pieces)) ≡ None;
+      none : first_some (map start_fault (take l.piece-index l.pieces)) ≡ None;
     }

@@ -1,6 +1,7 @@
 use Rattle.std.proofs.Common.{◌∙◌, ap, sym, map, inl, inr, arith}
 use Rattle.std.proofs.lemmas.Result.{err_from_is_err_and}
-use Rattle.zl_code.specs.Spells.{first_of, start_fault, slot_fault, instr_fault}
+use Rattle.zl_code.specs.First.{first_some}
+use Rattle.zl_code.specs.Spells.{start_fault, slot_fault, instr_fault}
 use Rattle.zl_code.proofs.ImageNeeds.{are_needs-value}
 use Rattle.zl_code.proofs.ImageWhole.{starts_read, slots_read, code_read, spells_read, first_fault-header, first_fault-starts, first_fault-slots, first_fault-code}
 use Rattle.zl_code.proofs.decoding.image_of.Goals as goal
@@ -18,7 +19,7 @@ returns-in_err-starts-clause-first c =
     let starts = c.declarations_at.ensures ∙ starts_read bytes _ e.starts in
     rw (p.1, p.2) (elim c.in_err-starts.ensures.fault [
       | inl memory ↦ inl memory
-      | inr first ↦ inr (first_fault-starts bytes _ e.fault (sym (ap (λ r. first_of (map start_fault r)) starts) ∙ first))
+      | inr first ↦ inr (first_fault-starts bytes _ e.fault (sym (ap (λ r. first_some (map start_fault r)) starts) ∙ first))
     ])
 
 pub returns-in_err-slots-clause-first : goal.returns-in_err-slots-clause-first
@@ -28,10 +29,10 @@ returns-in_err-slots-clause-first c =
     let e = c.in_ok-header.ensures in
     let starts = c.declarations_at.ensures ∙ starts_read bytes _ e.starts in
     let slots = c.declarations_at-2.ensures ∙ slots_read bytes _ _ e.starts e.slots in
-    let no_start = sym (ap (λ r. first_of (map start_fault r)) starts) ∙ c.in_ok-starts.ensures.none in
+    let no_start = sym (ap (λ r. first_some (map start_fault r)) starts) ∙ c.in_ok-starts.ensures.none in
     rw (p.1, p.2) (elim c.in_err-slots.ensures.fault [
       | inl memory ↦ inl memory
-      | inr first ↦ inr (first_fault-slots bytes _ e.fault no_start (sym (ap (λ r. first_of (map slot_fault r)) slots) ∙ first))
+      | inr first ↦ inr (first_fault-slots bytes _ e.fault no_start (sym (ap (λ r. first_some (map slot_fault r)) slots) ∙ first))
     ])
 
 pub returns-in_err-code-clause-first : goal.returns-in_err-code-clause-first
@@ -42,11 +43,11 @@ returns-in_err-code-clause-first c =
     let starts = c.declarations_at.ensures ∙ starts_read bytes _ e.starts in
     let slots = c.declarations_at-2.ensures ∙ slots_read bytes _ _ e.starts e.slots in
     let code = c.instrs_at.ensures ∙ code_read bytes _ _ _ e.starts e.slots e.count in
-    let no_start = sym (ap (λ r. first_of (map start_fault r)) starts) ∙ c.in_ok-starts.ensures.none in
-    let no_slot = sym (ap (λ r. first_of (map slot_fault r)) slots) ∙ c.in_ok-slots.ensures.none in
+    let no_start = sym (ap (λ r. first_some (map start_fault r)) starts) ∙ c.in_ok-starts.ensures.none in
+    let no_slot = sym (ap (λ r. first_some (map slot_fault r)) slots) ∙ c.in_ok-slots.ensures.none in
     rw (p.1, p.2) (elim c.in_err-code.ensures.fault [
       | inl memory ↦ inl memory
-      | inr first ↦ inr (first_fault-code bytes _ e.fault no_start no_slot (sym (λ k. first_of (map (instr_fault (e.raw k)) (code k))) ∙ first))
+      | inr first ↦ inr (first_fault-code bytes _ e.fault no_start no_slot (sym (λ k. first_some (map (instr_fault (e.raw k)) (code k))) ∙ first))
     ])
 
 pub returns-clause-found : goal.returns-clause-found
@@ -74,9 +75,9 @@ returns-clause-first c =
     let starts = c.declarations_at.ensures ∙ starts_read bytes _ e.starts in
     let slots = c.declarations_at-2.ensures ∙ slots_read bytes _ _ e.starts e.slots in
     let code = c.instrs_at.ensures ∙ code_read bytes _ _ _ e.starts e.slots e.count in
-    let no_start = sym (ap (λ r. first_of (map start_fault r)) starts) ∙ c.in_ok-starts.ensures.none in
-    let no_slot = sym (ap (λ r. first_of (map slot_fault r)) slots) ∙ c.in_ok-slots.ensures.none in
-    first_fault-code bytes _ e.fault no_start no_slot (sym (λ k. first_of (map (instr_fault (e.raw k)) (code k))) ∙ c.in_ok-code.ensures.none)
+    let no_start = sym (ap (λ r. first_some (map start_fault r)) starts) ∙ c.in_ok-starts.ensures.none in
+    let no_slot = sym (ap (λ r. first_some (map slot_fault r)) slots) ∙ c.in_ok-slots.ensures.none in
+    first_fault-code bytes _ e.fault no_start no_slot (sym (λ k. first_some (map (instr_fault (e.raw k)) (code k))) ∙ c.in_ok-code.ensures.none)
 
 pub invariant_of-result : goal.invariant_of-result
 invariant_of-result c = (returns-clause-found c).in_range

@@ -1,6 +1,7 @@
 use Rattle.std.proofs.Common.{◌≡◌, true, None, map, take}
 use Rattle.std.specs.List.{list_all}
-use Rattle.zl_code.specs.Spells.{instr_bytes, is_instr_in_range, instr_fault, first_of}
+use Rattle.zl_code.specs.First.{first_some}
+use Rattle.zl_code.specs.Spells.{instr_bytes, is_instr_in_range, instr_fault}
 use Rattle.zl_code.proofs.known.code_of.Given as goal
 
 abbrev pub invariant-loop-piece : goal.invariant-loop-piece
@@ -8,5 +9,5 @@ invariant-loop-piece l =
     record {
       bytes : map instr_bytes l.code.items ≡ take l.piece-index l.pieces;
       in_range : list_all (is_instr_in_range l.raw) l.code.items ≡ true;
-      none : first_of (map (instr_fault l.raw) (take l.piece-index l.pieces)) ≡ None;
+      none : first_some (map (instr_fault l.raw) (take l.piece-index l.pieces)) ≡ None;
     }

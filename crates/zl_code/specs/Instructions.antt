@@ -8,6 +8,8 @@ use Rattle.zl_rights.specs.declared.kind.Kind.TheVariants as kind
 use Rattle.zl_rights.specs.declared.policy.Condition.{Condition}
 use Rattle.zl_rights.specs.declared.policy.Condition.TheVariants as condition
 use Rattle.zl_rights.specs.Numbers.{DUPLICATE, TRANSFER, READ, WRITE, DESTROY, SET_POLICY, SIGNAL, SIGNAL_PEER, WAIT, MANAGE_JOB, MANAGE_PROCESS}
+use Rattle.zl_code.specs.declared.history.CallName.TheVariants as call
+use Rattle.zl_code.specs.CallNames.{call_name}
 use Rattle.zl_code.specs.declared.layout.Ending.{Ending}
 use Rattle.zl_code.specs.declared.layout.Ending.TheVariants as ending
 
@@ -83,29 +85,29 @@ rows =
     ∷ row 23 (codes "jge") (reads ∷ []) ending.Both
     ∷ row 24 (codes "jhas") (reads ∷ []) ending.Both
     ∷ row 25 (codes "jnhas") (reads ∷ []) ending.Both
-    ∷ row 64 (codes "close") (writes ∷ consumes any 0 ∷ []) ending.Nothing
-    ∷ row 65 (codes "dup") (writes ∷ names any DUPLICATE ∷ writes ∷ []) ending.Number
-    ∷ row 66 (codes "replace") (writes ∷ consumes any 0 ∷ writes ∷ []) ending.Number
-    ∷ making 67 (codes "chan_create") (writes ∷ writes ∷ writes ∷ []) condition.NewChannel
-    ∷ row 68 (codes "chan_write") (writes ∷ names (only kind.Channel) WRITE ∷ reads ∷ reads ∷ []) ending.Handles
-    ∷ row 69 (codes "chan_read_etc") (writes ∷ names (only kind.Channel) READ ∷ reads ∷ reads ∷ writes ∷ writes ∷ triples ∷ []) ending.Room
-    ∷ making 70 (codes "event_create") (writes ∷ writes ∷ []) condition.NewEvent
-    ∷ row 71 (codes "signal") (writes ∷ names any SIGNAL ∷ reads ∷ reads ∷ []) ending.Nothing
-    ∷ row 72 (codes "signal_peer") (writes ∷ names (only kind.Channel) SIGNAL_PEER ∷ reads ∷ reads ∷ []) ending.Nothing
-    ∷ row 73 (codes "wait_one") (writes ∷ names any WAIT ∷ reads ∷ writes ∷ []) ending.Nothing
-    ∷ row 74 (codes "wait_poll") (writes ∷ names any WAIT ∷ reads ∷ writes ∷ []) ending.Nothing
-    ∷ row 75 (codes "wait_async") (writes ∷ names any WAIT ∷ names (only kind.Port) WRITE ∷ reads ∷ reads ∷ []) ending.Nothing
-    ∷ making 76 (codes "port_create") (writes ∷ writes ∷ []) condition.NewPort
-    ∷ row 77 (codes "port_queue") (writes ∷ names (only kind.Port) WRITE ∷ reads ∷ reads ∷ []) ending.Nothing
-    ∷ row 78 (codes "port_wait") (writes ∷ names (only kind.Port) READ ∷ writes ∷ writes ∷ writes ∷ writes ∷ []) ending.Nothing
-    ∷ row 79 (codes "port_poll") (writes ∷ names (only kind.Port) READ ∷ writes ∷ writes ∷ writes ∷ writes ∷ []) ending.Nothing
-    ∷ row 80 (codes "port_cancel") (writes ∷ names (only kind.Port) WRITE ∷ names any 0 ∷ reads ∷ []) ending.Nothing
-    ∷ making 81 (codes "process_create") (writes ∷ names (only kind.Job) MANAGE_PROCESS ∷ reads ∷ writes ∷ []) condition.NewProcess
-    ∷ row 82 (codes "process_start") (writes ∷ names (only kind.Process) WRITE ∷ consumes any TRANSFER ∷ reads ∷ []) ending.Nothing
-    ∷ row 83 (codes "process_exit") (reads ∷ []) ending.Nothing
-    ∷ row 84 (codes "task_kill") (writes ∷ names (kind.Process ∷ kind.Job ∷ []) DESTROY ∷ []) ending.Nothing
-    ∷ row 85 (codes "job_create") (writes ∷ names (only kind.Job) MANAGE_JOB ∷ writes ∷ []) ending.Nothing
-    ∷ row 86 (codes "job_set_policy") (writes ∷ names (only kind.Job) SET_POLICY ∷ reads ∷ reads ∷ reads ∷ []) ending.Nothing
+    ∷ row 64 (call_name call.Close) (writes ∷ consumes any 0 ∷ []) ending.Nothing
+    ∷ row 65 (call_name call.Dup) (writes ∷ names any DUPLICATE ∷ writes ∷ []) ending.Number
+    ∷ row 66 (call_name call.Replace) (writes ∷ consumes any 0 ∷ writes ∷ []) ending.Number
+    ∷ making 67 (call_name call.ChanCreate) (writes ∷ writes ∷ writes ∷ []) condition.NewChannel
+    ∷ row 68 (call_name call.ChanWrite) (writes ∷ names (only kind.Channel) WRITE ∷ reads ∷ reads ∷ []) ending.Handles
+    ∷ row 69 (call_name call.ChanReadEtc) (writes ∷ names (only kind.Channel) READ ∷ reads ∷ reads ∷ writes ∷ writes ∷ triples ∷ []) ending.Room
+    ∷ making 70 (call_name call.EventCreate) (writes ∷ writes ∷ []) condition.NewEvent
+    ∷ row 71 (call_name call.Signal) (writes ∷ names any SIGNAL ∷ reads ∷ reads ∷ []) ending.Nothing
+    ∷ row 72 (call_name call.SignalPeer) (writes ∷ names (only kind.Channel) SIGNAL_PEER ∷ reads ∷ reads ∷ []) ending.Nothing
+    ∷ row 73 (call_name call.WaitOne) (writes ∷ names any WAIT ∷ reads ∷ writes ∷ []) ending.Nothing
+    ∷ row 74 (call_name call.WaitPoll) (writes ∷ names any WAIT ∷ reads ∷ writes ∷ []) ending.Nothing
+    ∷ row 75 (call_name call.WaitAsync) (writes ∷ names any WAIT ∷ names (only kind.Port) WRITE ∷ reads ∷ reads ∷ []) ending.Nothing
+    ∷ making 76 (call_name call.PortCreate) (writes ∷ writes ∷ []) condition.NewPort
+    ∷ row 77 (call_name call.PortQueue) (writes ∷ names (only kind.Port) WRITE ∷ reads ∷ reads ∷ []) ending.Nothing
+    ∷ row 78 (call_name call.PortWait) (writes ∷ names (only kind.Port) READ ∷ writes ∷ writes ∷ writes ∷ writes ∷ []) ending.Nothing
+    ∷ row 79 (call_name call.PortPoll) (writes ∷ names (only kind.Port) READ ∷ writes ∷ writes ∷ writes ∷ writes ∷ []) ending.Nothing
+    ∷ row 80 (call_name call.PortCancel) (writes ∷ names (only kind.Port) WRITE ∷ names any 0 ∷ reads ∷ []) ending.Nothing
+    ∷ making 81 (call_name call.ProcessCreate) (writes ∷ names (only kind.Job) MANAGE_PROCESS ∷ reads ∷ writes ∷ []) condition.NewProcess
+    ∷ row 82 (call_name call.ProcessStart) (writes ∷ names (only kind.Process) WRITE ∷ consumes any TRANSFER ∷ reads ∷ []) ending.Nothing
+    ∷ row 83 (call_name call.ProcessExit) (reads ∷ []) ending.Nothing
+    ∷ row 84 (call_name call.TaskKill) (writes ∷ names (kind.Process ∷ kind.Job ∷ []) DESTROY ∷ []) ending.Nothing
+    ∷ row 85 (call_name call.JobCreate) (writes ∷ names (only kind.Job) MANAGE_JOB ∷ writes ∷ []) ending.Nothing
+    ∷ row 86 (call_name call.JobSetPolicy) (writes ∷ names (only kind.Job) SET_POLICY ∷ reads ∷ reads ∷ reads ∷ []) ending.Nothing
     ∷ []
 
 -- the first of these rows that has the opcode

@@ -1,4 +1,5 @@
 pub mod First
+pub mod CallNames
 pub mod Image
 pub mod Instructions
 pub mod Spells

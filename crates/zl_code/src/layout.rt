@@ -2,6 +2,8 @@ ghost use Rattle.std.specs.Prelude.{◌≡◌, ◌≤◌, map, IfSome, length};
 ghost use Rattle.std.specs.Option.{option_map};
 ghost use Rattle.zl_code.specs.Instructions.{layout as layout_with, layout_of, row_of, row_named};
 
+use crate::history::CallName;
+
 /// What stands in the last eight bytes of an instruction. Own profile.
 #[derive(Clone, Copy)]
 pub enum Ending {
@@ -69,29 +71,29 @@ impl Row {
             23 => ("jge", 1, Ending::Both),
             24 => ("jhas", 1, Ending::Both),
             25 => ("jnhas", 1, Ending::Both),
-            64 => ("close", 2, Ending::Nothing),
-            65 => ("dup", 3, Ending::Number),
-            66 => ("replace", 3, Ending::Number),
-            67 => ("chan_create", 3, Ending::Nothing),
-            68 => ("chan_write", 4, Ending::Handles),
-            69 => ("chan_read_etc", 7, Ending::Room),
-            70 => ("event_create", 2, Ending::Nothing),
-            71 => ("signal", 4, Ending::Nothing),
-            72 => ("signal_peer", 4, Ending::Nothing),
-            73 => ("wait_one", 4, Ending::Nothing),
-            74 => ("wait_poll", 4, Ending::Nothing),
-            75 => ("wait_async", 5, Ending::Nothing),
-            76 => ("port_create", 2, Ending::Nothing),
-            77 => ("port_queue", 4, Ending::Nothing),
-            78 => ("port_wait", 6, Ending::Nothing),
-            79 => ("port_poll", 6, Ending::Nothing),
-            80 => ("port_cancel", 4, Ending::Nothing),
-            81 => ("process_create", 4, Ending::Nothing),
-            82 => ("process_start", 4, Ending::Nothing),
-            83 => ("process_exit", 1, Ending::Nothing),
-            84 => ("task_kill", 2, Ending::Nothing),
-            85 => ("job_create", 3, Ending::Nothing),
-            86 => ("job_set_policy", 5, Ending::Nothing),
+            64 => (CallName::Close.name(), 2, Ending::Nothing),
+            65 => (CallName::Dup.name(), 3, Ending::Number),
+            66 => (CallName::Replace.name(), 3, Ending::Number),
+            67 => (CallName::ChanCreate.name(), 3, Ending::Nothing),
+            68 => (CallName::ChanWrite.name(), 4, Ending::Handles),
+            69 => (CallName::ChanReadEtc.name(), 7, Ending::Room),
+            70 => (CallName::EventCreate.name(), 2, Ending::Nothing),
+            71 => (CallName::Signal.name(), 4, Ending::Nothing),
+            72 => (CallName::SignalPeer.name(), 4, Ending::Nothing),
+            73 => (CallName::WaitOne.name(), 4, Ending::Nothing),
+            74 => (CallName::WaitPoll.name(), 4, Ending::Nothing),
+            75 => (CallName::WaitAsync.name(), 5, Ending::Nothing),
+            76 => (CallName::PortCreate.name(), 2, Ending::Nothing),
+            77 => (CallName::PortQueue.name(), 4, Ending::Nothing),
+            78 => (CallName::PortWait.name(), 6, Ending::Nothing),
+            79 => (CallName::PortPoll.name(), 6, Ending::Nothing),
+            80 => (CallName::PortCancel.name(), 4, Ending::Nothing),
+            81 => (CallName::ProcessCreate.name(), 4, Ending::Nothing),
+            82 => (CallName::ProcessStart.name(), 4, Ending::Nothing),
+            83 => (CallName::ProcessExit.name(), 1, Ending::Nothing),
+            84 => (CallName::TaskKill.name(), 2, Ending::Nothing),
+            85 => (CallName::JobCreate.name(), 3, Ending::Nothing),
+            86 => (CallName::JobSetPolicy.name(), 5, Ending::Nothing),
             _ => return None,
         };
         Some(Row {

@@ -1,6 +1,6 @@
 //! The text of a trace: a line for each item, for the state of each process, and for the end.
 ghost use Rattle.std.specs.Prelude.{◌≡◌, ◌++◌, OnOk, string_bytes};
-ghost use Rattle.zlab.specs.Text.{call_name, call_line, item_line, state_line, end_line, cause_name, refused_line};
+ghost use Rattle.zlab.specs.Text.{call_line, item_line, state_line, end_line, cause_name, refused_line};
 
 use crate::fault::{Cause, LineFault};
 use std::alloc::AllocError;
@@ -37,7 +37,7 @@ fn push_call(
 ) -> Result<(), AllocError>
     ensures { OnOk result (string_bytes text.new ≡ string_bytes text.old ++ call_line pid call outcome) }
 {
-    let name = name_of_call(call);
+    let name = call.name();
     match outcome {
         Outcome::Answered(status) => {
             let answer = status.name();
@@ -45,37 +45,6 @@ fn push_call(
         }
         Outcome::Blocked => write!(text, "{pid} {name} blocked\n"),
         Outcome::Ended(code) => write!(text, "{pid} {name} ended {code}\n"),
-    }
-}
-
-/// The name of the call, as traces have it.
-fn name_of_call(call: CallName) -> &'static str
-    ensures { result.now ≡ call_name call }
-{
-    match call {
-        CallName::Close => "close",
-        CallName::Dup => "dup",
-        CallName::Replace => "replace",
-        CallName::ChanCreate => "chan_create",
-        CallName::ChanWrite => "chan_write",
-        CallName::ChanReadEtc => "chan_read_etc",
-        CallName::EventCreate => "event_create",
-        CallName::Signal => "signal",
-        CallName::SignalPeer => "signal_peer",
-        CallName::WaitOne => "wait_one",
-        CallName::WaitPoll => "wait_poll",
-        CallName::WaitAsync => "wait_async",
-        CallName::PortCreate => "port_create",
-        CallName::PortQueue => "port_queue",
-        CallName::PortWait => "port_wait",
-        CallName::PortPoll => "port_poll",
-        CallName::PortCancel => "port_cancel",
-        CallName::ProcessCreate => "process_create",
-        CallName::ProcessStart => "process_start",
-        CallName::ProcessExit => "process_exit",
-        CallName::TaskKill => "task_kill",
-        CallName::JobCreate => "job_create",
-        CallName::JobSetPolicy => "job_set_policy",
     }
 }
 

@@ -25,15 +25,9 @@ use Rattle.zl_calls.specs.World.{process_entry, body_value, object_value, world_
 use Rattle.zl_calls.specs.Registry.{is_job_in as is_job_object, is_job_body as is_job_here}
 use Rattle.zl_calls.specs.Makes.{IsCauseOf}
 use Rattle.zl_calls.proofs.Labs.{get_seen}
-use Rattle.zl_calls.proofs.Positions.{first_at, get_first, get_missing}
+use Rattle.zl_calls.proofs.Positions.{koid_of, itself, first_at, get_first, get_missing}
 
 -- ---- jobs
-
-abbrev koid_of : Object → ℕ
-koid_of o = o.koid
-
-abbrev itself : Object → Object
-itself o = o
 
 pub job_at : (os : List Object) (k i : ℕ) (o : Object) → Some i ≡ position (λ o. o.koid == k) os → o ≡ get_or os i o → is_job_here o.body ≡ is_job_object (get (map keyed os) k)
 job_at os k i o found read = rw (get_first koid_of itself os k i o (first_at koid_of itself os k i o (sym found)), ← read) refl

@@ -1,7 +1,7 @@
 -- The first element with a key: what it reads and writes, in the map by keys.
-use Rattle.std.proofs.Common.{◌≡◌, ◌<◌, ℕ, zero, suc, Bool, true, false, not, ◌||◌, ◌==◌, List, [], ◌∷◌, length, map, get_or, set, refl, sym, ap, ◌∙◌, cond, Some, None, inl, inr, arith, ◌≤◌, ◌+◌, ◌^◌}
+use Rattle.std.proofs.Common.{◌≡◌, ◌<◌, ℕ, zero, suc, Bool, true, false, ◌||◌, ◌==◌, List, [], ◌∷◌, length, map, get_or, set, refl, sym, ap, ◌∙◌, cond, Some, None, inl, inr, arith, ◌≤◌, ◌+◌, ◌^◌}
 use Rattle.std.specs.Prelude.{nat_lt}
-use Rattle.std.specs.List.{position, position_or_len, filter, list_any}
+use Rattle.std.specs.List.{position, position_or_len, list_any}
 use Rattle.std.proofs.lemmas.Bool.{cases_Bool, eqb-true}
 use Rattle.std.proofs.lemmas.List.Quantifiers.{position-Some}
 use Rattle.std.proofs.lemmas.Bool.Decides.{nat_tests}
@@ -83,10 +83,10 @@ module _ {X Y : Type 0} (key : X → ℕ) (value : X → Y) where
 
 -- ---- one object changes
 
-abbrev koid_of : Object → ℕ
+abbrev pub koid_of : Object → ℕ
 koid_of o = o.koid
 
-abbrev itself : Object → Object
+abbrev pub itself : Object → Object
 itself o = o
 
 abbrev pub registry : List Object → ℕ → Registry
@@ -123,14 +123,6 @@ module _ (os : List Object) (k : ℕ) where
   read_nowhere missing = get_missing koid_of itself os k (sym missing)
 
 -- ---- one object goes
-
-pub without_filtered : (os : List Object) (k : ℕ) → map keyed (filter (λ o. not (o.koid == k)) os) ≡ without (map keyed os) k
-unfolding without
-without_filtered [] k = refl
-without_filtered (o ∷ os) k = elim (cases_Bool (o.koid == k)) as (λ _. map keyed (filter (λ x. not (x.koid == k)) (o ∷ os)) ≡ without (map keyed (o ∷ os)) k) [
-  | inl here ↦ rw here (without_filtered os k)
-  | inr apart ↦ rw apart (ap (λ (rest : Map Object). keyed o ∷ rest) (without_filtered os k))
-]
 
 -- what remains of the objects, by whether k is kept
 pub unkept_at : (r : Registry) (k : ℕ) (o : Object) → get r.objects k ≡ Some o → o.koid ≡ k → (b : Bool) → b ≡ is_kept r.objects o.koid o → without_unheld r k ≡ cond b r (record r { objects = without r.objects k })

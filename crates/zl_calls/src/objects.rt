@@ -1,7 +1,9 @@
-ghost use Rattle.std.specs.Prelude.{[], not, ◌≡◌, ◌-◌, ◌==◌, ◌<◌, ◌^◌, length, nat_lt, take, IfOk, OnErr};
-ghost use Rattle.std.specs.List.{position, filter, list_any};
-ghost use Rattle.zl_rights.specs.Map.{get, without};
-ghost use Rattle.zl_calls.specs.Registry.{has_place, held_once_more, held_once_less, raised_changed, stopped, job_of, job_in, lives_below, has_living_child, is_kept, is_job_at, with_new, holding, changing, letting_go, stopping, without_unheld, released, process_ended};
+ghost use Rattle.std.specs.Prelude.{[], ◌≡◌, ◌+◌, ◌-◌, ◌==◌, map, IsTrue, ◌<◌, ◌^◌, length, nat_lt, take, IfOk, OnErr};
+ghost use Rattle.std.specs.List.{position, list_any};
+ghost use Rattle.std.specs.Ordering.{nat_cmp};
+ghost use Rattle.std.specs.FinMap.Entries.{is_sorted};
+ghost use Rattle.zl_rights.specs.Map.{get};
+ghost use Rattle.zl_calls.specs.Registry.{keyed, has_place, held_once_more, held_once_less, raised_changed, stopped, job_of, job_in, lives_below, has_living_child, is_kept, is_job_at, with_new, holding, changing, letting_go, stopping, without_unheld, released, process_ended};
 ghost use Rattle.zl_calls.specs.Making.{root_alone};
 
 use bitflags::Flags;
@@ -106,11 +108,13 @@ pub struct Objects {
 
 impl Model for Objects {
     ghost use Rattle.std.specs.Prelude.{map};
-    ghost use Rattle.zl_calls.specs.Registry.{Registry, keyed};
+    ghost use Rattle.zl_calls.specs.Registry.{Registry, IsInOrder, keyed};
 
     ghost Value = { Registry };
 
     ghost view = { λ o. record { objects = map keyed o.list.items; next_koid = o.next_koid } };
+
+    ghost invariant = { λ o. IsInOrder (map keyed o.list.items) o.next_koid };
 }
 
 impl Objects {
@@ -164,8 +168,10 @@ impl Objects {
         Ok(koid)
     }
 
-    /// Takes the newest object back, with its koid, as if it had not been made.
+    /// Takes the newest object back, with its koid, as if it had not been made. The koid has to be
+    /// the one given last.
     pub fn take_back(&mut self, koid: Koid)
+        requires { self.old.next_koid ≡ koid + 1 }
         ensures { self.new ≡ record { objects = take (length self.old.objects - 1) self.old.objects; next_koid = koid } }
     {
         self.list.pop();
@@ -270,15 +276,9 @@ impl Objects {
     {
         if let Some(place) = place_of(&self.list, koid) {
             if !self.keeps(self.list[place]) {
-                self.remove(koid);
+                self.list.remove(place);
             }
         }
-    }
-
-    fn remove(&mut self, koid: Koid)
-        ensures { self.new ≡ record self.old { objects = without self.old.objects koid } }
-    {
-        remove_from(&mut self.list, koid);
     }
 
     /// Whether a handle names the object, or it is a process that lives or a job with one.
@@ -302,17 +302,12 @@ impl Objects {
     }
 }
 
-/// Where the object stands in the list.
+/// Where the object stands in a list whose koids rise.
 fn place_of(list: &[Object], koid: Koid) -> Option<usize>
+    requires { IsTrue (is_sorted nat_cmp (map keyed list.now)) }
     ensures { result ≡ position (λ o. o.koid == koid) list.now }
 {
-    list.iter().position(|object| object.koid == koid)
-}
-
-fn remove_from(list: &mut Vec<Object>, koid: Koid)
-    ensures { list.new.items ≡ filter (λ o. not (o.koid == koid)) list.old.items }
-{
-    list.retain(|object| object.koid != koid);
+    list.binary_search_by_key(&koid, |object| object.koid).ok()
 }
 
 /// Whether a process of the job lives.

@@ -20,11 +20,11 @@ module _ {X : Type 0} where
   below_each k (e ∷ m) below (suc i) d lt = below_each k m (below_parts k e m below).1 i d (omega arith)
 
   -- the first key is below each later one
-  first_below : (e : ℕ × X) (m : Map X) → IsTrue (is_sorted nat_cmp (e ∷ m)) → (i : ℕ) (d : ℕ × X) → i < length m → e.0 < (get_or m i d).0
+  pub first_below : (e : ℕ × X) (m : Map X) → IsTrue (is_sorted nat_cmp (e ∷ m)) → (i : ℕ) (d : ℕ × X) → i < length m → e.0 < (get_or m i d).0
   first_below e m sorted = below_each e.0 m (sorted_parts e m sorted).0
 
   -- the keys rise
-  keys_rise : (m : Map X) → IsTrue (is_sorted nat_cmp m) → (i j : ℕ) (d : ℕ × X) → i ≤ j → j < length m → (get_or m i d).0 ≤ (get_or m j d).0
+  pub keys_rise : (m : Map X) → IsTrue (is_sorted nat_cmp m) → (i j : ℕ) (d : ℕ × X) → i ≤ j → j < length m → (get_or m i d).0 ≤ (get_or m j d).0
   keys_rise [] sorted i j d le lt = absurd (omega arith)
   keys_rise (e ∷ m) sorted zero zero d le lt = omega arith
   keys_rise (e ∷ m) sorted zero (suc j) d le lt = omega (arith, first_below e m sorted j d (omega arith))

@@ -1,5 +1,5 @@
 -- The numbers of rights, signals, kinds, statuses, conditions, actions and modes.
-use Rattle.std.specs.Prelude.{ℕ, ◌+◌, ℤ, pos, negsuc, Bool, not, ◌==◌, bit_and, bit_or, bit_xor, Option, Some, None, if◌then◌else◌}
+use Rattle.std.specs.Prelude.{ℕ, ◌+◌, ◌^◌, ℤ, pos, negsuc, Bool, not, ◌==◌, bit_and, bit_or, bit_xor, Option, Some, None, if◌then◌else◌}
 use Rattle.zl_rights.specs.declared.rights.Rights.{Rights}
 use Rattle.zl_rights.specs.declared.kind.Kind.{Kind}
 use Rattle.zl_rights.specs.declared.kind.Kind.TheVariants as kind
@@ -116,6 +116,10 @@ NO_JOBS = 0x10
 -- at a job: no process directly below it lives
 abbrev pub NO_PROCESSES : ℕ
 NO_PROCESSES = 0x20
+
+-- the user signal n, from 0 to 7
+abbrev pub user_signal : ℕ → ℕ
+user_signal n = 2 ^ (24 + n)
 
 -- the eight signals that calls may set and clear at every kind but ports
 abbrev pub USER_SIGNALS : ℕ

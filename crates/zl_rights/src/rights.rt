@@ -1,5 +1,5 @@
 ghost use Rattle.std.specs.Prelude.{⊤, ◌≡◌, [], ◌∷◌, codes, ok_or};
-ghost use Rattle.zl_rights.specs.Numbers.{bits, within, narrowed};
+ghost use Rattle.zl_rights.specs.Numbers.{bits, within, narrowed, DUPLICATE, TRANSFER, READ, WRITE, DESTROY, SET_POLICY, SIGNAL, SIGNAL_PEER, WAIT, INSPECT, MANAGE_JOB, MANAGE_PROCESS};
 
 use crate::status::Status;
 use bitflags::{Flag, Flags, bitflag_items};
@@ -32,11 +32,11 @@ impl Flags for Rights {
 
     ghost exact = { ⊤ };
 
-    ghost table = { (codes "DUPLICATE", 0x1) ∷ (codes "TRANSFER", 0x2) ∷ (codes "READ", 0x4)
-        ∷ (codes "WRITE", 0x8) ∷ (codes "DESTROY", 0x200) ∷ (codes "SET_POLICY", 0x400)
-        ∷ (codes "SIGNAL", 0x1000) ∷ (codes "SIGNAL_PEER", 0x2000) ∷ (codes "WAIT", 0x4000)
-        ∷ (codes "INSPECT", 0x8000) ∷ (codes "MANAGE_JOB", 0x10000)
-        ∷ (codes "MANAGE_PROCESS", 0x20000) ∷ [] };
+    ghost table = { (codes "DUPLICATE", DUPLICATE) ∷ (codes "TRANSFER", TRANSFER)
+        ∷ (codes "READ", READ) ∷ (codes "WRITE", WRITE) ∷ (codes "DESTROY", DESTROY)
+        ∷ (codes "SET_POLICY", SET_POLICY) ∷ (codes "SIGNAL", SIGNAL)
+        ∷ (codes "SIGNAL_PEER", SIGNAL_PEER) ∷ (codes "WAIT", WAIT) ∷ (codes "INSPECT", INSPECT)
+        ∷ (codes "MANAGE_JOB", MANAGE_JOB) ∷ (codes "MANAGE_PROCESS", MANAGE_PROCESS) ∷ [] };
 
     ghost set_of = { λ r. r.0 };
 

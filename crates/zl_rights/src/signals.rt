@@ -1,5 +1,5 @@
 ghost use Rattle.std.specs.Prelude.{⊤, ◌≡◌, [], ◌∷◌, codes};
-ghost use Rattle.zl_rights.specs.Numbers.{changed};
+ghost use Rattle.zl_rights.specs.Numbers.{changed, READABLE, WRITABLE, PEER_CLOSED, SIGNALED, TERMINATED, NO_JOBS, NO_PROCESSES, user_signal};
 
 use bitflags::{Flag, Flags, bitflag_items};
 
@@ -35,13 +35,14 @@ impl Flags for Signals {
 
     ghost exact = { ⊤ };
 
-    ghost table = { (codes "READABLE", 0x1) ∷ (codes "WRITABLE", 0x2) ∷ (codes "PEER_CLOSED", 0x4)
-        ∷ (codes "SIGNALED", 0x8) ∷ (codes "TERMINATED", 0x8) ∷ (codes "NO_JOBS", 0x10)
-        ∷ (codes "NO_PROCESSES", 0x20) ∷ (codes "USER_0", 0x1000000)
-        ∷ (codes "USER_1", 0x2000000) ∷ (codes "USER_2", 0x4000000)
-        ∷ (codes "USER_3", 0x8000000) ∷ (codes "USER_4", 0x10000000)
-        ∷ (codes "USER_5", 0x20000000) ∷ (codes "USER_6", 0x40000000)
-        ∷ (codes "USER_7", 0x80000000) ∷ [] };
+    ghost table = { (codes "READABLE", READABLE) ∷ (codes "WRITABLE", WRITABLE)
+        ∷ (codes "PEER_CLOSED", PEER_CLOSED) ∷ (codes "SIGNALED", SIGNALED)
+        ∷ (codes "TERMINATED", TERMINATED) ∷ (codes "NO_JOBS", NO_JOBS)
+        ∷ (codes "NO_PROCESSES", NO_PROCESSES) ∷ (codes "USER_0", user_signal 0)
+        ∷ (codes "USER_1", user_signal 1) ∷ (codes "USER_2", user_signal 2)
+        ∷ (codes "USER_3", user_signal 3) ∷ (codes "USER_4", user_signal 4)
+        ∷ (codes "USER_5", user_signal 5) ∷ (codes "USER_6", user_signal 6)
+        ∷ (codes "USER_7", user_signal 7) ∷ [] };
 
     ghost set_of = { λ s. s.0 };
 

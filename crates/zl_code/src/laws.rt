@@ -9,12 +9,18 @@ ghost use Rattle.zl_code.specs.declared.history.CallName.{CallName};
 ghost use Rattle.zl_code.specs.declared.history.Outcome.TheVariants as outcome;
 ghost use Rattle.zl_code.specs.declared.history.TraceItem.{TraceItem};
 ghost use Rattle.zl_code.specs.declared.history.TraceItem.TheVariants as item;
-ghost use Rattle.zl_code.specs.Image.{Library};
+ghost use Rattle.zl_code.specs.Image.{Image, Library};
+ghost use Rattle.zl_code.specs.Spells.{Spells};
 ghost use Rattle.zl_code.specs.declared.boot.Statement.{Statement};
 ghost use Rattle.zl_code.specs.Steps.{Step, Runs, single, IsLegalHistory};
 ghost use Rattle.zl_code.specs.Boot.{IsBoot};
 ghost use Rattle.zl_code.specs.Koids.{HasGivenKoids, KeepsKoids};
 ghost use Rattle.zl_code.specs.Handles.{HandlesAreNamed, HandlesAreSound, Throughout};
+
+/// No bytes spell two images.
+pub fn no_bytes_spell_two_images()
+    ensures { (bytes : List ℕ) (i j : Image) → Spells bytes i → Spells bytes j → i ≡ j }
+{}
 
 /// A ready process has a step.
 pub fn a_ready_process_has_a_step()

@@ -23,7 +23,7 @@ pub enum Statement {
 }
 
 /// Which statement can't be done, counted from 0, and why. Own profile.
-#[derive(Clone, Copy, PartialEq, Eq, Debug)]
+#[derive(Clone, Copy)]
 pub struct BootFault {
     /// For a limit of the trace above `Boot::MOST_ITEMS` this is one past the last statement.
     pub statement: usize,
@@ -31,7 +31,7 @@ pub struct BootFault {
 }
 
 /// Why a statement can't be done. Own profile.
-#[derive(Clone, Copy, PartialEq, Eq, Debug)]
+#[derive(Clone, Copy)]
 pub enum BootCause {
     /// A process can't start with these handles: there are eight or more, one has a right that a
     /// new object of its kind doesn't give, or the program was checked for others. Not yet: no

@@ -1,6 +1,6 @@
 //! The bytes of an image.
 
-ghost use Rattle.std.specs.Prelude.{◌≡◌, ◌++◌, ◌∷◌, [], length, OnOk, IfOk, if◌then◌else◌};
+ghost use Rattle.std.specs.Prelude.{◌≡◌, ◌++◌, ◌∷◌, [], OnOk, IfOk, if◌then◌else◌};
 ghost use Rattle.std.specs.List.{flat_map};
 ghost use Rattle.zl_code.specs.Image.{needs_value};
 ghost use Rattle.zl_code.specs.Spells.{bytes_of, instr_bytes, kind_byte, start_bytes, slot_bytes, needs_byte, header, Spells};

@@ -7,7 +7,7 @@ use zl_rights::{Pid, Status};
 ///
 /// Source: the pages of the system calls in the Fuchsia documentation, as "zx_handle_close" of
 /// `Close`; the names here are own profile.
-#[derive(Clone, Copy, PartialEq, Eq, Debug)]
+#[derive(Clone, Copy)]
 pub enum CallName {
     Close,
     Dup,
@@ -68,7 +68,7 @@ impl CallName {
 }
 
 /// How a system call ends. Own profile.
-#[derive(Clone, Copy, PartialEq, Eq, Debug)]
+#[derive(Clone, Copy)]
 pub enum Outcome {
     /// It is answered with this status.
     Answered(Status),
@@ -79,7 +79,7 @@ pub enum Outcome {
 }
 
 /// One item of a trace. Own profile.
-#[derive(Clone, Copy, PartialEq, Eq, Debug)]
+#[derive(Clone, Copy)]
 pub enum TraceItem {
     /// So many local instructions in a row, at least one.
     Run {
@@ -99,7 +99,7 @@ pub enum TraceItem {
 }
 
 /// What a process is in, as a trace tells it. Own profile.
-#[derive(Clone, Copy, PartialEq, Eq, Debug)]
+#[derive(Clone, Copy)]
 pub enum ProcState {
     Created,
     Ready,

@@ -8,7 +8,7 @@ ghost use Rattle.zl_rights.specs.Numbers.{condition_number, action_number, mode_
 /// What a job's policy decides on. `NewAny` stands for all conditions of making an object.
 ///
 /// Source: the page "zx_job_set_policy" of the Fuchsia documentation; the numbers are own profile.
-#[derive(Clone, Copy, PartialEq, Eq, Debug)]
+#[derive(Clone, Copy)]
 pub enum Condition {
     BadHandle,
     WrongObject,
@@ -22,7 +22,7 @@ pub enum Condition {
 /// What a policy does where its condition is met.
 ///
 /// Source: the page "zx_job_set_policy" of the Fuchsia documentation; the numbers are own profile.
-#[derive(Clone, Copy, PartialEq, Eq, Debug)]
+#[derive(Clone, Copy)]
 pub enum Action {
     Allow,
     Deny,
@@ -32,7 +32,7 @@ pub enum Action {
 /// How conditions that are set already are treated: `Relative` leaves them, `Absolute` refuses.
 ///
 /// Source: the page "zx_job_set_policy" of the Fuchsia documentation; the numbers are own profile.
-#[derive(Clone, Copy, PartialEq, Eq, Debug)]
+#[derive(Clone, Copy)]
 pub enum Mode {
     Relative,
     Absolute,

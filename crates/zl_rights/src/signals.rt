@@ -7,7 +7,7 @@ use bitflags::{Flag, Flags, bitflag_items};
 ///
 /// `SIGNALED` of an event and `TERMINATED` of a process or a job are one bit.
 /// Source: the page "Signals" of the Fuchsia documentation.
-#[derive(Clone, Copy, PartialEq, Eq, Debug)]
+#[derive(Clone, Copy)]
 pub struct Signals(u32);
 
 bitflag_items! {

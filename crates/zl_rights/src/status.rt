@@ -1,4 +1,4 @@
-ghost use Rattle.std.specs.Prelude.{◌≡◌, ℤ, pos};
+ghost use Rattle.std.specs.Prelude.{◌≡◌};
 ghost use Rattle.zl_rights.specs.Numbers.{status_number, status_magnitude};
 ghost use Rattle.zl_rights.specs.Names.{status_name};
 

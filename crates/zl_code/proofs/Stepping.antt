@@ -13,7 +13,7 @@ use Rattle.zl_rights.specs.declared.policy.Action.TheVariants as action
 use Rattle.zl_rights.specs.declared.policy.Condition.{Condition}
 use Rattle.zl_rights.specs.declared.policy.Condition.TheVariants as condition
 use Rattle.zl_rights.specs.declared.rights.Rights.{Rights}
-use Rattle.zl_rights.specs.Numbers.{STUCK, bits, within, narrowed}
+use Rattle.zl_rights.specs.Numbers.{takes, STUCK, bits, within, narrowed}
 use Rattle.zl_rights.specs.Map.{Map, get, has_key, without, where_key}
 use Rattle.zl_rights.specs.World.{World, Process, Ready}
 use Rattle.zl_rights.specs.Signals.{is_empty}
@@ -27,7 +27,7 @@ use Rattle.zl_code.specs.declared.history.TraceItem.{TraceItem}
 use Rattle.zl_code.specs.declared.history.TraceItem.TheVariants as item
 use Rattle.zl_code.specs.Image.{Library}
 use Rattle.zl_code.specs.Request.{Site, Request, close, dup, event_create, signal, process_exit}
-use Rattle.zl_code.specs.Tests.{answer_if, entry_at, object_at, body_of, parent_of, action_of, ends_if_kill, faults, unless_allowed, creates, by_policy, Operand, takes, operand_of, operand, contains, operand_after, seen_after, examined, has_room, has_koids, handles_to, with_rights, copy_of}
+use Rattle.zl_code.specs.Tests.{answer_if, entry_at, object_at, body_of, parent_of, action_of, ends_if_kill, faults, unless_allowed, creates, by_policy, Operand, operand_of, operand, contains, operand_after, seen_after, examined, has_room, has_koids, handles_to, with_rights, copy_of}
 use Rattle.zl_code.specs.Refusals.{refusal, may_change, listed, handle_operands, condition_of}
 use Rattle.zl_code.specs.Effects.{on_process, remove_all, taken_handles, new_handles, may_get, gets_all, may_choose, process_without, ended}
 use Rattle.zl_code.specs.Calls.{taken, after_ok, after_refusal, ok_outcome, Refused, Values}

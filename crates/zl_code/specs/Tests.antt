@@ -1,5 +1,5 @@
 -- The words in which the table of calls is written.
-use Rattle.std.specs.Prelude.{ℕ, ◌+◌, ◌^◌, Bool, true, ◌&&◌, not, ◌==◌, nat_le, List, [], ◌∷◌, length, Option, Some, None, if◌then◌else◌, unwrap_or}
+use Rattle.std.specs.Prelude.{ℕ, ◌+◌, ◌^◌, Bool, ◌&&◌, not, ◌==◌, nat_le, List, [], ◌∷◌, length, Option, Some, None, if◌then◌else◌, unwrap_or}
 use Rattle.std.specs.List.{list_any, sum_by, count_by}
 use Rattle.std.specs.Bool.{then_some}
 use Rattle.zl_code.specs.First.{first_some}
@@ -12,7 +12,7 @@ use Rattle.zl_rights.specs.declared.policy.Condition.TheVariants as condition
 use Rattle.zl_rights.specs.declared.policy.Action.{Action}
 use Rattle.zl_rights.specs.declared.policy.Action.TheVariants as action
 use Rattle.zl_rights.specs.declared.entry.Entry.{Entry}
-use Rattle.zl_rights.specs.Numbers.{bits, within, narrowed, same_kind, condition_number, BY_POLICY}
+use Rattle.zl_rights.specs.Numbers.{bits, within, narrowed, takes, condition_number, BY_POLICY}
 use Rattle.zl_rights.specs.Map.{Map, get}
 use Rattle.zl_rights.specs.World.{World, Process, Object, Body, ChannelEnd, JobBody, ProcessBody}
 use Rattle.zl_code.specs.declared.history.Outcome.{Outcome}
@@ -118,11 +118,6 @@ pub record Operand : Type 0 where
 -- handles of any kind will do
 abbrev pub any : List Kind
 any = []
-
--- a handle of this kind will do; no kinds stand for any
-abbrev pub takes : List Kind → Kind → Bool
-takes [] k = true
-takes (x ∷ xs) k = list_any (same_kind k) (x ∷ xs)
 
 -- the fault of a handle operand: no handle comes first, then the wrong kind, then a right that is missing
 abbrev pub operand_of : World → ℕ → List Kind → ℕ → Option Entry → Option Outcome

@@ -1,5 +1,6 @@
 -- The numbers of rights, signals, kinds, statuses, conditions, actions and modes.
-use Rattle.std.specs.Prelude.{ℕ, ◌+◌, ◌^◌, ℤ, pos, negsuc, Bool, not, ◌==◌, bit_and, bit_or, bit_xor, Option, Some, None, if◌then◌else◌}
+use Rattle.std.specs.Prelude.{ℕ, ◌+◌, ◌^◌, ℤ, pos, negsuc, Bool, not, ◌||◌, ◌==◌, List, length, bit_and, bit_or, bit_xor, Option, Some, None, if◌then◌else◌}
+use Rattle.std.specs.List.{list_any}
 use Rattle.zl_rights.specs.declared.rights.Rights.{Rights}
 use Rattle.zl_rights.specs.declared.kind.Kind.{Kind}
 use Rattle.zl_rights.specs.declared.kind.Kind.TheVariants as kind
@@ -36,40 +37,51 @@ bits r = r.0
 abbrev pub rights_of : ℕ → Rights
 rights_of n = record { 0 = n }
 
--- one bit for each right; the table of calls says what each is needed for
+-- dup may copy the handle
 abbrev pub DUPLICATE : ℕ
 DUPLICATE = 0x1
 
+-- the handle may go into a message, or to a process that starts
 abbrev pub TRANSFER : ℕ
 TRANSFER = 0x2
 
+-- messages and packets may be received by it
 abbrev pub READ : ℕ
 READ = 0x4
 
+-- messages, packets and waits may be sent by it, and a process started
 abbrev pub WRITE : ℕ
 WRITE = 0x8
 
+-- its process or job may be killed
 abbrev pub DESTROY : ℕ
 DESTROY = 0x200
 
+-- policies of its job may be set
 abbrev pub SET_POLICY : ℕ
 SET_POLICY = 0x400
 
+-- signals of its object may be changed
 abbrev pub SIGNAL : ℕ
 SIGNAL = 0x1000
 
+-- signals of the other end may be changed
 abbrev pub SIGNAL_PEER : ℕ
 SIGNAL_PEER = 0x2000
 
+-- one may wait for its signals
 abbrev pub WAIT : ℕ
 WAIT = 0x4000
 
+-- part of the default rights of every kind; no call needs it
 abbrev pub INSPECT : ℕ
 INSPECT = 0x8000
 
+-- jobs may be made in its job
 abbrev pub MANAGE_JOB : ℕ
 MANAGE_JOB = 0x1_0000
 
+-- processes may be made in its job
 abbrev pub MANAGE_PROCESS : ℕ
 MANAGE_PROCESS = 0x2_0000
 
@@ -138,6 +150,10 @@ kind_number kind.Job = 17
 -- the two are one kind
 abbrev pub same_kind : Kind → Kind → Bool
 same_kind a b = kind_number a == kind_number b
+
+-- a handle of this kind will do; no kinds stand for any
+abbrev pub takes : List Kind → Kind → Bool
+takes kinds k = length kinds == 0 || list_any (same_kind k) kinds
 
 -- the rights of the first handle to a new object
 abbrev pub default_rights_of : Kind → ℕ

@@ -1,13 +1,12 @@
 -- The table of a process: its handles by their values, and what operations make of it.
-use Rattle.std.specs.Prelude.{◌≡◌, ℕ, ◌<◌, ◌≤◌, Bool, ◌||◌, ◌==◌, List, length, Option, Some, None, IfSome, Result, Ok, Err, IsTrue, if◌then◌else◌}
-use Rattle.std.specs.List.{list_any}
+use Rattle.std.specs.Prelude.{◌≡◌, ℕ, ◌<◌, ◌≤◌, List, length, Option, Some, None, IfSome, Result, Ok, Err, IsTrue, if◌then◌else◌}
 use Rattle.std.specs.Ordering.{nat_cmp}
 use Rattle.std.specs.FinMap.Entries.{is_sorted}
 use Rattle.zl_rights.specs.declared.kind.Kind.{Kind}
 use Rattle.zl_rights.specs.declared.entry.Entry.{Entry}
 use Rattle.zl_rights.specs.declared.status.Status.{Status}
 use Rattle.zl_rights.specs.declared.status.Status.TheVariants as status
-use Rattle.zl_rights.specs.Numbers.{bits, within, same_kind}
+use Rattle.zl_rights.specs.Numbers.{bits, within, takes}
 use Rattle.zl_rights.specs.Map.{Map, get, put, without, has_key}
 use Rattle.zl_table.specs.declared.table.InsertFault.{InsertFault}
 use Rattle.zl_table.specs.declared.table.InsertFault.TheVariants as fault
@@ -43,10 +42,6 @@ pub record Drains (old : Handles) (entry : Entry) (new : Handles) : Type 0 where
   pub value : ℕ
   pub greatest : (other : ℕ) → value < other → get old.entries other ≡ None
   pub removes : Removes old value entry new
-
--- whether a handle of this kind is asked for; no kinds stand for any
-abbrev pub takes : List Kind → Kind → Bool
-takes kinds kind = length kinds == 0 || list_any (same_kind kind) kinds
 
 -- what the entry, if there is one, answers where one of the kinds and the needed rights are asked for
 abbrev pub granted : Option Entry → List Kind → ℕ → Result Entry Status

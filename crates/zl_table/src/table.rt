@@ -1,10 +1,10 @@
-ghost use Rattle.std.specs.Prelude.{◌≡◌, ◌↔◌, ℕ, ◌+◌, ◌<◌, ◌≤◌, IsTrue, [], length, IfOk, OnErr, IfErr, IfSome, IfNone};
+ghost use Rattle.std.specs.Prelude.{◌≡◌, ◌↔◌, ◌+◌, ◌<◌, IsTrue, [], length, IfOk, OnErr, IfErr, IfSome, IfNone};
 ghost use Rattle.std.specs.Bool.{OnTrue, OnFalse};
 ghost use Rattle.std.specs.Ordering.{nat_cmp};
 ghost use Rattle.std.specs.FinMap.Entries.{is_sorted};
-ghost use Rattle.zl_rights.specs.Numbers.{bits};
+ghost use Rattle.zl_rights.specs.Numbers.{bits, takes};
 ghost use Rattle.zl_rights.specs.Map.{get, has_key, update};
-ghost use Rattle.zl_table.specs.Table.{IsTable, Inserts, Removes, Drains, takes, looked_up, refused_entry};
+ghost use Rattle.zl_table.specs.Table.{IsTable, Inserts, Removes, Drains, looked_up, refused_entry};
 ghost use Rattle.zl_table.specs.Places.{IsAt, IsGapFor, next_value};
 
 use std::alloc::Global;

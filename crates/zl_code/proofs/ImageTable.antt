@@ -10,7 +10,7 @@ use Rattle.zl_code.specs.declared.instr.LocalInstr.TheVariants as local
 use Rattle.zl_code.specs.declared.instr.CallInstr.{CallInstr}
 use Rattle.zl_code.specs.declared.instr.CallInstr.TheVariants as call
 use Rattle.zl_code.specs.Instructions.{Layout, layout_of, row_of}
-use Rattle.zl_code.specs.Spells.{local_parts, call_parts, instr_fault, instr_bytes, bytes_of, number_of, number_at, is_local_in_range, is_call_in_range, is_instr_in_range, are_registers, is_room, are_places, is_packed, is_word}
+use Rattle.zl_code.specs.Spells.{local_parts, call_parts, instr_fault, instr_bytes, bytes_of, number_of, number_at, is_local_in_range, is_call_in_range, is_instr_in_range, are_registers, is_room, are_places, is_packed, is_32_bits}
 use Rattle.zl_code.proofs.ImageBytes.{number_of-bytes_of}
 use Rattle.zl_code.proofs.ImageInstr.{instr_fault-unknown}
 
@@ -85,20 +85,20 @@ pub record Fits (raw : Bool) (i : Instr) : Type 0 where
   pub again : read_instr (instr_bytes i) ≡ i
 
 -- the number of the bytes of a number of 32 bits is that number
-word_again : (n : ℕ) → is_word n ≡ true → number_of (bytes_of 4 n) ≡ n
+word_again : (n : ℕ) → is_32_bits n ≡ true → number_of (bytes_of 4 n) ≡ n
 word_again n h = number_of-bytes_of 4 n (ltb-true _ _ h)
 
 -- the ranges of the registers rs, and of imm or target or both
-imm_and : (imm : ℕ) (rs : List ℕ) → (is_word imm && true) && are_registers rs ≡ true → (is_word imm ≡ true) × (are_registers rs ≡ true)
-imm_and imm rs h = let p = and_parts (is_word imm && true) (are_registers rs) h in ((and_parts (is_word imm) true p.0).0, p.1)
+imm_and : (imm : ℕ) (rs : List ℕ) → (is_32_bits imm && true) && are_registers rs ≡ true → (is_32_bits imm ≡ true) × (are_registers rs ≡ true)
+imm_and imm rs h = let p = and_parts (is_32_bits imm && true) (are_registers rs) h in ((and_parts (is_32_bits imm) true p.0).0, p.1)
 
-target_and : (target : ℕ) (rs : List ℕ) → is_word target && are_registers rs ≡ true → (is_word target ≡ true) × (are_registers rs ≡ true)
-target_and target rs h = and_parts (is_word target) (are_registers rs) h
+target_and : (target : ℕ) (rs : List ℕ) → is_32_bits target && are_registers rs ≡ true → (is_32_bits target ≡ true) × (are_registers rs ≡ true)
+target_and target rs h = and_parts (is_32_bits target) (are_registers rs) h
 
-both_and : (imm target : ℕ) (rs : List ℕ) → (is_word imm && is_word target) && are_registers rs ≡ true → (is_word imm ≡ true) × (is_word target ≡ true) × (are_registers rs ≡ true)
+both_and : (imm target : ℕ) (rs : List ℕ) → (is_32_bits imm && is_32_bits target) && are_registers rs ≡ true → (is_32_bits imm ≡ true) × (is_32_bits target ≡ true) × (are_registers rs ≡ true)
 both_and imm target rs h =
-    let p = and_parts (is_word imm && is_word target) (are_registers rs) h in
-    let q = and_parts (is_word imm) (is_word target) p.0 in
+    let p = and_parts (is_32_bits imm && is_32_bits target) (are_registers rs) h in
+    let q = and_parts (is_32_bits imm) (is_32_bits target) p.0 in
     (q.0, q.1, p.1)
 
 local_fits : (raw : Bool) (i : LocalInstr) → is_local_in_range i ≡ true → Fits raw (instr.Local i)

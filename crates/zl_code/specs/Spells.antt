@@ -150,8 +150,8 @@ abbrev pub are_registers : List ℕ → Bool
 are_registers rs = list_all (λ r. nat_lt r 32) rs
 
 -- the number has 32 bits at most
-abbrev pub is_word : ℕ → Bool
-is_word n = nat_lt n 4294967296
+abbrev pub is_32_bits : ℕ → Bool
+is_32_bits n = nat_lt n 4294967296
 
 -- room for n handles in triples of registers, from the register first on
 abbrev pub is_room : ℕ → ℕ → Bool
@@ -173,7 +173,7 @@ register_in (Some b) = if nat_lt b 32 then Some b else None
 
 -- the last eight bytes have room for what stands there, and each register that they name is one
 abbrev pub is_last_in_range : List ℕ → Last → Bool
-is_last_in_range registers (Numbers imm target) = is_word imm && is_word target
+is_last_in_range registers (Numbers imm target) = is_32_bits imm && is_32_bits target
 is_last_in_range registers (Room handles) = is_room (slice_index registers 6) handles
 is_last_in_range registers (Places places) = (length places == 8) && (are_places places && is_packed places)
 

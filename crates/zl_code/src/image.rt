@@ -33,7 +33,7 @@ pub(crate) struct Needs {
 /// A handle with which a process of the program starts. Own profile.
 #[derive(Clone, Copy)]
 pub struct Start {
-    /// No kind is any kind.
+    /// `None` stands for any kind.
     pub kind: Option<Kind>,
     /// Within the default rights of the kind, or within the known rights for any kind.
     pub rights: Rights,
@@ -42,7 +42,7 @@ pub struct Start {
 /// An array of places for handles. Own profile.
 #[derive(Clone, Copy)]
 pub struct SlotArray {
-    /// No kind is any kind.
+    /// `None` stands for any kind.
     pub kind: Option<Kind>,
     /// How many places there are, 1 to 256.
     pub length: u16,
@@ -69,9 +69,6 @@ impl Model for Image {
 }
 
 impl Image {
-    ghost use Rattle.std.specs.Prelude.{IsTrue};
-    ghost use Rattle.zl_code.specs.Spells.{is_in_range};
-
     /// The most instructions that an image has.
     pub const MOST_INSTRUCTIONS: usize = 4096;
 
@@ -146,6 +143,7 @@ impl Image {
     pub fn len(&self) -> usize
         ensures value { result ≡ length self.now.code }
         ensures most { result ≤ 4096 }
+        // What is public of the invariant: callers learn it here of any image.
         ensures in_range { IsTrue (is_in_range self.now) }
     {
         self.code.len()
@@ -228,9 +226,11 @@ pub enum DecodeFault {
     Length,
     /// An unknown opcode, without the raw mark.
     UnknownOp,
-    /// A field that the instruction doesn't use isn't 0.
+    /// A field that the instruction doesn't use isn't 0, or a register stands behind an empty place of
+    /// a list of handles.
     UnusedField,
-    /// A register above 31.
+    /// A register above 31; or a byte of a list of handles that is no register and not `ff`; or room
+    /// for more than 8 handles, or past the last register.
     BadRegister,
     /// A field of the header or of a declaration is out of its range.
     BadHeader,

@@ -318,7 +318,7 @@ pub enum CallInstr {
 #[derive(Clone, Copy)]
 pub struct HandleList {
     // Registers from the first place on, and `HandleList::NONE` in the places behind them.
-    pub(crate) places: [u8; 8],
+    pub(crate) places: [u8; HandleList::MOST],
 }
 
 impl HandleList {

@@ -27,7 +27,7 @@ impl Register {
         ensures found { IfSome result (λ register. register ≡ number) }
         ensures missing { IfNone result (32 ≤ number) }
     {
-        if number < 32 {
+        if usize::from(number) < Register::COUNT {
             Some(Register { number })
         } else {
             None

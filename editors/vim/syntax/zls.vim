@@ -17,9 +17,11 @@ syntax match zlsError /[^0-9a-f ]/ contained
 syntax match zlsDigits /[0-9a-f]\+/ contained
 
 " The schedule: pairs of a process and its turns.
-syntax region zlsSchedule matchgroup=zlsProgram start=/^ *-- *$/ end=/\%$/ contains=zlsPid,zlsNumber,zlsComment,zlsForeign
+syntax region zlsSchedule matchgroup=zlsProgram start=/^ *-- *$/ end=/\%$/ contains=zlsPid,zlsNumber,zlsComment,zlsBlank,zlsForeign
 syntax match zlsPid /\%(^ *\)\@<=\d\+\>/ contained nextgroup=zlsNumber skipwhite
 
+" Only spaces part words.
+syntax match zlsBlank /[\t\r]/
 syntax match zlsForeign /[^\x00-\x7f]/
 syntax match zlsComment /^#.*/ contains=zlsForeign,zlsTodo
 syntax keyword zlsTodo TODO FIXME contained
@@ -32,6 +34,7 @@ highlight default link zlsProgram PreProc
 highlight default link zlsDigits Number
 highlight default link zlsPid Identifier
 highlight default link zlsError Error
+highlight default link zlsBlank Error
 highlight default link zlsForeign Error
 highlight default link zlsComment Comment
 highlight default link zlsTodo Todo

@@ -18,7 +18,7 @@ syntax match zlsDigits /[0-9a-f]\+/ contained
 
 " The schedule: pairs of a process and its turns.
 syntax region zlsSchedule matchgroup=zlsProgram start=/^ *-- *$/ end=/\%$/ contains=zlsPid,zlsNumber,zlsComment,zlsBlank,zlsForeign
-syntax match zlsPid /\%(^ *\)\@<=\d\+\>/ contained nextgroup=zlsNumber skipwhite
+syntax match zlsPid /\%(^ *\)\@<=\d\+\>/ contained
 
 " Only spaces part words.
 syntax match zlsBlank /[\t\r]/

@@ -13,7 +13,7 @@ use Rattle.zl_rights.specs.declared.entry.Entry.{Entry}
 use Rattle.zl_rights.specs.Map.{Map, get, has_key, each}
 use Rattle.zl_rights.specs.World.{World, Process as ProcessValue, State as StateValue, Created, Ready, Blocked, Ended, Gone}
 use Rattle.zl_rights.specs.Signals.{is_process, runs, lives, is_job_below, is_process_of, state_passes}
-use Rattle.zl_rights.specs.Settle.{Settles, Koids, is_held, in_table, in_queue, has_living_child as living_child, process_without, state_without}
+use Rattle.zl_rights.specs.Settle.{Settles, Koids, is_held, in_table, in_queue, has_living_child as living_child, process_settled, state_without}
 use Rattle.zl_code.specs.declared.history.CallName.{CallName}
 use Rattle.zl_code.specs.declared.history.Outcome.{Outcome}
 use Rattle.zl_code.specs.declared.history.TraceItem.TheVariants as item
@@ -115,7 +115,7 @@ kept_state : (b : Bool) (s : State) → state_without b (state_value s) ≡ stat
 kept_state b state.Ready = refl
 kept_state b (state.Ended code) = refl
 
-all_started : (K : Koids) (ps : List Process) → each (process_without K) (map process_entry ps) ≡ map process_entry ps
+all_started : (K : Koids) (ps : List Process) → each (process_settled K) (map process_entry ps) ≡ map process_entry ps
 unfolding each
 all_started K [] = refl
 all_started K (p ∷ ps) = rw (kept_state (K p.pid) p.state, all_started K ps) refl

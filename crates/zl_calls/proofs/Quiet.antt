@@ -7,7 +7,7 @@ use Rattle.std.proofs.lemmas.List.{append-nil}
 use Rattle.zl_rights.specs.Map.{Map, get, has_key, without, where_key, each}
 use Rattle.zl_rights.specs.World.{World, Process, Object, Body, PortBody}
 use Rattle.zl_rights.specs.Signals.{is_process, lives, is_job_below, is_process_of}
-use Rattle.zl_rights.specs.Settle.{Koids, Settles, IsHeld, is_held, in_table, in_queue, has_living_child, names, queue_of, without_others, process_without}
+use Rattle.zl_rights.specs.Settle.{Koids, Settles, IsHeld, is_held, in_table, in_queue, has_living_child, names, queue_of, without_others, process_settled}
 use Rattle.zl_rights.specs.Wakes.{wakes, fired, body_with_packets}
 use Rattle.zl_rights.proofs.MapTests.{each_same}
 use Rattle.zl_rights.proofs.Settling.{is_held-larger}
@@ -38,7 +38,7 @@ wakes_nothing ps os n = ap (λ objects. quiet ps objects n) (each_same (λ k o. 
 
 -- no process waits to be started
 pub record Started (ps : Map Process) : Type 0 where
-  pub stays : (K : Koids) → each (process_without K) ps ≡ ps
+  pub stays : (K : Koids) → each (process_settled K) ps ≡ ps
 
 module _ {X : Type 0} where
   pub where_passing : (p : ℕ → Bool) (m : Map X) → ((k : ℕ) → IsTrue (has_key m k) → p k ≡ true) → where_key p m ≡ m

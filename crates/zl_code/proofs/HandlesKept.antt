@@ -12,8 +12,7 @@ use Rattle.zl_rights.specs.Map.{Map, get, put, without, where_key, has_key}
 use Rattle.zl_rights.specs.World.{World, Process, State, Created, Ready, Blocked, Ended, Gone, SignalOf, PacketAt, Object, Body, ChannelEnd, EventBody, PortBody, JobBody, ProcessBody, Packet}
 use Rattle.zl_rights.specs.Numbers.{narrowed, meets, default_rights_of}
 use Rattle.zl_rights.specs.Signals.{lives, active}
-use Rattle.zl_rights.specs.Settle.{Settles, without_others, queue_of}
-use Rattle.zl_rights.specs.Settle.{process_without as process_settled}
+use Rattle.zl_rights.specs.Settle.{process_settled, Settles, without_others, queue_of}
 use Rattle.zl_rights.specs.Wakes.{wakes, fired, packets_for, packet_values, woken, made_ready, with_body, woken_by_first, woken_by, woken_at_port, woken_from, woken_if_there, body_with_packets}
 use Rattle.zl_rights.proofs.Narrowed.{narrowed_within}
 use Rattle.zl_code.specs.declared.boot.Statement.{Statement}

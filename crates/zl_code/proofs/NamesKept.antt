@@ -12,8 +12,7 @@ use Rattle.zl_rights.specs.declared.status.Status.{Status}
 use Rattle.zl_rights.specs.Map.{Map, get, put, update, each, without, where_key, has_key}
 use Rattle.zl_rights.specs.World.{World, Process, Ended, Object, Message, Body, kind_of}
 use Rattle.zl_rights.specs.Signals.{is_process, lives, runs}
-use Rattle.zl_rights.specs.Settle.{Koids, IsLargestHeld, Settles, without_others, is_held, in_table, in_queue, has_living_child, queue_of}
-use Rattle.zl_rights.specs.Settle.{process_without as process_settled}
+use Rattle.zl_rights.specs.Settle.{process_settled, Koids, IsLargestHeld, Settles, without_others, is_held, in_table, in_queue, has_living_child, queue_of}
 use Rattle.zl_rights.proofs.MapLaws.{get-put, get-update, get-each, get-where_key-in, get-where_key-out}
 use Rattle.zl_rights.proofs.Settling.{is_held-larger}
 use Rattle.zl_code.specs.Request.{Site}

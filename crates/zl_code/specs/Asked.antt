@@ -1,4 +1,5 @@
--- What each call asks for, read from the registers by its row of the table of instructions.
+-- What each call asks for, read from the registers by its row of the table of instructions. Worked examples compare
+-- it with the requests of the call relation; no clause cites this module yet.
 use Rattle.std.specs.Prelude.{ℕ, zero, suc, ◌+◌, Bool, true, false, nat_lt, List, [], ◌∷◌, ◌++◌, map, take, drop, Option, Some, None, if◌then◌else◌, slice_index}
 use Rattle.std.specs.List.{filter}
 use Rattle.std.specs.Bool.{then_some}

@@ -14,4 +14,5 @@ pub record KeepsKoids (w w2 : World) : Type 0 where
   -- an object of w2 that isn't in w has a koid that was not given in w
   pub new_koid : (k : ℕ) → IsTrue (has_key w2.objects k) → has_key w.objects k ≡ false → w.next_koid ≤ k
   -- an object of both has one kind
-  pub same_kind : (k : ℕ) (before after : Object) → get w.objects k ≡ Some before → get w2.objects k ≡ Some after → kind_of after.body ≡ kind_of before.body
+  pub same_kind : (k : ℕ) (before after : Object) → get w.objects k ≡ Some before → get w2.objects k ≡ Some after
+      → kind_of after.body ≡ kind_of before.body

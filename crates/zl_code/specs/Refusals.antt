@@ -1,11 +1,11 @@
 -- The table of calls: the answers other than OK, each row in its order.
-use Rattle.std.specs.Prelude.{ℕ, ◌^◌, Bool, true, false, ◌&&◌, ◌||◌, not, nat_le, List, [], ◌∷◌, Option, Some, None}
+use Rattle.std.specs.Prelude.{ℕ, ◌+◌, ◌^◌, Bool, true, false, ◌&&◌, ◌||◌, not, nat_le, List, [], ◌∷◌, Option, Some, None}
 use Rattle.zl_code.specs.First.{first_some}
 use Rattle.zl_rights.specs.declared.kind.Kind.{Kind}
 use Rattle.zl_rights.specs.declared.status.Status.TheVariants as status
 use Rattle.zl_rights.specs.declared.policy.Condition.{Condition}
 use Rattle.zl_rights.specs.declared.policy.Condition.TheVariants as condition
-use Rattle.zl_rights.specs.Numbers.{DUPLICATE, SIGNAL, USER_SIGNALS, within}
+use Rattle.zl_rights.specs.Numbers.{DUPLICATE, SIGNAL, SIGNALED, USER_SIGNALS, within}
 use Rattle.zl_rights.specs.World.{World, Body, EventBody}
 use Rattle.zl_rights.specs.Signals.{is_empty}
 use Rattle.zl_code.specs.declared.history.Outcome.{Outcome}
@@ -42,7 +42,7 @@ condition_of _ = None
 
 -- the signals that a call may set and clear
 abbrev pub settable_of : Option Body → ℕ
-settable_of (Some EventBody) = 0xff00_0008
+settable_of (Some EventBody) = SIGNALED + USER_SIGNALS
 settable_of _ = USER_SIGNALS
 
 -- both are among those

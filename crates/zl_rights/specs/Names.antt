@@ -54,4 +54,5 @@ condition_name condition.NewProcess = codes "NEW_PROCESS"
 unfoldable pub condition_named : List ℕ → Option Condition
 condition_named name =
     find (λ c. pointwise ◌==◌ (condition_name c) name)
-    (condition.BadHandle ∷ condition.WrongObject ∷ condition.NewAny ∷ condition.NewChannel ∷ condition.NewEvent ∷ condition.NewPort ∷ condition.NewProcess ∷ [])
+    (condition.BadHandle ∷ condition.WrongObject ∷ condition.NewAny
+    ∷ condition.NewChannel ∷ condition.NewEvent ∷ condition.NewPort ∷ condition.NewProcess ∷ [])

@@ -51,8 +51,8 @@ state_without kept Created = if kept then Created else Gone
 state_without kept s = s
 
 -- the process k, where the objects of K alone are kept
-abbrev pub process_without : Koids → ℕ → Process → Process
-process_without K k p = record p { state = state_without (K k) p.state }
+abbrev pub process_settled : Koids → ℕ → Process → Process
+process_settled K k p = record p { state = state_without (K k) p.state }
 
 -- the process is there, and a handle of it has the value
 abbrev pub has_handle : Option Process → ℕ → Bool
@@ -66,7 +66,7 @@ is_made_by_handle w x = has_handle (get w.processes x.pid) x.value
 -- the world without the objects outside K
 unfoldable pub without_others : World → Koids → World
 without_others w K = record w {
-  processes = each (process_without K) w.processes;
+  processes = each (process_settled K) w.processes;
   objects = where_key K w.objects;
   waits = filter (λ x. is_made_by_handle w x && K x.port) w.waits;
 }

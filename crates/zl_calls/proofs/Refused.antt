@@ -1,6 +1,6 @@
 -- The answers other than OK, where no job has a policy: they follow from the caller's table and from counts.
-use Rattle.std.proofs.Common.{◌≡◌, ◌+◌, ◌^◌, ℕ, Bool, true, false, not, ◌&&◌, ◌||◌, ◌==◌, [], ◌∷◌, refl, ap, ◌∙◌, Option, Some, None, inl, inr, IsTrue, map}
-use Rattle.std.specs.Prelude.{nat_le}
+use Rattle.std.proofs.Common.{◌≡◌, ◌+◌, ◌^◌, ℕ, Bool, true, false, not, ◌&&◌, ◌||◌, ◌==◌, [], ◌∷◌, refl, ap, ◌∙◌, Option, Some, None, Ok, Err, inl, inr, IsTrue, map}
+use Rattle.std.specs.Prelude.{nat_le, if◌then◌else◌}
 use Rattle.std.proofs.lemmas.Bool.{cases_Bool}
 use Rattle.std.specs.Bool.{then_some}
 use Rattle.std.specs.Option.{option_or}
@@ -18,7 +18,7 @@ use Rattle.zl_code.specs.declared.history.Outcome.{Outcome}
 use Rattle.zl_code.specs.declared.history.Outcome.TheVariants as outcome
 use Rattle.zl_code.specs.Image.{Library}
 use Rattle.zl_code.specs.Request.{Site, Request, dup, event_create}
-use Rattle.zl_code.specs.Tests.{policy_in, body_in, body_of, faults, creates, parent_of, examined, operand, operand_of, has_room, has_koids, handles_to, table_of, copy_of, with_rights, answer_if, any, koid_in}
+use Rattle.zl_code.specs.Tests.{policy_in, body_in, body_of, faults, creates, parent_of, examined, operand, operand_of, by_look_up, has_room, has_koids, handles_to, table_of, copy_of, with_rights, answer_if, any, koid_in}
 use Rattle.zl_code.specs.Refusals.{refusal, handle_operands, listed}
 use Rattle.zl_code.specs.Effects.{gives}
 use Rattle.zl_code.specs.Calls.{Calls, WantsMemory, Refused, grows, replied, taken}
@@ -86,13 +86,13 @@ module _ (lib : Library) (w : World) (free : NoPolicy w) (p : ℕ) (objects : Ma
       ∷ answer_if (not (has_room w p 1) || nat_le (2 ^ 62) (handles_to w (koid_in o))) status.NoResources
       ∷ [])
 
-  by_tests : (a b c d : Bool) → first_some (first_some (answer_if (not a) status.AccessDenied ∷ None ∷ []) ∷ None ∷ answer_if b status.InvalidArgs ∷ answer_if (not c || d) status.NoResources ∷ [])
+  by_tests : (e : Entry) (a b c d : Bool) → first_some (first_some (by_look_up w p (if a then Ok e else Err status.AccessDenied) ∷ None ∷ []) ∷ None ∷ answer_if b status.InvalidArgs ∷ answer_if (not c || d) status.NoResources ∷ [])
       ≡ answers (option_or (then_some (not a) status.AccessDenied) (option_or (then_some b status.InvalidArgs) (then_some (not c || not (not d)) status.NoResources)))
-  by_tests false b c d = refl
-  by_tests true true c d = refl
-  by_tests true false false d = refl
-  by_tests true false true false = refl
-  by_tests true false true true = refl
+  by_tests e false b c d = refl
+  by_tests e true true c d = refl
+  by_tests e true false false d = refl
+  by_tests e true false true false = refl
+  by_tests e true false true true = refl
 
   -- where the counts of objects that handles of p name are those of the world
   pub dup_refused : ((h : ℕ) (e : Entry) → get (table_of w p) h ≡ Some e → has_place (get objects e.koid) ≡ not (nat_le (2 ^ 62) (handles_to w e.koid)))
@@ -102,7 +102,7 @@ module _ (lib : Library) (w : World) (free : NoPolicy w) (p : ℕ) (objects : Ma
     where
       by_entry : (o : Option Entry) → get (table_of w p) h ≡ o → dup_with asked o ≡ answers (dup_refusal_of (table_of w p) objects asked o)
       by_entry None is = ap (λ (x : Option Outcome). first_some (first_some (x ∷ None ∷ []) ∷ None ∷ answer_if true status.InvalidArgs ∷ answer_if (not (has_room w p 1) || nat_le (2 ^ 62) (handles_to w 0)) status.NoResources ∷ [])) (fault_answers w free p condition.BadHandle status.BadHandle)
-      by_entry (Some e) is = rw (counts h e is) (by_tests (within DUPLICATE (bits e.rights)) (is_empty (with_rights e (narrowed e.rights asked))) (has_room_in (table_of w p)) (nat_le (2 ^ 62) (handles_to w e.koid)))
+      by_entry (Some e) is = rw (counts h e is) (by_tests e (within DUPLICATE (bits e.rights)) (is_empty (with_rights e (narrowed e.rights asked))) (has_room_in (table_of w p)) (nat_le (2 ^ 62) (handles_to w e.koid)))
 
   pub event_refused : refusal lib w p event_create ≡ answers (event_refusal (table_of w p) w.next_koid)
   unfolding refusal handle_operands examined listed has_room has_koids

@@ -1,5 +1,6 @@
 -- signal, from its table and objects to a step.
-use Rattle.std.proofs.Common.{◌≡◌, ℕ, Bool, true, false, not, ◌==◌, List, [], ◌∷◌, map, refl, sym, ap, ◌∙◌, subst, Option, Some, None, inl, inr, IsTrue, arith}
+use Rattle.std.proofs.Common.{◌≡◌, ℕ, Bool, true, false, not, ◌==◌, List, [], ◌∷◌, map, refl, sym, ap, ◌∙◌, subst, Option, Some, None, Ok, Err, inl, inr, IsTrue, arith}
+use Rattle.std.specs.Prelude.{if◌then◌else◌}
 use Rattle.std.proofs.lemmas.Bool.{cases_Bool, eqb-true}
 use Rattle.std.specs.Bool.{then_some}
 use Rattle.std.specs.Option.{option_or}
@@ -17,7 +18,7 @@ use Rattle.zl_code.specs.declared.history.Outcome.{Outcome}
 use Rattle.zl_code.specs.declared.history.Outcome.TheVariants as outcome
 use Rattle.zl_code.specs.Image.{Library}
 use Rattle.zl_code.specs.Request.{Site, site, signal}
-use Rattle.zl_code.specs.Tests.{table_of, body_of, body_in, operand_of, operand, examined, any, answer_if, koid_in, handles_to}
+use Rattle.zl_code.specs.Tests.{table_of, body_of, body_in, operand_of, by_look_up, operand, examined, any, answer_if, koid_in, handles_to}
 use Rattle.zl_code.specs.Refusals.{refusal, handle_operands, listed, settable_of, may_change}
 use Rattle.zl_code.specs.Effects.{on_object, object_changed, may_choose, new_handles, remove_all, taken_handles, effect, gives}
 use Rattle.zl_code.specs.Steps.{AtCall, next_for}
@@ -72,10 +73,10 @@ module _ (lib : Library) (w : World) (free : NoPolicy w) (p : ℕ) where
   abbrev signal_with : ℕ → ℕ → Option Entry → Option Outcome
   signal_with clear set o = first_some (first_some (operand_of w p any SIGNAL o ∷ None ∷ []) ∷ None ∷ answer_if (not (may_change (body_of w (koid_in o)) clear set)) status.InvalidArgs ∷ [])
 
-  by_tests : (a b : Bool) → first_some (first_some (answer_if (not a) status.AccessDenied ∷ None ∷ []) ∷ None ∷ answer_if (not b) status.InvalidArgs ∷ []) ≡ answers (option_or (then_some (not a) status.AccessDenied) (then_some (not b) status.InvalidArgs))
-  by_tests false b = refl
-  by_tests true false = refl
-  by_tests true true = refl
+  by_tests : (e : Entry) (a b : Bool) → first_some (first_some (by_look_up w p (if a then Ok e else Err status.AccessDenied) ∷ None ∷ []) ∷ None ∷ answer_if (not b) status.InvalidArgs ∷ []) ≡ answers (option_or (then_some (not a) status.AccessDenied) (then_some (not b) status.InvalidArgs))
+  by_tests e false b = refl
+  by_tests e true false = refl
+  by_tests e true true = refl
 
   pub signal_refused : ((h : ℕ) (e : Entry) → get (table_of w p) h ≡ Some e → settable_of (body_of w e.koid) ≡ settable_at e.kind)
       → (h clear set : ℕ) → refusal lib w p (signal h clear set) ≡ answers (signal_refusal (table_of w p) h clear set)
@@ -84,7 +85,7 @@ module _ (lib : Library) (w : World) (free : NoPolicy w) (p : ℕ) where
     where
       by_entry : (o : Option Entry) → get (table_of w p) h ≡ o → signal_with clear set o ≡ answers (signal_refusal_of clear set o)
       by_entry None is = ap (λ (x : Option Outcome). first_some (first_some (x ∷ None ∷ []) ∷ None ∷ answer_if (not (may_change (body_of w 0) clear set)) status.InvalidArgs ∷ [])) (fault_answers w free p condition.BadHandle status.BadHandle)
-      by_entry (Some e) is = rw (settable h e is) (by_tests (within SIGNAL (bits e.rights)) (may_change_at e.kind clear set))
+      by_entry (Some e) is = rw (settable h e is) (by_tests e (within SIGNAL (bits e.rights)) (may_change_at e.kind clear set))
 
 -- ---- the relation of calls
 

@@ -7,7 +7,8 @@ use Rattle.zl_rights.specs.declared.status.Status.{Status}
 use Rattle.zl_rights.specs.declared.status.Status.TheVariants as status
 use Rattle.zl_rights.specs.Map.{Map, get, without}
 use Rattle.zl_rights.specs.Numbers.{within}
-use Rattle.zl_table.specs.Table.{Handles, Drains, looked_up}
+use Rattle.zl_rights.specs.LookUp.{looked_up}
+use Rattle.zl_table.specs.Table.{Handles, Drains}
 use Rattle.zl_calls.specs.Registry.{Registry, Closes, none_left, one_more, released}
 use Rattle.zl_calls.specs.Parts.{without_handle}
 

@@ -7,7 +7,8 @@ ghost use Rattle.zl_rights.specs.Map.{get};
 ghost use Rattle.zl_code.specs.Effects.{signed_word};
 ghost use Rattle.zl_code.specs.Local.{reg};
 ghost use Rattle.zl_code.specs.Request.{site, close, dup, event_create, signal};
-ghost use Rattle.zl_table.specs.Table.{Inserts, looked_up};
+ghost use Rattle.zl_rights.specs.LookUp.{looked_up};
+ghost use Rattle.zl_table.specs.Table.{Inserts};
 ghost use Rattle.zl_calls.specs.Parts.{IsRefusedBy, Replies, RepliesWith, answer_of, answer_to, close_refusal, without_handle, closing, Dups, dup_refusal, CreatesEvent, event_refusal, settable_at, signal_refusal, SignalsObject, Ends};
 
 use crate::objects::{Body, Objects};

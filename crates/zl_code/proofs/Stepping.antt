@@ -1,5 +1,5 @@
 -- A ready process has a step, and one that isn't a want of memory.
-use Rattle.std.proofs.Common.{◌≡◌, ◌≢◌, ◌<◌, ◌≤◌, arith, ℕ, zero, suc, ◌^◌, Bool, true, false, not, cond, ◌==◌, ◌&&◌, ◌||◌, List, [], ◌∷◌, length, refl, ap, sym, ◌∙◌, IsTrue, Option, Some, None, inl, inr}
+use Rattle.std.proofs.Common.{◌≡◌, ◌≢◌, ◌<◌, ◌≤◌, arith, ℕ, zero, suc, ◌^◌, Bool, true, false, not, cond, ◌==◌, ◌&&◌, ◌||◌, List, [], ◌∷◌, length, refl, ap, sym, ◌∙◌, IsTrue, Option, Some, None, Ok, Err, inl, inr}
 use Rattle.std.specs.Prelude.{if◌then◌else◌, is_some, nat_le}
 use Rattle.std.specs.List.{filter}
 use Rattle.std.proofs.lemmas.Bool.{true≢false, and_parts, and_from, or_parts, cases_Bool, leb-true, lt-ltb, not-false, ne_eqb, eq-eqb}
@@ -27,7 +27,7 @@ use Rattle.zl_code.specs.declared.history.TraceItem.{TraceItem}
 use Rattle.zl_code.specs.declared.history.TraceItem.TheVariants as item
 use Rattle.zl_code.specs.Image.{Library}
 use Rattle.zl_code.specs.Request.{Site, Request, close, dup, event_create, signal, process_exit}
-use Rattle.zl_code.specs.Tests.{answer_if, entry_at, object_at, body_of, parent_of, action_of, ends_if_kill, faults, unless_allowed, creates, by_policy, Operand, operand_of, operand, contains, operand_after, seen_after, examined, has_room, has_koids, handles_to, with_rights, copy_of}
+use Rattle.zl_code.specs.Tests.{answer_if, by_look_up, entry_at, object_at, body_of, parent_of, action_of, ends_if_kill, faults, unless_allowed, creates, by_policy, Operand, operand_of, operand, contains, operand_after, seen_after, examined, has_room, has_koids, handles_to, with_rights, copy_of}
 use Rattle.zl_code.specs.Refusals.{refusal, may_change, listed, handle_operands, condition_of}
 use Rattle.zl_code.specs.Effects.{on_process, remove_all, taken_handles, new_handles, may_get, gets_all, may_choose, process_without, ended}
 use Rattle.zl_code.specs.Calls.{taken, after_ok, after_refusal, ok_outcome, Refused, Values}
@@ -74,7 +74,12 @@ if_wants false x y g h = h
 
 operand_wants : (w : World) (p : ℕ) (kinds : List Kind) (needed : ℕ) (e : Option Entry) → is_want (operand_of w p kinds needed e) ≡ false
 operand_wants w p kinds needed None = faults_wants w p condition.BadHandle status.BadHandle refl
-operand_wants w p kinds needed (Some e) = if_wants (not (takes kinds e.kind)) (faults w p condition.WrongObject status.WrongType) (answer_if (not (within needed (bits e.rights))) status.AccessDenied) (faults_wants w p condition.WrongObject status.WrongType refl) (answer_wants (not (within needed (bits e.rights))) status.AccessDenied refl)
+operand_wants w p kinds needed (Some e) = by_tests (takes kinds e.kind) (within needed (bits e.rights))
+  where
+    by_tests : (kind right : Bool) → is_want (by_look_up w p (if kind then (if right then Ok e else Err status.AccessDenied) else Err status.WrongType)) ≡ false
+    by_tests true true = refl
+    by_tests true false = refl
+    by_tests false right = faults_wants w p condition.WrongObject status.WrongType refl
 
 examined_wants : (w : World) (p : ℕ) (seen : List ℕ) (os : List Operand) → is_want (examined w p seen os) ≡ false
 unfolding examined operand

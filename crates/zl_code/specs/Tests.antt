@@ -1,5 +1,5 @@
 -- The words in which the table of calls is written.
-use Rattle.std.specs.Prelude.{ℕ, ◌+◌, ◌^◌, Bool, ◌&&◌, not, ◌==◌, nat_le, List, [], ◌∷◌, length, Option, Some, None, if◌then◌else◌, unwrap_or}
+use Rattle.std.specs.Prelude.{ℕ, ◌+◌, ◌^◌, Bool, ◌&&◌, ◌==◌, nat_le, List, [], ◌∷◌, length, Option, Some, None, Result, Ok, Err, if◌then◌else◌, unwrap_or}
 use Rattle.std.specs.List.{list_any, sum_by, count_by}
 use Rattle.std.specs.Bool.{then_some}
 use Rattle.zl_code.specs.First.{first_some}
@@ -12,8 +12,9 @@ use Rattle.zl_rights.specs.declared.policy.Condition.TheVariants as condition
 use Rattle.zl_rights.specs.declared.policy.Action.{Action}
 use Rattle.zl_rights.specs.declared.policy.Action.TheVariants as action
 use Rattle.zl_rights.specs.declared.entry.Entry.{Entry}
-use Rattle.zl_rights.specs.Numbers.{bits, within, narrowed, takes, condition_number, BY_POLICY}
+use Rattle.zl_rights.specs.Numbers.{narrowed, condition_number, BY_POLICY}
 use Rattle.zl_rights.specs.Map.{Map, get}
+use Rattle.zl_rights.specs.LookUp.{granted}
 use Rattle.zl_rights.specs.World.{World, Process, Object, Body, ChannelEnd, JobBody, ProcessBody}
 use Rattle.zl_code.specs.declared.history.Outcome.{Outcome}
 use Rattle.zl_code.specs.declared.history.Outcome.TheVariants as outcome
@@ -119,12 +120,16 @@ pub record Operand : Type 0 where
 abbrev pub any : List Kind
 any = []
 
--- the fault of a handle operand: no handle comes first, then the wrong kind, then a right that is missing
+-- what a look-up comes to in a call: where there is no handle, or one of the wrong kind, a policy may end the process
+abbrev pub by_look_up : World → ℕ → Result Entry Status → Option Outcome
+by_look_up w p (Ok e) = None
+by_look_up w p (Err status.BadHandle) = faults w p condition.BadHandle status.BadHandle
+by_look_up w p (Err status.WrongType) = faults w p condition.WrongObject status.WrongType
+by_look_up w p (Err s) = Some (outcome.Answered s)
+
+-- the fault of a handle operand
 abbrev pub operand_of : World → ℕ → List Kind → ℕ → Option Entry → Option Outcome
-operand_of w p kinds needed None = faults w p condition.BadHandle status.BadHandle
-operand_of w p kinds needed (Some e) =
-    if not (takes kinds e.kind) then faults w p condition.WrongObject status.WrongType
-    else answer_if (not (within needed (bits e.rights))) status.AccessDenied
+operand_of w p kinds needed e = by_look_up w p (granted e kinds needed)
 
 -- the handle h has to be live, of such a kind, and with the needed rights
 unfoldable pub operand : World → ℕ → List Kind → ℕ → ℕ → Option Outcome

@@ -1,12 +1,9 @@
 -- The table of a process: its handles by their values, and what operations make of it.
-use Rattle.std.specs.Prelude.{◌≡◌, ℕ, ◌<◌, ◌≤◌, List, length, Option, Some, None, IfSome, Result, Ok, Err, IsTrue, if◌then◌else◌}
+use Rattle.std.specs.Prelude.{◌≡◌, ℕ, ◌<◌, ◌≤◌, length, Option, Some, None, IfSome, IsTrue}
 use Rattle.std.specs.Ordering.{nat_cmp}
 use Rattle.std.specs.FinMap.Entries.{is_sorted}
-use Rattle.zl_rights.specs.declared.kind.Kind.{Kind}
 use Rattle.zl_rights.specs.declared.entry.Entry.{Entry}
-use Rattle.zl_rights.specs.declared.status.Status.{Status}
 use Rattle.zl_rights.specs.declared.status.Status.TheVariants as status
-use Rattle.zl_rights.specs.Numbers.{bits, within, takes}
 use Rattle.zl_rights.specs.Map.{Map, get, put, without, has_key}
 use Rattle.zl_table.specs.declared.table.InsertFault.{InsertFault}
 use Rattle.zl_table.specs.declared.table.InsertFault.TheVariants as fault
@@ -42,18 +39,6 @@ pub record Drains (old : Handles) (entry : Entry) (new : Handles) : Type 0 where
   pub value : ℕ
   pub greatest : (other : ℕ) → value < other → get old.entries other ≡ None
   pub removes : Removes old value entry new
-
--- what the entry, if there is one, answers where one of the kinds and the needed rights are asked for
-abbrev pub granted : Option Entry → List Kind → ℕ → Result Entry Status
-granted None kinds needed = Err status.BadHandle
-granted (Some e) kinds needed =
-    if takes kinds e.kind
-    then (if within needed (bits e.rights) then Ok e else Err status.AccessDenied)
-    else Err status.WrongType
-
--- what a value is looked up as, where one of the kinds and the needed rights are asked for
-abbrev pub looked_up : Map Entry → ℕ → List Kind → ℕ → Result Entry Status
-looked_up m value kinds needed = granted (get m value) kinds needed
 
 -- the entry that a refused insertion hands back
 abbrev pub refused_entry : InsertFault → Entry

@@ -4,7 +4,8 @@ ghost use Rattle.std.specs.Ordering.{nat_cmp};
 ghost use Rattle.std.specs.FinMap.Entries.{is_sorted};
 ghost use Rattle.zl_rights.specs.Numbers.{bits, takes};
 ghost use Rattle.zl_rights.specs.Map.{get, has_key, update};
-ghost use Rattle.zl_table.specs.Table.{IsTable, Inserts, Removes, Drains, looked_up, refused_entry};
+ghost use Rattle.zl_rights.specs.LookUp.{looked_up};
+ghost use Rattle.zl_table.specs.Table.{IsTable, Inserts, Removes, Drains, refused_entry};
 ghost use Rattle.zl_table.specs.Places.{IsAt, IsGapFor, next_value};
 
 use std::alloc::Global;

@@ -9,7 +9,7 @@ use Rattle.zl_rights.specs.declared.policy.Condition.TheVariants as condition
 use Rattle.zl_rights.specs.Numbers.{rights_of}
 use Rattle.zl_rights.specs.Names.{kind_named, condition_named}
 use Rattle.zl_code.proofs.Stored.{image}
-use Rattle.zl_asm.specs.Words.{is_word, words_from, digit_of, value_from, number_of, register_of, is_name, hex_bytes}
+use Rattle.zl_asm.specs.Words.{is_word, words_from, digit_of, number_of, register_of, is_name, hex_bytes}
 use Rattle.zl_asm.specs.Lines.{kind_of, directive_of, operands_after, operands_of, all_of, tail_of, source_of, unknown_of, label_of, line_of}
 use Rattle.zl_asm.specs.Listing.{directives_first, labels_from, names_once, listing_from, listing_of}
 use Rattle.zl_asm.specs.Denotes.{Denotes}
@@ -17,7 +17,7 @@ use Rattle.zl_asm.specs.Canonical.{joined, tail_texts, code_lines_from, text_of}
 
 -- all that the reading of a text unfolds
 unfoldable pub reading : Unit {0}
-unfolding is_word words_from digit_of value_from number_of register_of is_name hex_bytes kind_of directive_of operands_after operands_of all_of tail_of source_of unknown_of label_of line_of directives_first labels_from names_once listing_from listing_of row_of row_named instr_fault kind_named condition_named local_parts call_parts
+unfolding is_word words_from digit_of number_of register_of is_name hex_bytes kind_of directive_of operands_after operands_of all_of tail_of source_of unknown_of label_of line_of directives_first labels_from names_once listing_from listing_of row_of row_named instr_fault kind_named condition_named local_parts call_parts
 reading = tt
 
 abbrev stored : List ℕ
@@ -113,6 +113,14 @@ comma_at_the_end = refl
 number_too_large : DenotesNone (codes "const r2, 4294967296")
 unfolding reading
 number_too_large = refl
+
+no_digit_behind_0x : DenotesNone (codes "const r2, 0x")
+unfolding reading
+no_digit_behind_0x = refl
+
+letter_in_a_decimal_number : DenotesNone (codes "const r2, 1a")
+unfolding reading
+letter_in_a_decimal_number = refl
 
 unknown_without_the_mark : DenotesNone (codes ".bytes c8000000000000000000000000000000")
 unfolding reading

@@ -1,5 +1,6 @@
 -- The words of a line of a program's text: numbers, registers and names.
-use Rattle.std.specs.Prelude.{ℕ, ◌+◌, ◌-◌, ◌*◌, ◌^◌, Bool, false, ◌&&◌, ◌||◌, ◌==◌, nat_lt, nat_le, List, [], ◌∷◌, ◌++◌, codes, length, drop, Option, Some, None, if◌then◌else◌}
+use Rattle.std.specs.Prelude.{ℕ, ◌+◌, ◌-◌, ◌*◌, ◌^◌, Bool, false, not, ◌&&◌, ◌||◌, ◌==◌, nat_lt, nat_le, List, [], ◌∷◌, ◌++◌, codes, length, drop, fold, Option, Some, None, is_some, if◌then◌else◌}
+use Rattle.std.specs.Option.{unwrap_or}
 use Rattle.std.specs.List.{slice_split, list_all, starts_with}
 use Rattle.std.specs.Cmp.Lexicographic.{pointwise}
 
@@ -50,25 +51,29 @@ digit_of byte =
     else (if nat_le 65 byte && nat_le byte 70 then Some (byte - 65 + 10)
     else None))
 
--- the value with one more digit of the base at its end, as long as it has 32 bits
-abbrev pub longer : ℕ → ℕ → Option ℕ → Option ℕ
-longer base value None = None
-longer base value (Some digit) = if nat_lt digit base && nat_lt (value * base + digit) (2 ^ 32) then Some (value * base + digit) else None
+-- the value of a digit, and 0 of another byte
+abbrev pub digit_value : ℕ → ℕ
+digit_value byte = unwrap_or (digit_of byte) 0
 
--- the value with all these digits at its end
-unfoldable pub value_from : ℕ → Option ℕ → List ℕ → Option ℕ
-value_from base value [] = value
-value_from base None (byte ∷ bytes) = None
-value_from base (Some value) (byte ∷ bytes) = value_from base (longer base value (digit_of byte)) bytes
+-- a digit of the base: it has a value, and that is below the base
+abbrev pub is_digit : ℕ → ℕ → Bool
+is_digit base byte = is_some (digit_of byte) && nat_lt (digit_value byte) base
 
--- the value of the digits of the base, of which there is one at least
-abbrev pub value_of : ℕ → List ℕ → Option ℕ
-value_of base [] = None
-value_of base bytes = value_from base (Some 0) bytes
+-- the value of digits of the base, the first the highest
+abbrev pub value_of : ℕ → List ℕ → ℕ
+value_of base digits = fold (λ value byte. value * base + digit_value byte) 0 digits
+
+-- digits of the base, one at least, whose value has 32 bits
+abbrev pub is_number : ℕ → List ℕ → Bool
+is_number base digits = not (length digits == 0) && (list_all (is_digit base) digits && nat_lt (value_of base digits) (2 ^ 32))
+
+-- the number that the digits of the base spell, if they do
+abbrev pub number_in : ℕ → List ℕ → Option ℕ
+number_in base digits = if is_number base digits then Some (value_of base digits) else None
 
 -- the number of 32 bits that the word spells: decimal, or hexadecimal behind `0x`
 unfoldable pub number_of : List ℕ → Option ℕ
-number_of word = if starts_with ◌==◌ word (codes "0x") then value_of 16 (drop 2 word) else value_of 10 word
+number_of word = if starts_with ◌==◌ word (codes "0x") then number_in 16 (drop 2 word) else number_in 10 word
 
 -- ---- registers
 

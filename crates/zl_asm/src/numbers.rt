@@ -1,8 +1,8 @@
 //! Numbers, registers, names and hexadecimal digits.
-ghost use Rattle.std.specs.Prelude.{◌≡◌, ◌<◌, ◌==◌, [], ◌∷◌, length, Some, IfSome};
+ghost use Rattle.std.specs.Prelude.{◌≡◌, ◌+◌, ◌*◌, ◌^◌, ◌<◌, ◌==◌, [], ◌∷◌, length, Some, IfSome, SomeIff};
 ghost use Rattle.std.specs.Option.{option_map};
 ghost use Rattle.std.specs.List.{list_all};
-ghost use Rattle.zl_asm.specs.Words.{digit_of, longer, value_of, number_of, register_of, is_name_byte, is_name, byte_before, hex_bytes};
+ghost use Rattle.zl_asm.specs.Words.{digit_of, number_in, number_of, register_of, is_name_byte, is_name, byte_before, hex_bytes};
 ghost use Rattle.zl_asm.specs.Lines.{if_fits};
 
 /// The value of a hexadecimal digit, in capital letters or not.
@@ -21,7 +21,7 @@ fn digit(byte: u8) -> Option<u8>
 
 /// The number with one more digit of the base at its end, if it is one and has 32 bits.
 fn longer(base: u32, value: u32, digit: u8) -> Option<u32>
-    ensures { result ≡ longer base value (Some digit) }
+    ensures { SomeIff result ((digit < base) × (value * base + digit < 2 ^ 32)) (value * base + digit) }
 {
     let digit = u32::from(digit);
     if digit < base {
@@ -33,7 +33,7 @@ fn longer(base: u32, value: u32, digit: u8) -> Option<u32>
 
 /// The number that the digits of the base spell, of which there is one at least.
 fn value_of(base: u32, digits: &[u8]) -> Option<u32>
-    ensures { result ≡ value_of base digits.now }
+    ensures { result ≡ number_in base digits.now }
 {
     if digits.is_empty() {
         return None;

@@ -1,6 +1,11 @@
-use Rattle.std.proofs.Common.{◌≡◌, Some, drop}
-use Rattle.zl_asm.specs.Words.{value_from, value_of}
+use Rattle.std.proofs.Common.{◌≡◌, ◌^◌, ◌<◌, true, take}
+use Rattle.std.specs.List.{list_all}
+use Rattle.zl_asm.specs.Words.{value_of, is_digit}
 use Rattle.zl_asm.proofs.numbers.value_of.Given as goal
 
 abbrev pub invariant-loop-byte : goal.invariant-loop-byte
-invariant-loop-byte l = value_from l.base (Some l.value) (drop l.byte-index l.digits) ≡ value_of l.base l.digits
+invariant-loop-byte l = record {
+  value : l.value ≡ value_of l.base (take l.byte-index l.digits);
+  digits : list_all (is_digit l.base) (take l.byte-index l.digits) ≡ true;
+  small : l.value < 2 ^ 32;
+}

@@ -7,7 +7,6 @@ use Rattle.std.proofs.lemmas.List.Folds.{list_all-append}
 use Rattle.zl_code.specs.First.{first_some}
 use Rattle.zl_code.specs.declared.image.DecodeFault.{DecodeFault}
 
-
 first_of-none : (fault : Option DecodeFault) (rest : List (Option DecodeFault)) → first_some (fault ∷ rest) ≡ None → (fault ≡ None) × (first_some rest ≡ None)
 first_of-none None rest h = (refl, h)
 first_of-none (Some f) rest h = absurd cc

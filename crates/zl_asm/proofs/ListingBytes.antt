@@ -1,13 +1,13 @@
 -- The bytes of a listing are those of the image that has its fields.
 use Rattle.std.proofs.Common.{◌≡◌, ℕ, List, [], ◌∷◌, ◌++◌, map, Some, refl, ap, ◌∙◌}
-use Rattle.std.specs.List.{flat_map}
+use Rattle.std.specs.List.{concat, flat_map}
 use Rattle.std.specs.Option.{option_map}
 use Rattle.std.proofs.lemmas.List.{length-map}
 use Rattle.zl_code.specs.Image.{Image}
 use Rattle.zl_code.specs.Spells.{spelling, instr_bytes}
 use Rattle.zl_asm.specs.Denotes.{Denotes, fields_of, listing_bytes, image_bytes_of}
 
-all_in_one : {X : Type 0} (f : X → List ℕ) (xs : List X) → flat_map (λ bytes. bytes) (map f xs) ≡ flat_map f xs
+all_in_one : {X : Type 0} (f : X → List ℕ) (xs : List X) → concat (map f xs) ≡ flat_map f xs
 all_in_one f [] = refl
 all_in_one f (x ∷ xs) = ap (λ (ys : List ℕ). f x ++ ys) (all_in_one f xs)
 

@@ -1,9 +1,9 @@
 -- The grammar of the assembler: which image a text denotes.
-use Rattle.std.specs.Prelude.{ℕ, ◌≡◌, List, [], ◌∷◌, ◌++◌, map, length, Option, Some, IsTrue, if◌then◌else◌}
+use Rattle.std.specs.Prelude.{ℕ, ◌≡◌, List, ◌++◌, map, length, Option, Some, IsTrue}
 use Rattle.std.specs.Option.{option_map}
-use Rattle.std.specs.List.{flat_map}
+use Rattle.std.specs.List.{concat}
 use Rattle.zl_code.specs.Image.{Image}
-use Rattle.zl_code.specs.Spells.{bytes_of, magic, needs_byte, start_bytes, slot_bytes, instr_bytes, is_in_range}
+use Rattle.zl_code.specs.Spells.{header_bytes, body_bytes, instr_bytes, is_in_range}
 use Rattle.zl_asm.specs.Listing.{Listing, listing_of}
 
 -- what a text has to give, so that it denotes the image
@@ -26,13 +26,7 @@ pub record Denotes (text : List ℕ) (i : Image) : Type 0 where
 -- the bytes of an image with these fields
 abbrev pub listing_bytes : Listing → List ℕ
 listing_bytes l =
-    (magic
-    ++ ((1 ∷ (if l.raw then 1 else 0) ∷ [])
-    ++ (bytes_of 2 (length l.code)
-    ++ (bytes_of 4 l.memory
-    ++ (bytes_of 4 l.budget
-    ++ (needs_byte l.needs ∷ length l.starts ∷ length l.slots ∷ 0 ∷ []))))))
-    ++ (flat_map start_bytes l.starts ++ (flat_map slot_bytes l.slots ++ flat_map (λ bytes. bytes) l.code))
+    header_bytes l.raw (length l.code) l.memory l.budget l.needs (length l.starts) (length l.slots) ++ body_bytes l.starts l.slots (concat l.code)
 
 -- the bytes of the image that a text denotes, if it denotes one
 abbrev pub image_bytes_of : List ℕ → Option (List ℕ)

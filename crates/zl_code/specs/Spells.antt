@@ -248,19 +248,27 @@ are_needs needs = ascend_from 2 (map condition_number needs)
 abbrev pub magic : List ℕ
 magic = 0x5a ∷ 0x4c ∷ 0x41 ∷ 0x42 ∷ []
 
--- the 20 bytes at the front
-abbrev pub header : Image → List ℕ
-header i =
+-- the 20 bytes at the front: mark, count of instructions, memory, budget, needs, counts of start handles and slot arrays
+abbrev pub header_bytes : Bool → ℕ → ℕ → ℕ → List Condition → ℕ → ℕ → List ℕ
+header_bytes raw count memory budget needs starts slots =
     magic
-    ++ ((1 ∷ (if i.raw then 1 else 0) ∷ [])
-    ++ (bytes_of 2 (length i.code)
-    ++ (bytes_of 4 i.memory
-    ++ (bytes_of 4 i.budget
-    ++ (needs_byte i.needs ∷ length i.starts ∷ length i.slots ∷ 0 ∷ [])))))
+    ++ ((1 ∷ (if raw then 1 else 0) ∷ [])
+    ++ (bytes_of 2 count
+    ++ (bytes_of 4 memory
+    ++ (bytes_of 4 budget
+    ++ (needs_byte needs ∷ starts ∷ slots ∷ 0 ∷ [])))))
+
+-- the bytes behind the header: start handles, slot arrays, and the bytes of the instructions
+abbrev pub body_bytes : List Start → List SlotArray → List ℕ → List ℕ
+body_bytes starts slots code = flat_map start_bytes starts ++ (flat_map slot_bytes slots ++ code)
+
+-- the 20 bytes at the front of the image
+abbrev pub header : Image → List ℕ
+header i = header_bytes i.raw (length i.code) i.memory i.budget i.needs (length i.starts) (length i.slots)
 
 -- the bytes of the image
 abbrev pub spelling : Image → List ℕ
-spelling i = header i ++ (flat_map start_bytes i.starts ++ (flat_map slot_bytes i.slots ++ flat_map instr_bytes i.code))
+spelling i = header i ++ body_bytes i.starts i.slots (flat_map instr_bytes i.code)
 
 -- each field is in its range
 abbrev pub is_in_range : Image → Bool

@@ -5,7 +5,7 @@ use Rattle.std.specs.Option.{option_map}
 use Rattle.std.proofs.lemmas.List.{length-map}
 use Rattle.zl_code.specs.Image.{Image}
 use Rattle.zl_code.specs.Spells.{spelling, instr_bytes}
-use Rattle.zl_asm.specs.Denotes.{Denotes, fields_of, listing_bytes, image_bytes_of}
+use Rattle.zl_asm.specs.Denotes.{fields_of, listing_bytes, EachTextGivesBytes}
 
 all_in_one : {X : Type 0} (f : X → List ℕ) (xs : List X) → concat (map f xs) ≡ flat_map f xs
 all_in_one f [] = refl
@@ -15,5 +15,5 @@ pub listing_bytes-fields : (i : Image) → listing_bytes (fields_of i) ≡ spell
 listing_bytes-fields i = rw (length-map i.code instr_bytes, all_in_one instr_bytes i.code) refl
 
 -- the bytes of the image that a text denotes
-pub image_bytes_of-Denotes : (text : List ℕ) (i : Image) → Denotes text i → image_bytes_of text ≡ Some (spelling i)
+pub image_bytes_of-Denotes : EachTextGivesBytes
 image_bytes_of-Denotes text i d = ap (option_map listing_bytes) d.fields ∙ ap Some (listing_bytes-fields i)

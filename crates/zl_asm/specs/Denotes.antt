@@ -3,7 +3,7 @@ use Rattle.std.specs.Prelude.{ℕ, ◌≡◌, List, ◌++◌, map, length, Optio
 use Rattle.std.specs.Option.{option_map}
 use Rattle.std.specs.List.{concat}
 use Rattle.zl_code.specs.Image.{Image}
-use Rattle.zl_code.specs.Spells.{header_bytes, body_bytes, instr_bytes, is_in_range}
+use Rattle.zl_code.specs.Spells.{header_bytes, body_bytes, instr_bytes, spelling, is_in_range}
 use Rattle.zl_asm.specs.Listing.{Listing, listing_of}
 
 -- what a text has to give, so that it denotes the image
@@ -35,3 +35,7 @@ image_bytes_of text = option_map listing_bytes (listing_of text)
 -- no text denotes two images
 abbrev pub NoTextDenotesTwo : Type 0
 NoTextDenotesTwo = (text : List ℕ) (i j : Image) → Denotes text i → Denotes text j → i ≡ j
+
+-- where a text denotes an image, the bytes of the text are those of the image
+abbrev pub EachTextGivesBytes : Type 0
+EachTextGivesBytes = (text : List ℕ) (i : Image) → Denotes text i → image_bytes_of text ≡ Some (spelling i)

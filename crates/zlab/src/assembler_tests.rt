@@ -1,30 +1,14 @@
 //! Texts of programs: the images that they denote, and what they are refused for.
 
+use crate::samples::{EIGHT_BYTES, EIGHT_TEXT};
 use std::alloc::Global;
 use std::test::*;
 use zl_asm::{AsmCause, AsmFault, assemble, assemble_bytes, disassemble};
 use zl_code::encode;
 
-/// `event_create`, `const`, `signal`, `dup`, `close` three times, `process_exit`.
-const EIGHT: &str =
-    ".raw\n.budget 100\nevent_create r2, r3\nconst r5, 8\nsignal r2, r3, r0, r5\ndup r2, r3, r4, 2147483648\nclose r2, r3\nclose r2, r4\nclose r2, r4\nprocess_exit r0\n";
-
-/// The bytes of their image.
-const EIGHT_BYTES: [u8; 148] = [
-    0x5a, 0x4c, 0x41, 0x42, 1, 1, 8, 0, 0, 0, 0, 0, 0x64, 0, 0, 0, 0, 0, 0, 0, //
-    0x46, 2, 3, 0, 0, 0, 0, 0, 0, 0, 0, 0, 0, 0, 0, 0, //
-    0x01, 5, 0, 0, 0, 0, 0, 0, 8, 0, 0, 0, 0, 0, 0, 0, //
-    0x47, 2, 3, 0, 5, 0, 0, 0, 0, 0, 0, 0, 0, 0, 0, 0, //
-    0x41, 2, 3, 4, 0, 0, 0, 0, 0, 0, 0, 0x80, 0, 0, 0, 0, //
-    0x40, 2, 3, 0, 0, 0, 0, 0, 0, 0, 0, 0, 0, 0, 0, 0, //
-    0x40, 2, 4, 0, 0, 0, 0, 0, 0, 0, 0, 0, 0, 0, 0, 0, //
-    0x40, 2, 4, 0, 0, 0, 0, 0, 0, 0, 0, 0, 0, 0, 0, 0, //
-    0x53, 0, 0, 0, 0, 0, 0, 0, 0, 0, 0, 0, 0, 0, 0, 0,
-];
-
 #[test]
 fn eight_instructions(rt: HostRuntime) -> Result<(), Fail> {
-    let image = assemble(rt.alloc(), EIGHT)
+    let image = assemble(rt.alloc(), EIGHT_TEXT)
         .ok()
         .ok_or("the text denotes an image")?;
     let bytes = encode(rt.alloc(), &image).ok().ok_or("memory was refused")?;
@@ -106,7 +90,7 @@ fn one_line_more_than_an_image_holds(rt: HostRuntime) -> Result<(), Fail> {
 }
 
 #[test]
-fn causes_of_refused_lines(rt: HostRuntime) {
+fn causes_of_refused_words(rt: HostRuntime) {
     for (line, cause) in [
         (&b"const\tr2, 1"[..], AsmCause::Token),
         (b"const r2, 1\r", AsmCause::Token),
@@ -121,7 +105,16 @@ fn causes_of_refused_lines(rt: HostRuntime) {
         (b".version 1", AsmCause::UnknownName),
         (b".start Event 0", AsmCause::UnknownName),
         (b".need NEW_EVENTPAIR", AsmCause::UnknownName),
-        (b"const r32, 1", AsmCause::Operand),
+    ] {
+        let fault = Some(AsmFault { line: 1, cause });
+        assert_eq!(rt; assemble_bytes(rt.alloc(), line).err(), fault);
+    }
+}
+
+#[test]
+fn causes_of_refused_operands(rt: HostRuntime) {
+    for (line, cause) in [
+        (&b"const r32, 1"[..], AsmCause::Operand),
         (b"const r02, 1", AsmCause::Operand),
         (b"const 2, 1", AsmCause::Operand),
         (b"const r2, r3", AsmCause::Operand),

@@ -3,25 +3,9 @@
 use crate::assembling::asm_engine;
 use crate::fault::{EngineFault, Verdict};
 use crate::input::MOST_INPUT;
+use crate::samples::{EIGHT_BYTES, EIGHT_TEXT};
 use std::alloc::Global;
 use std::test::Fail;
-
-/// Makes an event, signals, duplicates and closes it, and exits.
-const TEXT: &str = ".raw
-.budget 100
-event_create r2, r3
-const r5, 8
-signal r2, r3, r0, r5
-dup r2, r3, r4, 2147483648
-close r2, r3
-close r2, r4
-close r2, r4
-process_exit r0
-";
-
-/// The first 36 bytes of its image: the header and the first instruction.
-const FRONT: &[u8] =
-    b"\x5a\x4c\x41\x42\x01\x01\x08\x00\x00\x00\x00\x00\x64\x00\x00\x00\x00\x00\x00\x00\x46\x02\x03\x00\x00\x00\x00\x00\x00\x00\x00\x00\x00\x00\x00\x00";
 
 /// How the engine ends, what it writes to the image, and to the line.
 fn assembled(alloc: Global, mut text: &[u8]) -> Result<(Verdict, Vec<u8>, Vec<u8>), EngineFault> {
@@ -33,10 +17,12 @@ fn assembled(alloc: Global, mut text: &[u8]) -> Result<(Verdict, Vec<u8>, Vec<u8
 
 #[test]
 fn writes_an_image(rt: HostRuntime) -> Result<(), Fail> {
-    let (verdict, image, line) = assembled(rt.alloc(), TEXT.as_bytes()).expect(&rt, "an answer");
+    let (verdict, image, line) = assembled(rt.alloc(), EIGHT_TEXT.as_bytes()).expect(
+        &rt,
+        "an answer",
+    );
     assert!(rt; verdict == Verdict::Done);
-    assert_eq!(rt; image.len(), 148);
-    assert!(rt; image.starts_with(FRONT));
+    assert_eq!(rt; image.as_slice(), EIGHT_BYTES.as_slice());
     assert!(rt; line.is_empty());
     Ok(())
 }

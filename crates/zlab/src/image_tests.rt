@@ -1,5 +1,6 @@
 //! Images: what decoding answers, and what encoding and building give.
 
+use crate::samples::EIGHT_BYTES;
 use std::alloc::Global;
 use std::test::*;
 use zl_code::{CallInstr, DecodeFault, Ending, Image, Instr, Row, decode, encode};
@@ -8,19 +9,6 @@ use zl_rights::{Condition, Kind};
 /// One `process_exit`.
 const SMALLEST: [u8; 36] = [
     0x5a, 0x4c, 0x41, 0x42, 1, 0, 1, 0, 0, 0, 0, 0, 1, 0, 0, 0, 0, 0, 0, 0, //
-    0x53, 0, 0, 0, 0, 0, 0, 0, 0, 0, 0, 0, 0, 0, 0, 0,
-];
-
-/// A raw image of `event_create`, `const`, `signal`, `dup`, `close` three times, `process_exit`.
-const EIGHT: [u8; 148] = [
-    0x5a, 0x4c, 0x41, 0x42, 1, 1, 8, 0, 0, 0, 0, 0, 0x64, 0, 0, 0, 0, 0, 0, 0, //
-    0x46, 2, 3, 0, 0, 0, 0, 0, 0, 0, 0, 0, 0, 0, 0, 0, //
-    0x01, 5, 0, 0, 0, 0, 0, 0, 8, 0, 0, 0, 0, 0, 0, 0, //
-    0x47, 2, 3, 0, 5, 0, 0, 0, 0, 0, 0, 0, 0, 0, 0, 0, //
-    0x41, 2, 3, 4, 0, 0, 0, 0, 0, 0, 0, 0x80, 0, 0, 0, 0, //
-    0x40, 2, 3, 0, 0, 0, 0, 0, 0, 0, 0, 0, 0, 0, 0, 0, //
-    0x40, 2, 4, 0, 0, 0, 0, 0, 0, 0, 0, 0, 0, 0, 0, 0, //
-    0x40, 2, 4, 0, 0, 0, 0, 0, 0, 0, 0, 0, 0, 0, 0, 0, //
     0x53, 0, 0, 0, 0, 0, 0, 0, 0, 0, 0, 0, 0, 0, 0, 0,
 ];
 
@@ -55,12 +43,12 @@ fn changed_in(alloc: Global, from: &[u8], changes: &[(usize, u8)]) -> Result<boo
 }
 
 fn changed(alloc: Global, changes: &[(usize, u8)]) -> Result<bool, DecodeFault> {
-    changed_in(alloc, &EIGHT, changes)
+    changed_in(alloc, &EIGHT_BYTES, changes)
 }
 
 #[test]
 fn eight_instructions(rt: HostRuntime) -> Result<(), Fail> {
-    let image = decode(rt.alloc(), &EIGHT)
+    let image = decode(rt.alloc(), &EIGHT_BYTES)
         .ok()
         .ok_or("the bytes are an image")?;
     assert!(rt; image.is_raw());
@@ -71,7 +59,7 @@ fn eight_instructions(rt: HostRuntime) -> Result<(), Fail> {
     assert!(rt; image.instr_at(7).is_some());
     assert!(rt; image.instr_at(8).is_none());
     let bytes = encode(rt.alloc(), &image).ok().ok_or("memory was refused")?;
-    assert_eq!(rt; bytes.as_slice(), EIGHT.as_slice());
+    assert_eq!(rt; bytes.as_slice(), EIGHT_BYTES.as_slice());
     Ok(())
 }
 
@@ -241,7 +229,7 @@ fn each_front(rt: HostRuntime) {
         } else {
             DecodeFault::Length
         };
-        assert!(rt; matches!(decode(rt.alloc(), &EIGHT[..len]), Err(fault) if fault == want));
+        assert!(rt; matches!(decode(rt.alloc(), &EIGHT_BYTES[..len]), Err(fault) if fault == want));
     }
 }
 

@@ -17,6 +17,8 @@ mod fault;
 mod image_tests;
 mod input;
 mod output;
+#[cfg(test)]
+mod samples;
 mod scenario;
 mod system;
 #[cfg(test)]

@@ -71,7 +71,7 @@ fn answer(alloc: Global, mut input: &[u8]) -> Result<(Verdict, Vec<u8>), EngineF
     Ok((verdict, output))
 }
 
-fn is_answered(rt: &impl Abort, alloc: Global, input: &[u8], verdict: Verdict, text: &str) {
+fn assert_answer(rt: &impl Abort, alloc: Global, input: &[u8], verdict: Verdict, text: &str) {
     let (ended, output) = answer(alloc, input).expect(rt, "an answer");
     assert!(rt;
         ended == verdict && output.as_slice() == text.as_bytes(),
@@ -92,7 +92,7 @@ fn answers_texts_without_programs(rt: HostRuntime) {
         "--\n9 0\n\n# no turn\n2 1000000",
     ];
     for input in done {
-        is_answered(&rt, rt.alloc(), input.as_bytes(), Verdict::Done, DONE);
+        assert_answer(&rt, rt.alloc(), input.as_bytes(), Verdict::Done, DONE);
     }
 }
 
@@ -128,7 +128,7 @@ fn refuses_texts_without_programs(rt: HostRuntime) {
         ),
     ];
     for (input, line) in refused {
-        is_answered(&rt, rt.alloc(), input.as_bytes(), Verdict::Refused, line);
+        assert_answer(&rt, rt.alloc(), input.as_bytes(), Verdict::Refused, line);
     }
 }
 
@@ -169,14 +169,14 @@ fn runs_a_program(rt: HostRuntime) -> Result<(), Fail> {
     ];
     for (rest, verdict, text) in cases {
         let input = format!(in rt.alloc(); "{PROGRAM}{rest}")?;
-        is_answered(&rt, rt.alloc(), input.as_bytes(), verdict, text);
+        assert_answer(&rt, rt.alloc(), input.as_bytes(), verdict, text);
     }
     Ok(())
 }
 
 #[test]
 fn ends_a_stuck_process(rt: HostRuntime) {
-    is_answered(
+    assert_answer(
         &rt,
         rt.alloc(),
         STUCK.as_bytes(),
@@ -191,9 +191,9 @@ fn counts_programs_and_processes(rt: HostRuntime) -> Result<(), Fail> {
     for _ in 0..256 {
         input.push_str(EMPTY_PROGRAM)?;
     }
-    is_answered(&rt, rt.alloc(), input.as_bytes(), Verdict::Done, DONE);
+    assert_answer(&rt, rt.alloc(), input.as_bytes(), Verdict::Done, DONE);
     let wrong = format!(in rt.alloc(); "{input}program raw hex\n00\nend")?;
-    is_answered(
+    assert_answer(
         &rt,
         rt.alloc(),
         wrong.as_bytes(),
@@ -201,7 +201,7 @@ fn counts_programs_and_processes(rt: HostRuntime) -> Result<(), Fail> {
         "refused 769 Program\n",
     );
     let too_many = format!(in rt.alloc(); "{input}{EMPTY_PROGRAM}")?;
-    is_answered(
+    assert_answer(
         &rt,
         rt.alloc(),
         too_many.as_bytes(),
@@ -211,7 +211,7 @@ fn counts_programs_and_processes(rt: HostRuntime) -> Result<(), Fail> {
     for _ in 0..65 {
         input.push_str("process 1 255 9\n")?;
     }
-    is_answered(
+    assert_answer(
         &rt,
         rt.alloc(),
         input.as_bytes(),
@@ -224,9 +224,9 @@ fn counts_programs_and_processes(rt: HostRuntime) -> Result<(), Fail> {
 #[test]
 fn reads_as_far_as_the_limit(rt: HostRuntime) -> Result<(), Fail> {
     let mut text = vec![in rt.alloc(); b'#'; MOST_INPUT]?;
-    is_answered(&rt, rt.alloc(), text.as_slice(), Verdict::Done, DONE);
+    assert_answer(&rt, rt.alloc(), text.as_slice(), Verdict::Done, DONE);
     text.push(b'#')?;
-    is_answered(
+    assert_answer(
         &rt,
         rt.alloc(),
         text.as_slice(),
@@ -243,7 +243,7 @@ fn answers_each_byte_alone(rt: HostRuntime) {
             b'\n' | b' ' | b'#' => (Verdict::Done, DONE),
             _ => (Verdict::Refused, "refused 1 Syntax\n"),
         };
-        is_answered(&rt, rt.alloc(), &[byte], verdict, text);
+        assert_answer(&rt, rt.alloc(), &[byte], verdict, text);
     }
 }
 
@@ -295,7 +295,7 @@ fn answers_long_texts(rt: HostRuntime) -> Result<(), Fail> {
     ];
     for (front, middle, back, verdict, line) in cases {
         let text = long_text(rt.alloc(), front, middle, back)?;
-        is_answered(&rt, rt.alloc(), text.as_bytes(), verdict, line);
+        assert_answer(&rt, rt.alloc(), text.as_bytes(), verdict, line);
     }
     Ok(())
 }

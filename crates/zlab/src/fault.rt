@@ -1,4 +1,5 @@
 ghost use Rattle.std.specs.Prelude.{◌≡◌};
+ghost use Rattle.zlab.specs.Text.{cause_name};
 ghost use Rattle.zlab.specs.declared.fault.EngineFault.TheVariants.{NoMemory};
 
 use std::alloc::AllocError;
@@ -54,6 +55,24 @@ pub enum Cause {
     Conflict,
     /// Too many of something, or too long an input.
     Limit,
+}
+
+impl Cause {
+    /// The name of the cause, as answers have it.
+    pub fn name(self) -> &'static str
+        ensures { result.now ≡ cause_name self }
+    {
+        match self {
+            Cause::Syntax => "Syntax",
+            Cause::Program => "Program",
+            Cause::Unknown => "Unknown",
+            Cause::BadHandleList => "BadHandleList",
+            Cause::NeedDenied => "NeedDenied",
+            Cause::BadState => "BadState",
+            Cause::Conflict => "Conflict",
+            Cause::Limit => "Limit",
+        }
+    }
 }
 
 /// The first fault of an input.

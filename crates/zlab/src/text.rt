@@ -1,8 +1,8 @@
 //! The text of a trace: a line for each item, for the state of each process, and for the end.
 ghost use Rattle.std.specs.Prelude.{◌≡◌, ◌++◌, OnOk, string_bytes};
-ghost use Rattle.zlab.specs.Text.{call_line, item_line, state_line, end_line, cause_name, refused_line};
+ghost use Rattle.zlab.specs.Text.{call_line, item_line, state_line, end_line, refused_line};
 
-use crate::fault::{Cause, LineFault};
+use crate::fault::LineFault;
 use std::alloc::AllocError;
 use zl_code::{CallName, Outcome, ProcState, TraceItem};
 use zl_rights::Pid;
@@ -79,22 +79,6 @@ pub fn push_refusal(text: &mut String, fault: LineFault) -> Result<(), AllocErro
     ensures { OnOk result (string_bytes text.new ≡ string_bytes text.old ++ refused_line fault.line fault.cause) }
 {
     let line = fault.line;
-    let name = name_of_cause(fault.cause);
+    let name = fault.cause.name();
     write!(text, "refused {line} {name}\n")
-}
-
-/// The name of the fault, as answers have it.
-fn name_of_cause(cause: Cause) -> &'static str
-    ensures { result.now ≡ cause_name cause }
-{
-    match cause {
-        Cause::Syntax => "Syntax",
-        Cause::Program => "Program",
-        Cause::Unknown => "Unknown",
-        Cause::BadHandleList => "BadHandleList",
-        Cause::NeedDenied => "NeedDenied",
-        Cause::BadState => "BadState",
-        Cause::Conflict => "Conflict",
-        Cause::Limit => "Limit",
-    }
 }

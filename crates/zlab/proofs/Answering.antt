@@ -9,7 +9,7 @@ use Rattle.zlab.specs.declared.fault.Verdict.{Verdict}
 use Rattle.zlab.specs.declared.fault.Verdict.TheVariants as verdict
 use Rattle.zlab.specs.declared.input.Input.{Input}
 use Rattle.zlab.specs.declared.input.Input.TheVariants as input
-use Rattle.zlab.specs.declared.text.End.{End}
+use Rattle.zlab.specs.declared.system.End.{End}
 use Rattle.zlab.specs.Engine.{said_in, states_of, IsRunOf, IsFirstFault, too_long, IsAnswer, trace, refusal, Answers, BeginsAnswer, nothing, beginning, AnswersReader, BeginsReader, IsStart, IsRun, WritesRun, BeginsRun, no_line, some_lines}
 use Rattle.zlab.specs.Follows.{turns_of, EndsBy}
 use Rattle.zlab.specs.Input.{IsInputOf}

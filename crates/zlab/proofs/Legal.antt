@@ -6,8 +6,8 @@ use Rattle.zl_code.specs.declared.history.TraceItem.{TraceItem}
 use Rattle.zl_code.specs.declared.history.TraceItem.TheVariants as item
 use Rattle.zl_code.specs.Image.{Library}
 use Rattle.zl_code.specs.Steps.{Step, Acts, Next, Moves, AtCall, IsStuck, next_for, pid_of, single, has_count, IsLegalHistory}
-use Rattle.zlab.specs.declared.text.End.{End}
-use Rattle.zlab.specs.declared.text.End.TheVariants as end
+use Rattle.zlab.specs.declared.system.End.{End}
+use Rattle.zlab.specs.declared.system.End.TheVariants as end
 use Rattle.zlab.specs.Follows.{Follows, ends, skips, goes, EndsBy}
 
 -- the item of one step

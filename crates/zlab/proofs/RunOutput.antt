@@ -14,7 +14,7 @@ use Rattle.zl_rights.specs.Map.{Map, get}
 use Rattle.zl_rights.specs.World.{Process}
 use Rattle.zl_code.specs.declared.history.ProcState.{ProcState}
 use Rattle.zl_calls.specs.World.{Lab, seen_in, seen_of, state_in}
-use Rattle.zlab.specs.declared.text.End.{End}
+use Rattle.zlab.specs.declared.system.End.{End}
 use Rattle.zlab.specs.Engine.{states_of, IsRun, WritesRun, BeginsRun, some_lines}
 use Rattle.zlab.specs.Output.{AppendsBeginning, Gathers}
 use Rattle.zlab.specs.System.{Tracked, Walks}

@@ -7,7 +7,7 @@ use Rattle.zl_code.specs.Calls.{Choice, Refused}
 use Rattle.zl_code.specs.Boot.{boot_effect}
 use Rattle.zl_code.proofs.Running.{computing, world_after}
 use Rattle.zl_code.proofs.Stored.{library, boot, history, turns}
-use Rattle.zlab.specs.declared.text.End.TheVariants as end
+use Rattle.zlab.specs.declared.system.End.TheVariants as end
 use Rattle.zlab.specs.Follows.{Follows, turns_of}
 use Rattle.zlab.specs.Text.{history_text}
 use Rattle.zlab.proofs.Following.{follow_by, Follows-by}

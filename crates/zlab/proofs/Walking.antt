@@ -7,8 +7,8 @@ use Rattle.zl_rights.specs.Signals.{is_process, is_ready}
 use Rattle.zl_code.specs.declared.history.TraceItem.{TraceItem}
 use Rattle.zl_code.specs.Image.{Library}
 use Rattle.zl_calls.specs.World.{is_ready_in}
-use Rattle.zlab.specs.declared.text.End.{End}
-use Rattle.zlab.specs.declared.text.End.TheVariants as end
+use Rattle.zlab.specs.declared.system.End.{End}
+use Rattle.zlab.specs.declared.system.End.TheVariants as end
 use Rattle.zlab.specs.Follows.{Follows, ends, skips, goes, StopsBefore, EndsBy, turns_of}
 use Rattle.zlab.specs.System.{Tracked, Adds, Runs, Walks, room_of}
 

@@ -6,8 +6,8 @@ use Rattle.zl_rights.specs.Signals.{is_process, is_ready}
 use Rattle.zl_code.specs.declared.history.TraceItem.{TraceItem}
 use Rattle.zl_code.specs.Image.{Library}
 use Rattle.zl_code.specs.Steps.{Step}
-use Rattle.zlab.specs.declared.text.End.{End}
-use Rattle.zlab.specs.declared.text.End.TheVariants as end
+use Rattle.zlab.specs.declared.system.End.{End}
+use Rattle.zlab.specs.declared.system.End.TheVariants as end
 
 -- each pair of a process and a number is so many turns of the process
 abbrev pub turns_of : List (ℕ × ℕ) → List ℕ

@@ -5,7 +5,7 @@ use Rattle.zl_code.specs.Steps.{Step}
 use Rattle.zl_calls.specs.World.{Lab, is_ready_in}
 use Rattle.zlab.specs.declared.system.Stepped.{Stepped}
 use Rattle.zlab.specs.declared.system.Stepped.TheVariants as stepped
-use Rattle.zlab.specs.declared.text.End.{End}
+use Rattle.zlab.specs.declared.system.End.{End}
 use Rattle.zlab.specs.Follows.{EndsBy}
 
 -- a lab, the items of its steps so far, and how many items there may be

@@ -11,8 +11,8 @@ use Rattle.zl_code.specs.declared.history.TraceItem.{TraceItem}
 use Rattle.zl_code.specs.declared.history.TraceItem.TheVariants as item
 use Rattle.zl_code.specs.declared.history.ProcState.{ProcState}
 use Rattle.zl_code.specs.declared.history.ProcState.TheVariants as state
-use Rattle.zlab.specs.declared.text.End.{End}
-use Rattle.zlab.specs.declared.text.End.TheVariants as end
+use Rattle.zlab.specs.declared.system.End.{End}
+use Rattle.zlab.specs.declared.system.End.TheVariants as end
 use Rattle.zlab.specs.declared.fault.Cause.{Cause}
 use Rattle.zlab.specs.declared.fault.Cause.TheVariants as cause
 

@@ -12,7 +12,7 @@ use crate::input::{Input, MOST_INPUT, read_input};
 use crate::output::{empty_block, write_block, write_if_full, write_items};
 use crate::scenario::{Reading, Scenario, read_scenario};
 use crate::system::System;
-use crate::text::{End, push_end, push_refusal, push_state};
+use crate::text::{push_end, push_refusal, push_state};
 use std::alloc::Global;
 use std::io::{Read, Write};
 use zl_calls::World;

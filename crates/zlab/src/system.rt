@@ -6,7 +6,6 @@ ghost use Rattle.zl_calls.specs.Steps.{StepsTo};
 ghost use Rattle.zlab.specs.Follows.{turns_of};
 ghost use Rattle.zlab.specs.System.{Turns, Walks};
 
-use crate::text::End;
 use std::alloc::Global;
 use std::marker::Model;
 use zl_calls::{Local, World};
@@ -24,6 +23,17 @@ pub enum Stepped {
     Limit,
     /// Memory for the item was refused.
     NoMemory,
+}
+
+/// How a run along a schedule ends.
+#[derive(Clone, Copy, PartialEq, Eq, Debug)]
+pub enum End {
+    /// Every turn was taken.
+    Schedule,
+    /// The trace is at its limit before a turn of a ready process.
+    Limit,
+    /// Memory was refused.
+    Memory,
 }
 
 /// A world, and the trace of the steps that led to it.

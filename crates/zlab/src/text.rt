@@ -3,20 +3,10 @@ ghost use Rattle.std.specs.Prelude.{◌≡◌, ◌++◌, OnOk, string_bytes};
 ghost use Rattle.zlab.specs.Text.{call_line, item_line, state_line, end_line, refused_line};
 
 use crate::fault::LineFault;
+use crate::system::End;
 use std::alloc::AllocError;
 use zl_code::{CallName, Outcome, ProcState, TraceItem};
 use zl_rights::Pid;
-
-/// How a run along a schedule ends.
-#[derive(Clone, Copy, PartialEq, Eq, Debug)]
-pub enum End {
-    /// Every turn was taken.
-    Schedule,
-    /// The trace is at its limit before a turn of a ready process.
-    Limit,
-    /// Memory was refused.
-    Memory,
-}
 
 /// Adds the line of an item. Where memory is refused, a beginning of the line may stand there.
 pub fn push_item(text: &mut String, item: TraceItem) -> Result<(), AllocError>

@@ -1,5 +1,5 @@
 use Rattle.std.proofs.Common.{replicate}
-use Rattle.zlab.specs.declared.text.End.TheVariants as end
+use Rattle.zlab.specs.declared.system.End.TheVariants as end
 use Rattle.zlab.specs.System.{Walks}
 use Rattle.zlab.proofs.system.System.step_turns.Given as goal
 

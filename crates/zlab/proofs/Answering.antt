@@ -15,7 +15,7 @@ use Rattle.zlab.specs.Follows.{turns_of, EndsBy}
 use Rattle.zlab.specs.Input.{IsInputOf}
 use Rattle.zlab.specs.Output.{AppendsBeginning}
 use Rattle.zlab.specs.System.{Tracked, Walks, room_of}
-use Rattle.zlab.specs.Text.{history_text, refused_line}
+use Rattle.zlab.specs.Text.{history_text, cause_name, refused_line}
 use Rattle.zlab.proofs.Legal.{ends_legal}
 
 -- ---- facts of a result
@@ -69,11 +69,11 @@ module _ (text : List ℕ) (s : Tracked) (pairs : List (ℕ × ℕ)) (start : Is
 -- ---- a refusal
 
 module _ (text : List ℕ) (fault : LineFault) (first : IsFirstFault text fault) where
-  pub refusal_answers : (v : Verdict) (old new : Option (List ℕ)) → v ≡ verdict.Refused → Appends old new (refused_line fault.line fault.cause) → Answers text v old new
-  refusal_answers v old new is wrote = record { lines = refused_line fault.line fault.cause; is_answer = rw is (refusal fault first); written = wrote }
+  pub refusal_answers : (v : Verdict) (old new : Option (List ℕ)) → v ≡ verdict.Refused → Appends old new (refused_line fault.line (cause_name fault.cause)) → Answers text v old new
+  refusal_answers v old new is wrote = record { lines = refused_line fault.line (cause_name fault.cause); is_answer = rw is (refusal fault first); written = wrote }
 
-  pub refusal_begins : (old new : Option (List ℕ)) → AppendsBeginning old new (refused_line fault.line fault.cause) → BeginsAnswer text old new
-  refusal_begins old new begun = beginning verdict.Refused (refused_line fault.line fault.cause) new (refusal fault first) begun
+  pub refusal_begins : (old new : Option (List ℕ)) → AppendsBeginning old new (refused_line fault.line (cause_name fault.cause)) → BeginsAnswer text old new
+  refusal_begins old new begun = beginning verdict.Refused (refused_line fault.line (cause_name fault.cause)) new (refusal fault first) begun
 
 -- ---- what a reader had
 
@@ -81,14 +81,14 @@ abbrev TOO_LONG : LineFault
 TOO_LONG = record { line = 0; cause = cause.Limit }
 
 module _ (told : Option (List ℕ)) (read : Input) (is : IsInputOf told read) where
-  pub long_answers : (v : Verdict) (old new : Option (List ℕ)) → read ≡ input.TooLong → v ≡ verdict.Refused → Appends old new (refused_line 0 cause.Limit) → AnswersReader told v old new
+  pub long_answers : (v : Verdict) (old new : Option (List ℕ)) → read ≡ input.TooLong → v ≡ verdict.Refused → Appends old new (refused_line 0 (cause_name cause.Limit)) → AnswersReader told v old new
   long_answers v old new long refused wrote = record {
     text = is.bytes;
     is_text = record { those_told = is.those_told };
     answers = refusal_answers is.bytes TOO_LONG (too_long (rw long at is.holds)) v old new refused wrote;
   }
 
-  pub long_begins : (old new : Option (List ℕ)) → read ≡ input.TooLong → AppendsBeginning old new (refused_line 0 cause.Limit) → BeginsReader told old new
+  pub long_begins : (old new : Option (List ℕ)) → read ≡ input.TooLong → AppendsBeginning old new (refused_line 0 (cause_name cause.Limit)) → BeginsReader told old new
   long_begins old new long begun = record {
     text = is.bytes;
     is_text = record { those_told = is.those_told };

@@ -1,6 +1,5 @@
 -- The answer of the assembler to a text, for one writer or for the other.
-use Rattle.std.specs.Prelude.{ℕ, ◌≡◌, ◌≢◌, ◌⊎◌, ◌<◌, ◌≤◌, List, ◌++◌, codes, length, Option, None}
-use Rattle.std.specs.Fmt.{decimal}
+use Rattle.std.specs.Prelude.{ℕ, ◌≡◌, ◌≢◌, ◌⊎◌, ◌<◌, ◌≤◌, List, length, Option, None}
 use Rattle.std.specs.Io.KnownBytes.{Appends}
 use Rattle.zl_code.specs.Image.{Image}
 use Rattle.zl_code.specs.Spells.{Spells}
@@ -16,6 +15,7 @@ use Rattle.zlab.specs.declared.fault.Verdict.{Verdict}
 use Rattle.zlab.specs.declared.fault.Verdict.TheVariants as verdict
 use Rattle.zlab.specs.Engine.{IsTextOf}
 use Rattle.zlab.specs.Output.{AppendsBeginning}
+use Rattle.zlab.specs.Text.{refused_line}
 
 -- the bytes are those of the image that the text denotes
 pub record IsImageOf (text bytes : List ℕ) : Type 0 where
@@ -27,10 +27,6 @@ pub record IsImageOf (text bytes : List ℕ) : Type 0 where
 -- the text is too long, of which line 0 is told, or it denotes no image, of which a want of memory isn't told
 abbrev pub DenotesNone : List ℕ → AsmFault → Type 0
 DenotesNone text f = ((MOST_INPUT < length text) × (f.line ≡ 0) × (f.cause ≡ cause.Limit)) ⊎ ((length text ≤ MOST_INPUT) × (listing_of text ≡ None) × (f.cause ≢ cause.NoMemory))
-
--- the line of a refusal
-abbrev pub fault_line : AsmFault → List ℕ
-fault_line f = codes "refused " ++ (decimal f.line ++ (codes " " ++ (cause_name f.cause ++ codes "\n")))
 
 -- what the text leads to
 abbrev pub Leads : List ℕ → Assembled → Type 0
@@ -53,7 +49,7 @@ pub record WritesImage (text : List ℕ) (old new : Option (List ℕ)) : Type 0 
 pub record WritesFault (text : List ℕ) (old new : Option (List ℕ)) : Type 0 where
   pub fault : AsmFault
   pub none : DenotesNone text fault
-  pub written : Appends old new (fault_line fault)
+  pub written : Appends old new (refused_line fault.line (cause_name fault.cause))
 
 -- one of the writers got the answer to the text, and the other nothing
 abbrev pub AnswersText : List ℕ → Verdict → (old_image new_image old_line new_line : Option (List ℕ)) → Type 0
@@ -70,7 +66,7 @@ pub record BeginsImage (text : List ℕ) (old new : Option (List ℕ)) : Type 0 
 pub record BeginsFault (text : List ℕ) (old new : Option (List ℕ)) : Type 0 where
   pub fault : AsmFault
   pub none : DenotesNone text fault
-  pub written : AppendsBeginning old new (fault_line fault)
+  pub written : AppendsBeginning old new (refused_line fault.line (cause_name fault.cause))
 
 -- one of the writers got a beginning of the answer or nothing, and the other nothing
 pub data BeginsText (text : List ℕ) (old_image old_line : Option (List ℕ)) : (new_image new_line : Option (List ℕ)) → Type 0 where

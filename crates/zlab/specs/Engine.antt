@@ -24,7 +24,7 @@ use Rattle.zlab.specs.Output.{AppendsBeginning}
 use Rattle.zlab.specs.Reading.{Lists}
 use Rattle.zlab.specs.Scenario.{Said, reading_of}
 use Rattle.zlab.specs.System.{Tracked, Walks}
-use Rattle.zlab.specs.Text.{history_text, refused_line}
+use Rattle.zlab.specs.Text.{history_text, cause_name, refused_line}
 
 -- what the text says
 abbrev pub said_in : List ℕ → Said
@@ -77,7 +77,7 @@ pub data IsFirstFault (text : List ℕ) : LineFault → Type 0 where
 -- the lines are the answer to the text
 pub data IsAnswer (text : List ℕ) : Verdict → List ℕ → Type 0 where
   trace : (items : List TraceItem) (w : World) (e : End) → IsRunOf text items w e → IsAnswer text verdict.Done (history_text items (states_of w) e)
-  refusal : (fault : LineFault) → IsFirstFault text fault → IsAnswer text verdict.Refused (refused_line fault.line fault.cause)
+  refusal : (fault : LineFault) → IsFirstFault text fault → IsAnswer text verdict.Refused (refused_line fault.line (cause_name fault.cause))
 
 -- the bytes of a reader, which may tell what it has left
 pub record IsTextOf (told : Option (List ℕ)) (text : List ℕ) : Type 0 where

@@ -57,6 +57,6 @@ cause_name cause.BadState = codes "BadState"
 cause_name cause.Conflict = codes "Conflict"
 cause_name cause.Limit = codes "Limit"
 
--- the line that answers a refused input
-abbrev pub refused_line : ℕ → Cause → List ℕ
-refused_line line c = codes "refused " ++ (decimal line ++ (codes " " ++ (cause_name c ++ codes "\n")))
+-- the line that answers a refused input: the number of its faulty line, and the name of the fault
+abbrev pub refused_line : ℕ → List ℕ → List ℕ
+refused_line line name = codes "refused " ++ (decimal line ++ (codes " " ++ (name ++ codes "\n")))

@@ -1,15 +1,18 @@
 //! The engine of the assembler: a text is read, and its image written, or the line of its fault.
-ghost use Rattle.std.specs.Prelude.{◌≡◌, ◌≢◌, ◌⊎◌, ◌++◌, ◌+◌, ◌≤◌, length, IfOk, IfErr, OnOk, OnErr, string_bytes};
+ghost use Rattle.std.specs.Prelude.{◌≡◌, ◌≢◌, ◌⊎◌, ◌+◌, ◌≤◌, length, IfOk, IfErr, OnOk, OnErr};
 ghost use Rattle.std.specs.Io.KnownBytes.{Appends};
+ghost use Rattle.zl_asm.specs.Causes.{cause_name};
 ghost use Rattle.zlab.specs.Input.{TakesAtMost};
 ghost use Rattle.zlab.specs.Output.{AppendsBeginning};
-ghost use Rattle.zlab.specs.Assembling.{Leads, fault_line, ReadsTo, AssemblesReader, BeginsAssembly};
+ghost use Rattle.zlab.specs.Text.{refused_line};
+ghost use Rattle.zlab.specs.Assembling.{Leads, ReadsTo, AssemblesReader, BeginsAssembly};
 ghost use Rattle.zlab.specs.declared.fault.Verdict.TheVariants as verdicts;
 
 use crate::fault::{EngineFault, Verdict};
 use crate::input::{Input, MOST_INPUT, read_input};
 use crate::output::{write_all, write_block};
-use std::alloc::{AllocError, Global};
+use crate::text::push_refusal;
+use std::alloc::Global;
 use std::io::{Read, Write};
 use zl_asm::{AsmCause, AsmFault, assemble_bytes};
 use zl_code::encode;
@@ -86,20 +89,11 @@ fn assemble_text(alloc: Global, text: &[u8]) -> Result<Assembled, EngineFault>
 
 /// Writes the line of the fault.
 fn write_fault<W: Write>(alloc: Global, writer: &mut W, fault: AsmFault) -> Result<(), EngineFault>
-    ensures ok { OnOk result (Appends (W.contents writer.old) (W.contents writer.new) (fault_line fault)) }
-    ensures err { OnErr result (AppendsBeginning (W.contents writer.old) (W.contents writer.new) (fault_line fault)) }
+    ensures ok { OnOk result (Appends (W.contents writer.old) (W.contents writer.new) (refused_line fault.line (cause_name fault.cause))) }
+    ensures err { OnErr result (AppendsBeginning (W.contents writer.old) (W.contents writer.new) (refused_line fault.line (cause_name fault.cause))) }
     ensures fault { IfErr result (λ fault. fault ≢ EngineFault.Read) }
 {
     let mut block = String::new(alloc);
-    push_fault(&mut block, fault)?;
+    push_refusal(&mut block, fault.line, fault.cause.name())?;
     write_block(writer, &mut block)
-}
-
-/// Adds the line of the fault. Where memory is refused, a beginning of the line may stand there.
-fn push_fault(text: &mut String, fault: AsmFault) -> Result<(), AllocError>
-    ensures { OnOk result (string_bytes text.new ≡ string_bytes text.old ++ fault_line fault) }
-{
-    let line = fault.line;
-    let name = fault.cause.name();
-    write!(text, "refused {line} {name}\n")
 }

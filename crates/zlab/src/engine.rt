@@ -5,7 +5,7 @@ ghost use Rattle.std.specs.Io.KnownBytes.{Appends};
 ghost use Rattle.zlab.specs.Engine.{AnswersReader, BeginsReader, Answers, BeginsAnswer, Starts, WritesRun, BeginsRun, states_of, line_cause};
 ghost use Rattle.zlab.specs.Input.{TakesAtMost};
 ghost use Rattle.zlab.specs.Output.{AppendsBeginning, Gathers};
-ghost use Rattle.zlab.specs.Text.{refused_line, state_line};
+ghost use Rattle.zlab.specs.Text.{cause_name, refused_line, state_line};
 
 use crate::fault::{Cause, EngineFault, LineFault, Verdict};
 use crate::input::{Input, MOST_INPUT, read_input};
@@ -128,12 +128,12 @@ fn write_refusal<W: Write>(
     fault: LineFault,
 ) -> Result<Verdict, EngineFault>
     ensures verdict { IfOk result (λ verdict. verdict ≡ Verdict.Refused) }
-    ensures ok { OnOk result (Appends (W.contents writer.old) (W.contents writer.new) (refused_line fault.line fault.cause)) }
-    ensures err { OnErr result (AppendsBeginning (W.contents writer.old) (W.contents writer.new) (refused_line fault.line fault.cause)) }
+    ensures ok { OnOk result (Appends (W.contents writer.old) (W.contents writer.new) (refused_line fault.line (cause_name fault.cause))) }
+    ensures err { OnErr result (AppendsBeginning (W.contents writer.old) (W.contents writer.new) (refused_line fault.line (cause_name fault.cause))) }
     ensures fault { IfErr result (λ fault. fault ≢ EngineFault.Read) }
 {
     let mut block = String::new(alloc);
-    push_refusal(&mut block, fault)?;
+    push_refusal(&mut block, fault.line, fault.cause.name())?;
     write_block(writer, &mut block)?;
     Ok(Verdict::Refused)
 }

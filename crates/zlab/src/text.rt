@@ -2,7 +2,6 @@
 ghost use Rattle.std.specs.Prelude.{◌≡◌, ◌++◌, OnOk, string_bytes};
 ghost use Rattle.zlab.specs.Text.{call_line, item_line, state_line, end_line, refused_line};
 
-use crate::fault::LineFault;
 use crate::system::End;
 use std::alloc::AllocError;
 use zl_code::{CallName, Outcome, ProcState, TraceItem};
@@ -63,12 +62,10 @@ pub fn push_end(text: &mut String, end: End) -> Result<(), AllocError>
     })
 }
 
-/// Adds the line that answers a refused input. Where memory is refused, a beginning of the line may
-/// stand there.
-pub fn push_refusal(text: &mut String, fault: LineFault) -> Result<(), AllocError>
-    ensures { OnOk result (string_bytes text.new ≡ string_bytes text.old ++ refused_line fault.line fault.cause) }
+/// Adds the line that answers a refused input: the number of its faulty line, and the name of the
+/// fault. Where memory is refused, a beginning of the line may stand there.
+pub fn push_refusal(text: &mut String, line: u64, name: &str) -> Result<(), AllocError>
+    ensures { OnOk result (string_bytes text.new ≡ string_bytes text.old ++ refused_line line name.now) }
 {
-    let line = fault.line;
-    let name = fault.cause.name();
     write!(text, "refused {line} {name}\n")
 }

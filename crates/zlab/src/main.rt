@@ -40,15 +40,9 @@ use words::{Task, WordFault};
 #[derive(Debug, Drop, Error)]
 pub enum Failure {
     #[error(transparent)]
-    Words(WordFault),
+    Words(#[from] WordFault),
     #[error(transparent)]
-    Engine(EngineFault),
-}
-
-impl From<WordFault> for Failure {
-    fn from(fault: WordFault) -> Failure {
-        Failure::Words(fault)
-    }
+    Engine(#[from] EngineFault),
 }
 
 impl From<AllocError> for Failure {
@@ -78,10 +72,8 @@ fn run<R: AllocGlobal + Env + Files + Input + Print>(rt: &R) -> Result<Verdict, 
         };
     }
     match words::words(rt.alloc(), words)? {
-        Task::Input => {
-            step_engine(rt.alloc(), &mut rt.reader(), &mut io::writer(rt)).map_err(Failure::Engine)
-        }
-        Task::Assemble { text, image } => assemble(rt, text, image).map_err(Failure::Engine),
+        Task::Input => Ok(step_engine(rt.alloc(), &mut rt.reader(), &mut io::writer(rt))?),
+        Task::Assemble { text, image } => Ok(assemble(rt, text, image)?),
     }
 }
 

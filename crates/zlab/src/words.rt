@@ -8,10 +8,10 @@ ghost use Rattle.zlab.specs.declared.words.WordFault.TheVariants.{NoMemory, Usag
 mod texts;
 
 use clap::error::ErrorKind;
-use clap::{Arg, ArgMatches, Command, Error};
+use clap::{Arg, ArgMatches, Command};
 use std::alloc::{AllocError, Global};
 use std::convert::AsStr;
-use thiserror::Error as Fault;
+use thiserror::Error;
 
 /// What a command line asks for.
 #[derive(Clone, Copy, PartialEq, Eq, Debug)]
@@ -28,7 +28,7 @@ pub enum Task<'a> {
 }
 
 /// Why a command line asks for no task.
-#[derive(Clone, Copy, PartialEq, Eq, Debug, Fault)]
+#[derive(Clone, Copy, PartialEq, Eq, Debug, Error)]
 pub enum WordFault {
     /// The words are in none of the forms.
     #[error("a wrong command line; the forms are `zlab < INPUT` and `zlab asm IN OUT`; not built \
@@ -49,10 +49,10 @@ impl From<AllocError> for WordFault {
     }
 }
 
-impl From<Error> for WordFault {
+impl From<clap::Error> for WordFault {
     ghost from_gives = { λ error fault. FaultOf (kind_of error) fault };
 
-    fn from(error: Error) -> WordFault {
+    fn from(error: clap::Error) -> WordFault {
         match error.kind() {
             ErrorKind::OutOfMemory => WordFault::NoMemory,
             _ => WordFault::Usage,
@@ -73,7 +73,7 @@ pub fn words<'a, S: AsStr>(alloc: Global, words: &'a [S]) -> Result<Task<'a>, Wo
     Ok(task_of(&matches))
 }
 
-// The task that the matches of the command set stand for.
+/// The task that the matches of the command set stand for.
 fn task_of<'a>(matches: &ArgMatches<'a>) -> Task<'a>
     requires { HasValues (subcommand_rows_of matches.now) }
     ensures { AsksFor (subcommand_rows_of matches.now) result }
@@ -87,7 +87,7 @@ fn task_of<'a>(matches: &ArgMatches<'a>) -> Task<'a>
     }
 }
 
-// A value that the subcommand can't be without.
+/// A value that the subcommand can't be without.
 fn value<'a>(matches: &ArgMatches<'a>, name: &str) -> &'a str
     requires { HasValue (rows_of (found_of matches.now)) name.now }
     ensures { first_of name.now (rows_of (found_of matches.now)) ≡ Some result.now }
@@ -95,7 +95,7 @@ fn value<'a>(matches: &ArgMatches<'a>, name: &str) -> &'a str
     matches.get_str(name).unwrap()
 }
 
-// The command set, with what the help says of it.
+/// The command set, with what the help says of it.
 fn command<'a>(alloc: Global) -> Result<Command<'a>, AllocError>
     ensures { IfOk result (λ made. app_of made ≡ commands) }
 {
@@ -117,7 +117,7 @@ fn assembling<'a>(alloc: Global) -> Result<Command<'a>, AllocError>
         .arg(needed(alloc, "OUT", "The file for the image; it is emptied first"))
 }
 
-// A word that must be there.
+/// A word that must be there.
 fn needed<'a>(alloc: Global, name: &'a str, help: &'a str) -> Arg<'a>
     ensures rule { rule_of result ≡ needed name.entry.now }
     ensures local { result.global ≡ false }

@@ -14,11 +14,14 @@ use zl_code::TraceItem;
 /// How many bytes are gathered before they are written.
 const BLOCK: usize = 65_536;
 
-/// Room for a block and one line more, which has less than 256 bytes.
+/// More bytes than a line of a trace has.
+const LINE: usize = 256;
+
+/// Room for a block and one line more.
 pub fn empty_block(alloc: Global) -> Result<String, AllocError>
     ensures { IfOk result (λ block. string_bytes block ≡ []) }
 {
-    String::with_capacity(alloc, BLOCK + 256)
+    String::with_capacity(alloc, BLOCK + LINE)
 }
 
 /// Writes all the bytes. `Write` comes with any fault of the writer, an interruption too, and where

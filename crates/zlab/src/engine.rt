@@ -23,9 +23,9 @@ use zl_rights::Pid;
 /// first fault. All input is read before anything is written.
 ///
 /// The trace is the text of a legal history. In all worlds of such a history handles are sound and
-/// name objects of their kind (`zl_code::laws::histories_keep_handles_sound` and `.._named`).
-/// It has as many items as the scenario's limit at most, and no more is read than one byte past
-/// 4,194,304.
+/// name objects of their kind (`histories_keep_handles_sound` and `histories_keep_handles_named` of
+/// `zl_code::laws`). It has as many items as the scenario's limit at most, and no more is read than
+/// one byte past 4,194,304.
 /// A fault of the reader is `Read`, with nothing written. A fault of the writer, and a want of memory,
 /// leave nothing or a beginning of such an answer.
 pub fn step_engine<R: Read, W: Write>(
@@ -160,6 +160,11 @@ fn write_run<W: Write>(
     Ok(Verdict::Done)
 }
 
+/// Writes the lines of all processes, but for the last of them, which stay in the block.
+///
+/// The world tells its n-th process and no count of them, so the loop ends where there is none. It is
+/// a `for`, which ends in any case and whose `n` can't overflow; there are never more processes than
+/// `usize::MAX`.
 fn write_states<W: Write>(
     writer: &mut W,
     block: &mut String,

@@ -96,7 +96,8 @@ impl System {
         Stepped::Ran
     }
 
-    /// So many turns of the process; those that find it not ready are skipped.
+    /// So many turns of the process; those that find it not ready are skipped. The first of these may
+    /// end it, as a process that isn't ready stays so while no other takes a turn.
     fn step_turns(&mut self, pid: Pid, count: u32) -> End
         ensures { Walks self.old (replicate count pid) result self.new }
     {

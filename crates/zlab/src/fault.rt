@@ -28,7 +28,7 @@ impl From<AllocError> for EngineFault {
 }
 
 /// How an engine ends that has read its input and written its answer.
-#[derive(Clone, Copy, PartialEq, Eq, Debug)]
+#[derive(Clone, Copy, PartialEq, Eq)]
 pub enum Verdict {
     /// The answer is written: a trace, or an image.
     Done,
@@ -37,7 +37,7 @@ pub enum Verdict {
 }
 
 /// Why a line of the input is refused, in the order in which the faults of one line are examined.
-#[derive(Clone, Copy, PartialEq, Eq, Debug)]
+#[derive(Clone, Copy)]
 pub enum Cause {
     /// No statement, or a byte outside ASCII.
     Syntax,
@@ -76,7 +76,7 @@ impl Cause {
 }
 
 /// The first fault of an input.
-#[derive(Clone, Copy, PartialEq, Eq, Debug)]
+#[derive(Clone, Copy)]
 pub struct LineFault {
     /// The number of the line, from 1; 0 for the input as a whole.
     pub line: u64,

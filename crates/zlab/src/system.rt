@@ -13,7 +13,7 @@ use zl_code::{ProcState, TraceItem};
 use zl_rights::Pid;
 
 /// How a step ends. All but `Ran` change nothing.
-#[derive(Clone, Copy, PartialEq, Eq, Debug)]
+#[derive(Clone, Copy)]
 pub enum Stepped {
     /// One instruction is done, and its item is added.
     Ran,
@@ -26,7 +26,7 @@ pub enum Stepped {
 }
 
 /// How a run along a schedule ends.
-#[derive(Clone, Copy, PartialEq, Eq, Debug)]
+#[derive(Clone, Copy)]
 pub enum End {
     /// Every turn was taken.
     Schedule,

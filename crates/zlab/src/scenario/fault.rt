@@ -6,7 +6,7 @@ use crate::fault::Cause;
 use std::alloc::{AllocError, AllocFailed};
 
 /// Why reading stops.
-#[derive(Clone, Copy, PartialEq, Eq, Debug)]
+#[derive(Clone, Copy)]
 pub enum Fault {
     /// The line is refused.
     Refused(Cause),

@@ -1,7 +1,7 @@
 //! The parts of a scenario.
 
 /// What the next line belongs to.
-#[derive(Clone, Copy, PartialEq, Eq)]
+#[derive(Clone, Copy)]
 pub enum Part {
     Statements,
     /// The block of a program, which this line opens.

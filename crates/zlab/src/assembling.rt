@@ -6,7 +6,6 @@ ghost use Rattle.zlab.specs.Input.{TakesAtMost};
 ghost use Rattle.zlab.specs.Output.{AppendsBeginning};
 ghost use Rattle.zlab.specs.Text.{refused_line};
 ghost use Rattle.zlab.specs.Assembling.{Leads, ReadsTo, AssemblesReader, BeginsAssembly};
-ghost use Rattle.zlab.specs.declared.fault.Verdict.TheVariants as verdicts;
 
 use crate::fault::{EngineFault, Verdict};
 use crate::input::{Input, MOST_INPUT, read_input};

@@ -9,7 +9,8 @@ use Rattle.zl_code.specs.Spells.{first_fault, header_fault, instr_fault, pieces}
 use Rattle.zl_code.proofs.Stored.{bytes}
 use Rattle.zlab.specs.declared.fault.Cause.{Cause}
 use Rattle.zlab.specs.declared.fault.Cause.TheVariants as cause
-use Rattle.zlab.specs.Lines.{is_word, number_of, digits_of, bytes_of_digits, hex_digits_of_byte}
+use Rattle.zl_asm.specs.Words.{is_word}
+use Rattle.zlab.specs.Lines.{number_of, digits_of, bytes_of_digits, hex_digits_of_byte}
 use Rattle.zlab.specs.Scenario.{Said, Reading, refused, reading_of, reading_from, line_said, statement_said, block_said, body_said, digits_spelled, program_said, turns_said, body_named, limit_said, process_said, pair_said, is_end, digits_in}
 
 abbrev said : List (List ℕ) → List Statement → List ℕ → ℕ → List (ℕ × ℕ) → Said

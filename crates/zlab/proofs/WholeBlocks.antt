@@ -2,8 +2,9 @@
 use Rattle.std.proofs.Common.{◌≡◌, ℕ, ◌+◌, Bool, true, false, ◌&&◌, not, cond, List, [], ◌∷◌, ◌++◌, length, Option, Some, None, Result, Ok, Err, refl, sym, ap, ◌∙◌, arith, append_assoc, append-nil}
 use Rattle.std.specs.Prelude.{codes}
 use Rattle.zlab.specs.declared.fault.Cause.{Cause}
-use Rattle.zlab.specs.Lines.{is_ascii, is_comment, words_of, is_word, digits_of}
 use Rattle.zl_asm.specs.Denotes.{image_bytes_of}
+use Rattle.zl_asm.specs.Words.{is_ascii, is_word}
+use Rattle.zlab.specs.Lines.{is_comment, words_of, digits_of}
 use Rattle.zlab.specs.Scenario.{Said, Body, Hex, Asm, Statements, Block, at, onto, body_named, statement_said, is_end, digits_spelled, text_spelled, program_said, body_said, block_said, line_said, after_block, reading_from, joined, digits_in, text_in, DigitsAreWhole, TextIsWhole, BlocksAreWhole}
 use Rattle.zlab.proofs.ReadingOn.{taken, stopped}
 

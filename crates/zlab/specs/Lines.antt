@@ -1,17 +1,8 @@
--- Lines, words, numbers and digits of a scenario.
+-- Words, numbers and digits of a scenario. Its lines are cut as those of the assembler's text (`lines_of` of `zl_asm`).
 use Rattle.std.specs.Prelude.{ℕ, Bool, ◌+◌, ◌-◌, ◌*◌, ◌/◌, ◌%◌, ◌^◌, ◌&&◌, not, ◌==◌, nat_lt, nat_le, List, [], ◌∷◌, codes, length, filter, fold, Option, Some, None, if◌then◌else◌}
 use Rattle.std.specs.List.{slice_split, list_all, starts_with}
-use Rattle.std.specs.Cmp.Lexicographic.{pointwise}
 
--- ---- lines and words
-
--- the lines of a text, between line feeds
-abbrev pub lines_of : List ℕ → List (List ℕ)
-lines_of text = slice_split (λ byte. byte == 10) text
-
--- each byte is an ASCII character
-abbrev pub is_ascii : List ℕ → Bool
-is_ascii line = list_all (λ byte. nat_lt byte 128) line
+-- ---- words
 
 -- the first byte is `#`
 abbrev pub is_comment : List ℕ → Bool
@@ -20,10 +11,6 @@ is_comment line = starts_with ◌==◌ line (codes "#")
 -- the parts of a line between spaces that aren't empty
 abbrev pub words_of : List ℕ → List (List ℕ)
 words_of line = filter (λ word. not (length word == 0)) (slice_split (λ byte. byte == 32) line)
-
--- the word has just these bytes
-unfoldable pub is_word : List ℕ → List ℕ → Bool
-is_word word bytes = pointwise ◌==◌ word bytes
 
 -- ---- numbers
 

@@ -5,10 +5,11 @@ use Rattle.zl_code.specs.declared.boot.Statement.TheVariants as statement
 use Rattle.zl_code.specs.Boot.{MOST_ITEMS}
 use Rattle.zl_code.specs.Spells.{first_fault}
 use Rattle.zl_asm.specs.Denotes.{image_bytes_of}
+use Rattle.zl_asm.specs.Words.{lines_of, is_ascii, is_word}
 use Rattle.zlab.specs.declared.fault.Cause.{Cause}
 use Rattle.zlab.specs.declared.fault.Cause.TheVariants as cause
 use Rattle.zlab.specs.declared.fault.LineFault.{LineFault}
-use Rattle.zlab.specs.Lines.{lines_of, is_ascii, is_comment, words_of, is_word, number_of, digits_of, bytes_of_digits}
+use Rattle.zlab.specs.Lines.{is_comment, words_of, number_of, digits_of, bytes_of_digits}
 
 -- what lines have said
 pub record Said : Type 0 where

@@ -1,6 +1,6 @@
 //! The reader: one line after the other, in one pass.
 ghost use Rattle.std.specs.Prelude.{◌≡◌, IfOk, IfErr, map};
-ghost use Rattle.zlab.specs.Lines.{lines_of};
+ghost use Rattle.zl_asm.specs.Words.{lines_of};
 ghost use Rattle.zlab.specs.Scenario.{start, told_line, is_text, fault_at_end, part_said, line_said, reading_from};
 ghost use Rattle.zlab.specs.Reading.{Tells, Keeps, IsScenario};
 ghost use Rattle.zlab.specs.declared.fault.EngineFault.TheVariants.{NoMemory};

@@ -1,6 +1,7 @@
 //! Lines cut into words.
 ghost use Rattle.std.specs.Prelude.{◌≡◌, OnOk, map};
-ghost use Rattle.zlab.specs.Lines.{is_ascii, is_comment, words_of, is_word};
+ghost use Rattle.zl_asm.specs.Words.{is_ascii, is_word};
+ghost use Rattle.zlab.specs.Lines.{is_comment, words_of};
 
 use std::alloc::AllocError;
 
@@ -19,7 +20,7 @@ pub fn is_comment(line: &[u8]) -> bool
 }
 
 /// Whether the word has just these bytes.
-#[tactic(auto, unfolding(crate::specs::Lines::is_word))]
+#[tactic(auto, unfolding(zl_asm::specs::Words::is_word))]
 pub fn is(word: &[u8], bytes: &[u8]) -> bool
     ensures { result ≡ is_word word.now bytes.now }
 {

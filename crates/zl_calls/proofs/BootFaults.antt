@@ -1,10 +1,9 @@
 -- Which fault a statement of a boot has, from what the code tests.
-use Rattle.std.specs.List.{position}
 use Rattle.zl_calls.specs.declared.objects.Body.{Body}
 use Rattle.std.proofs.lemmas.Bool.{or_left, or_right}
 use Rattle.std.proofs.lemmas.Option.{slice_get_past}
 use Rattle.std.proofs.lemmas.List.{length-map}
-use Rattle.std.proofs.Common.{get_or, ◌≡◌, ◌<◌, ◌≤◌, ℕ, true, false, ◌||◌, not, ◌==◌, List, [], ◌∷◌, length, map, refl, sym, Option, Some, None, inl, inr, ◌⊎◌, arith}
+use Rattle.std.proofs.Common.{◌≡◌, ◌<◌, ◌≤◌, ℕ, true, false, ◌||◌, not, List, [], ◌∷◌, length, map, refl, Option, Some, None, inl, inr, ◌⊎◌, arith}
 use Rattle.std.specs.Prelude.{slice_get, nat_lt, nat_le}
 use Rattle.std.specs.Option.{option_map}
 use Rattle.std.proofs.lemmas.Bool.Decides.{nat_tests}
@@ -20,25 +19,13 @@ use Rattle.zl_code.specs.Boot.{boot_fault, is_job_body, is_job}
 use Rattle.zl_calls.specs.declared.objects.Body.TheVariants as body
 use Rattle.zl_calls.specs.declared.objects.Object.{Object}
 use Rattle.zl_calls.specs.declared.process.Process.{Process}
-use Rattle.zl_calls.specs.Registry.{Registry, keyed}
+use Rattle.zl_calls.specs.Registry.{Registry}
 use Rattle.zl_calls.specs.World.{process_entry, body_value, object_value, world_value}
 use Rattle.zl_calls.specs.Registry.{is_job_in as is_job_object, is_job_body as is_job_here}
 use Rattle.zl_calls.specs.Makes.{IsCauseOf}
 use Rattle.zl_calls.proofs.Labs.{get_seen}
-use Rattle.zl_calls.proofs.Positions.{koid_of, itself, first_at, get_first, get_missing}
 
 -- ---- jobs
-
-pub job_at : (os : List Object) (k i : ℕ) (o : Object) → Some i ≡ position (λ o. o.koid == k) os → o ≡ get_or os i o → is_job_here o.body ≡ is_job_object (get (map keyed os) k)
-job_at os k i o found read = rw (get_first koid_of itself os k i o (first_at koid_of itself os k i o (sym found)), ← read) refl
-
-pub not_job : (b : Body) → (b ≡ body.RootJob → ⊥) → is_job_here b ≡ false
-not_job body.RootJob other = absurd (other refl)
-not_job (body.Process job lives) other = refl
-not_job body.Event other = refl
-
-pub job_nowhere : (os : List Object) (k : ℕ) → None ≡ position (λ o. o.koid == k) os → false ≡ is_job_object (get (map keyed os) k)
-job_nowhere os k missing = rw (get_missing koid_of itself os k (sym missing)) refl
 
 pub job_seen : (ps : List Process) (r : Registry) (k : ℕ) → is_job (world_value ps r) k ≡ is_job_object (get r.objects k)
 job_seen ps r k = rw (get_seen r.objects k) (by_object (get r.objects k))

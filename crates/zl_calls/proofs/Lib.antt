@@ -5,7 +5,7 @@ pub mod Quiet
 pub mod Refused
 pub mod Positions
 pub mod Answered
-pub mod Rising
+pub mod ByKoid
 pub mod Counting
 pub mod Labs
 pub mod Written

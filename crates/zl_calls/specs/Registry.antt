@@ -1,8 +1,6 @@
 -- What the definitions of calls see of the objects: each with its count of handles, by koid.
 use Rattle.std.specs.Prelude.{ℕ, ◌≡◌, ◌+◌, ◌-◌, ◌^◌, ◌<◌, IsTrue, Bool, true, false, ◌&&◌, ◌||◌, ◌==◌, nat_lt, [], ◌∷◌, ◌++◌, Option, Some, None, if◌then◌else◌}
 use Rattle.std.specs.List.{list_any}
-use Rattle.std.specs.Ordering.{nat_cmp}
-use Rattle.std.specs.FinMap.Entries.{is_sorted}
 use Rattle.zl_rights.specs.declared.entry.Entry.{Entry}
 use Rattle.zl_rights.specs.Numbers.{changed}
 use Rattle.zl_rights.specs.Map.{Map, get, update, without, has_key}
@@ -15,9 +13,8 @@ pub record Registry : Type 0 where
   pub objects : Map Object
   pub next_koid : ℕ
 
--- the koids rise, and all of them lie below the next one
-pub record IsInOrder (objects : Map Object) (next_koid : ℕ) : Type 0 where
-  pub rising : IsTrue (is_sorted nat_cmp objects)
+-- all koids lie below the next one
+pub record AreBelow (objects : Map Object) (next_koid : ℕ) : Type 0 where
   pub below : (k : ℕ) → IsTrue (has_key objects k) → k < next_koid
 
 -- an object under its koid

@@ -1,13 +1,11 @@
-ghost use Rattle.std.specs.Prelude.{[], ◌≡◌, ◌+◌, ◌-◌, ◌==◌, map, IsTrue, ◌<◌, ◌^◌, length, nat_lt, take, IfOk, OnErr};
-ghost use Rattle.std.specs.List.{position, list_any};
-ghost use Rattle.std.specs.Ordering.{nat_cmp};
-ghost use Rattle.std.specs.FinMap.Entries.{is_sorted};
+ghost use Rattle.std.specs.Prelude.{[], ◌≡◌, ◌+◌, ◌-◌, ◌<◌, ◌^◌, length, nat_lt, take, IfOk, OnErr};
 ghost use Rattle.zl_rights.specs.Map.{get};
-ghost use Rattle.zl_calls.specs.Registry.{keyed, has_place, held_once_more, held_once_less, raised_changed, stopped, job_of, job_in, lives_below, has_living_child, is_kept, is_job_at, with_new, holding, changing, letting_go, stopping, without_unheld, released, process_ended};
+ghost use Rattle.zl_calls.specs.Registry.{has_place, held_once_more, held_once_less, raised_changed, stopped, job_of, job_in, lives_below, has_living_child, is_kept, is_job_at, with_new, holding, changing, letting_go, stopping, without_unheld, released, process_ended};
 ghost use Rattle.zl_calls.specs.Making.{root_alone};
 
 use bitflags::Flags;
 use std::alloc::{AllocError, Global};
+use std::collections::BTreeMap;
 use std::marker::Model;
 use zl_rights::{Koid, Signals};
 
@@ -99,24 +97,24 @@ impl Body {
     }
 }
 
-/// The objects in rising order of their koids, and the least koid that was not given yet.
+/// The objects by koid, and the least koid that was not given yet.
 #[derive(Drop)]
 pub struct Objects {
-    list: Vec<Object>,
+    by_koid: BTreeMap<Koid, Object>,
     next_koid: Koid,
 }
 
 impl Model for Objects {
-    ghost use Rattle.std.specs.Prelude.{map};
-    ghost use Rattle.zl_calls.specs.Registry.{Registry, IsInOrder, keyed};
+    ghost use Rattle.zl_calls.specs.Registry.{Registry, AreBelow};
 
     ghost Value = { Registry };
 
-    ghost view = { λ o. record { objects = map keyed o.list.items; next_koid = o.next_koid } };
+    ghost view = { λ o. record { objects = o.by_koid.entries; next_koid = o.next_koid } };
 
-    ghost invariant = { λ o. IsInOrder (map keyed o.list.items) o.next_koid };
+    ghost invariant = { λ o. AreBelow o.by_koid.entries o.next_koid };
 }
 
+#[tactic(auto, using(crate::proofs::ByKoid::by_koid))]
 impl Objects {
     /// The koid of the root job.
     pub const ROOT_JOB: Koid = 1;
@@ -129,7 +127,7 @@ impl Objects {
         ensures { IfOk result (λ objects. objects ≡ root_alone) }
     {
         let mut objects = Objects {
-            list: Vec::new(alloc),
+            by_koid: BTreeMap::new(alloc),
             next_koid: Objects::ROOT_JOB,
         };
         objects.create(Body::RootJob, 0)?;
@@ -158,12 +156,15 @@ impl Objects {
         ensures unchanged { OnErr result (self.new ≡ self.old) }
     {
         let koid = self.next_koid;
-        self.list.push(Object {
+        self.by_koid.insert(
             koid,
-            body,
-            raised: Signals::empty(),
-            handles,
-        })?;
+            Object {
+                koid,
+                body,
+                raised: Signals::empty(),
+                handles,
+            },
+        )?;
         self.next_koid = koid + 1;
         Ok(koid)
     }
@@ -174,7 +175,7 @@ impl Objects {
         requires { self.old.next_koid ≡ koid + 1 }
         ensures { self.new ≡ record { objects = take (length self.old.objects - 1) self.old.objects; next_koid = koid } }
     {
-        self.list.pop();
+        self.by_koid.pop_last();
         self.next_koid = koid;
     }
 
@@ -182,15 +183,15 @@ impl Objects {
     pub fn clear(&mut self)
         ensures { self.new ≡ record self.old { objects = [] } }
     {
-        self.list.clear();
+        self.by_koid.clear();
     }
 
     /// Whether the koid is that of a job.
     pub fn is_job(&self, koid: Koid) -> bool
         ensures { result ≡ is_job_at self.now.objects koid }
     {
-        match place_of(&self.list, koid) {
-            Some(place) => matches!(self.list[place].body, Body::RootJob),
+        match self.by_koid.get(&koid) {
+            Some(object) => matches!(object.body, Body::RootJob),
             None => false,
         }
     }
@@ -199,8 +200,8 @@ impl Objects {
     pub fn may_hold(&self, koid: Koid) -> bool
         ensures { result ≡ has_place (get self.now.objects koid) }
     {
-        match place_of(&self.list, koid) {
-            Some(place) => self.list[place].handles < Objects::MOST,
+        match self.by_koid.get(&koid) {
+            Some(object) => object.handles < Objects::MOST,
             None => false,
         }
     }
@@ -209,18 +210,20 @@ impl Objects {
     pub fn hold(&mut self, koid: Koid)
         ensures { self.new ≡ holding self.old koid }
     {
-        if let Some(place) = place_of(&self.list, koid) {
-            self.list[place] = self.list[place].held_once_more();
-        }
+        let Some(object) = self.by_koid.get_mut(&koid) else {
+            return;
+        };
+        *object = object.held_once_more();
     }
 
     /// The signals that calls set and clear at the object change.
     pub fn change(&mut self, koid: Koid, clear: Signals, set: Signals)
         ensures { self.new ≡ changing self.old koid clear.0 set.0 }
     {
-        if let Some(place) = place_of(&self.list, koid) {
-            self.list[place] = self.list[place].changed(clear, set);
-        }
+        let Some(object) = self.by_koid.get_mut(&koid) else {
+            return;
+        };
+        *object = object.changed(clear, set);
     }
 
     /// A handle to the object has closed; what isn't held any more is gone. It takes no memory.
@@ -235,9 +238,10 @@ impl Objects {
     fn let_go(&mut self, koid: Koid)
         ensures { self.new ≡ letting_go self.old koid }
     {
-        if let Some(place) = place_of(&self.list, koid) {
-            self.list[place] = self.list[place].held_once_less();
-        }
+        let Some(object) = self.by_koid.get_mut(&koid) else {
+            return;
+        };
+        *object = object.held_once_less();
     }
 
     /// The process has ended; what isn't held any more is gone. It takes no memory.
@@ -255,17 +259,18 @@ impl Objects {
     fn stop(&mut self, pid: Koid)
         ensures { self.new ≡ stopping self.old pid }
     {
-        if let Some(place) = place_of(&self.list, pid) {
-            self.list[place] = self.list[place].stopped();
-        }
+        let Some(object) = self.by_koid.get_mut(&pid) else {
+            return;
+        };
+        *object = object.stopped();
     }
 
     /// The job of the process.
     fn job_of(&self, pid: Koid) -> Option<Koid>
         ensures { result ≡ job_in (get self.now.objects pid) }
     {
-        match place_of(&self.list, pid) {
-            Some(place) => self.list[place].job(),
+        match self.by_koid.get(&pid) {
+            Some(object) => object.job(),
             None => None,
         }
     }
@@ -274,45 +279,33 @@ impl Objects {
     pub fn remove_unheld(&mut self, koid: Koid)
         ensures { self.new ≡ without_unheld self.old koid }
     {
-        if let Some(place) = place_of(&self.list, koid) {
-            if !self.keeps(self.list[place]) {
-                self.list.remove(place);
+        if let Some(object) = self.by_koid.get(&koid) {
+            if !self.keeps(koid, *object) {
+                self.by_koid.remove(&koid);
             }
         }
     }
 
     /// Whether a handle names the object, or it is a process that lives or a job with one.
-    fn keeps(&self, object: Object) -> bool
-        ensures { result ≡ is_kept self.now.objects object.koid object }
+    fn keeps(&self, koid: Koid, object: Object) -> bool
+        ensures { result ≡ is_kept self.now.objects koid object }
     {
         if object.handles > 0 {
             return true;
         }
         match object.body {
-            Body::RootJob => self.has_living_child(object.koid),
+            Body::RootJob => self.has_living_child(koid),
             Body::Process { lives, .. } => lives,
             Body::Event => false,
         }
     }
 
-    fn has_living_child(&self, parent: Koid) -> bool
-        ensures { result ≡ has_living_child self.now.objects parent }
+    /// Whether a process of the job lives.
+    fn has_living_child(&self, job: Koid) -> bool
+        ensures { result ≡ has_living_child self.now.objects job }
     {
-        any_below(&self.list, parent)
+        self.by_koid
+            .values()
+            .any(|object| object.body.lives_below(job))
     }
-}
-
-/// Where the object stands in a list whose koids rise.
-fn place_of(list: &[Object], koid: Koid) -> Option<usize>
-    requires { IsTrue (is_sorted nat_cmp (map keyed list.now)) }
-    ensures { result ≡ position (λ o. o.koid == koid) list.now }
-{
-    list.binary_search_by_key(&koid, |object| object.koid).ok()
-}
-
-/// Whether a process of the job lives.
-fn any_below(list: &[Object], job: Koid) -> bool
-    ensures { result ≡ list_any (λ o. lives_below job o.body) list.now }
-{
-    list.iter().any(|object| object.body.lives_below(job))
 }

@@ -190,7 +190,7 @@ module _ (lib : Library) (before after : List Process) (p p2 : Process) (write :
       is = ap process_value replies ∙ (λ i. record (process_value p) { cpu = answered p.cpu (a ∷ d ∷ []) (0 ∷ made ∷ []); handles = creates.inserts.entries i; last = creates.inserts.last i })
 
       objects_are : put w.objects r.next_koid (record { body = EventBody; raised = 0 }) ≡ map object_entry (with_new r body.Event 1).objects
-      objects_are = put_last w.objects r.next_koid (record { body = EventBody; raised = 0 }) given ∙ sym (map-append object_entry r.objects ((r.next_koid, new_object r.next_koid body.Event 1) ∷ []))
+      objects_are = put_last w.objects r.next_koid (record { body = EventBody; raised = 0 }) given ∙ sym (map-append object_entry r.objects ((r.next_koid, new_object body.Event 1) ∷ []))
 
       rest : (record middle { processes = map process_entry after }) ≡ world_value after r2
       rest = rw creates.objects (ap (λ (os : Map ObjectValue). record w { processes = map process_entry after; objects = os; next_koid = r.next_koid + 1 }) objects_are)

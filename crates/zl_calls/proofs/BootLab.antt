@@ -18,10 +18,10 @@ use Rattle.zl_table.proofs.MapEdits.{below_parts, sorted_parts}
 use Rattle.zl_calls.specs.declared.objects.Object.{Object}
 use Rattle.zl_calls.specs.declared.process.Process.{Process}
 use Rattle.zl_calls.specs.declared.process.State.TheVariants as state
-use Rattle.zl_calls.specs.Registry.{Registry, keyed, is_kept, has_living_child}
+use Rattle.zl_calls.specs.Registry.{Registry, is_kept, has_living_child}
 use Rattle.zl_calls.specs.World.{process_entry, process_value, object_entry, object_value, world_value}
 use Rattle.zl_calls.specs.Lab.{IsLab, AgreesOn, is_in_job}
-use Rattle.zl_calls.specs.Making.{IsMaking, IsFresh, object_of, root_job}
+use Rattle.zl_calls.specs.Making.{IsMaking, IsFresh, object_of, living, root_job}
 use Rattle.zl_calls.proofs.Counting.{no_queues}
 use Rattle.zl_calls.proofs.Labs.{started, all_held}
 use Rattle.zl_calls.proofs.Quiet.{quiet, settles_itself, settles_without}
@@ -49,13 +49,13 @@ record IsOfProcess (ps : List Process) (k : ℕ) (o : Object) : Type 0 where
   process : Process
   there : get (map process_entry ps) k ≡ Some (process_value process)
   ready : process.state ≡ state.Ready
-  is : object_of process ≡ o
+  is : living ≡ o
 
-object_at : (ps : List Process) (k : ℕ) (o : Object) → All IsFresh ps → get (map (λ p. keyed (object_of p)) ps) k ≡ Some o → IsOfProcess ps k o
+object_at : (ps : List Process) (k : ℕ) (o : Object) → All IsFresh ps → get (map object_of ps) k ≡ Some o → IsOfProcess ps k o
 unfolding get
 object_at [] k o fresh at = absurd (none-some o at)
 object_at (p ∷ ps) k o fresh at = elim (cases_Bool (p.pid == k)) as (λ _. IsOfProcess (p ∷ ps) k o) [
-  | inl here ↦ record { process = p; there = rw here refl; ready = (All-head IsFresh p ps fresh).ready; is = same_Some (object_of p) o (rw here at at) }
+  | inl here ↦ record { process = p; there = rw here refl; ready = (All-head IsFresh p ps fresh).ready; is = same_Some living o (rw here at at) }
   | inr apart ↦
       let found : IsOfProcess ps k o = object_at ps k o (All-tail IsFresh p ps fresh) (rw apart at at) in
       record { process = found.process; there = rw apart found.there; ready = found.ready; is = found.is }
@@ -74,10 +74,10 @@ below_key j (e ∷ m) k below there =
     ]
 
 -- each process has an object
-pid_object : (ps : List Process) (k : ℕ) → IsTrue (has_key (map process_entry ps) k) → IsTrue (has_key (map (λ p. keyed (object_of p)) ps) k)
+pid_object : (ps : List Process) (k : ℕ) → IsTrue (has_key (map process_entry ps) k) → IsTrue (has_key (map object_of ps) k)
 unfolding get
 pid_object [] k there = absurd (false≢true there)
-pid_object (p ∷ ps) k there = elim (cases_Bool (p.pid == k)) as (λ _. IsTrue (has_key (map (λ q. keyed (object_of q)) (p ∷ ps)) k)) [
+pid_object (p ∷ ps) k there = elim (cases_Bool (p.pid == k)) as (λ _. IsTrue (has_key (map object_of (p ∷ ps)) k)) [
   | inl here ↦ rw here refl
   | inr apart ↦ rw apart (pid_object ps k (rw apart at there))
 ]
@@ -102,7 +102,7 @@ module _ (ps : List Process) (r : Registry) (making : IsMaking ps r) where
   unfolding get
   found A k o at root other = by_key (cases_Bool (1 == k)) (rw making.objects at at)
     where
-      by_key : IsTrue (1 == k) ⊎ ((1 == k) ≡ false) → get (keyed root_job ∷ map (λ p. keyed (object_of p)) ps) k ≡ Some o → A
+      by_key : IsTrue (1 == k) ⊎ ((1 == k) ≡ false) → get ((1, root_job) ∷ map object_of ps) k ≡ Some o → A
       by_key (inl here) read = root (eqb-true 1 k here) (same_Some root_job o (rw here at read))
       by_key (inr apart) read = other (object_at ps k o making.fresh (rw apart at read))
 
@@ -112,8 +112,8 @@ module _ (ps : List Process) (r : Registry) (making : IsMaking ps r) where
       none : ◌≡◌ {A = ℕ} o.handles 0
       none = found (◌≡◌ {A = ℕ} o.handles 0) k o at (λ key is. ap (λ (x : Object). x.handles) (sym is)) (λ of. ap (λ (x : Object). x.handles) (sym of.is))
 
-  below_root : IsTrue (below_all nat_cmp 1 (map (λ p. keyed (object_of p)) ps))
-  below_root = (sorted_parts (keyed root_job) (map (λ p. keyed (object_of p)) ps) (rw making.objects at making.objects_in_order)).0
+  below_root : IsTrue (below_all nat_cmp 1 (map object_of ps))
+  below_root = (sorted_parts (1, root_job) (map object_of ps) (rw making.objects at making.objects_in_order)).0
 
   root_not_running : is_process (world_value ps r) runs 1 ≡ false
   unfolding is_process
@@ -121,7 +121,7 @@ module _ (ps : List Process) (r : Registry) (making : IsMaking ps r) where
     where
       by_process : (q : Option ProcessValue) → get (map process_entry ps) 1 ≡ q → state_passes runs q ≡ false
       by_process None is = refl
-      by_process (Some q) is = absurd (omega (arith, below_key 1 (map (λ p. keyed (object_of p)) ps) 1 below_root (pid_object ps 1 (rw is refl))))
+      by_process (Some q) is = absurd (omega (arith, below_key 1 (map object_of ps) 1 below_root (pid_object ps 1 (rw is refl))))
 
   root_there : get r.objects 1 ≡ Some root_job
   unfolding get
@@ -131,7 +131,7 @@ module _ (ps : List Process) (r : Registry) (making : IsMaking ps r) where
   unfolding get
   above_zero k there = elim (cases_Bool (1 == k)) as (λ _. 0 < k) [
     | inl here ↦ omega (arith, eqb-true 1 k here)
-    | inr apart ↦ omega (arith, below_key 1 (map (λ p. keyed (object_of p)) ps) k below_root (rw apart at (rw making.objects at there)))
+    | inr apart ↦ omega (arith, below_key 1 (map object_of ps) k below_root (rw apart at (rw making.objects at there)))
   ]
 
   in_jobs : (k : ℕ) (o : Object) → get r.objects k ≡ Some o → IsTrue (is_in_job r.objects o.body)

@@ -15,10 +15,10 @@ use Rattle.zl_calls.specs.declared.objects.Body.TheVariants as body
 use Rattle.zl_calls.specs.declared.objects.Object.{Object}
 use Rattle.zl_calls.specs.declared.process.Process.{Process}
 use Rattle.zl_calls.specs.Cpu.{started_cpu}
-use Rattle.zl_calls.specs.Registry.{Registry, keyed, new_object, with_new}
+use Rattle.zl_calls.specs.Registry.{Registry, with_new}
 use Rattle.zl_calls.specs.World.{process_entry, process_value, state_value, object_entry, object_value, world_value}
 use Rattle.zl_calls.specs.Registry.{is_job_in}
-use Rattle.zl_calls.specs.Making.{IsMaking, IsFresh, object_of, root_job, root_alone}
+use Rattle.zl_calls.specs.Making.{IsMaking, IsFresh, object_of, living, root_job, root_alone}
 use Rattle.zl_calls.specs.declared.booting.Made.{Made}
 use Rattle.zl_calls.specs.Makes.{Makes}
 use Rattle.zl_calls.proofs.BootFaults.{no_fault}
@@ -27,16 +27,16 @@ use Rattle.zl_calls.proofs.Labs.{has_seen}
 
 -- ---- the only job is the root job
 
-none_is_job : (ps : List Process) (k : ℕ) → is_job_in (get (map (λ p. keyed (object_of p)) ps) k) ≡ false
+none_is_job : (ps : List Process) (k : ℕ) → is_job_in (get (map object_of ps) k) ≡ false
 unfolding get
 none_is_job [] k = refl
-none_is_job (p ∷ ps) k = elim (p.pid == k) as (λ b. is_job_in (cond b (Some (object_of p)) (get (map (λ p. keyed (object_of p)) ps) k)) ≡ false) [ true ↦ refl | false ↦ none_is_job ps k ]
+none_is_job (p ∷ ps) k = elim (p.pid == k) as (λ b. is_job_in (cond b (Some living) (get (map object_of ps) k)) ≡ false) [ true ↦ refl | false ↦ none_is_job ps k ]
 
 job_is_root : (ps : List Process) (r : Registry) (k : ℕ) → IsMaking ps r → is_job_in (get r.objects k) ≡ true → ◌≡◌ {A = ℕ} k 1
 unfolding get
 job_is_root ps r k making there = by_key (cases_Bool (1 == k)) (rw (making.objects) at there)
   where
-    by_key : IsTrue (1 == k) ⊎ ((1 == k) ≡ false) → is_job_in (get (keyed root_job ∷ map (λ p. keyed (object_of p)) ps) k) ≡ true → ◌≡◌ {A = ℕ} k 1
+    by_key : IsTrue (1 == k) ⊎ ((1 == k) ≡ false) → is_job_in (get ((1, root_job) ∷ map object_of ps) k) ≡ true → ◌≡◌ {A = ℕ} k 1
     by_key (inl here) at = sym (eqb-true 1 k here)
     by_key (inr apart) at = absurd (false≢true (sym (none_is_job ps k) ∙ (rw apart at at)))
 
@@ -56,27 +56,21 @@ module _ (ps : List Process) (r : Registry) (making : IsMaking ps r) (p : Proces
   abbrev grown : Registry
   grown = with_new r (body.Process 1 true) 0
 
-  abbrev object_entry_of : Process → ℕ × Object
-  object_entry_of q = keyed (object_of q)
-
-  abbrev fresh_object : Object
-  fresh_object = new_object n (body.Process 1 true) 0
-
   processes_are : map process_entry (ps ++ p ∷ []) ≡ put (map process_entry ps) n (process_value p)
   processes_are = map-append process_entry ps (p ∷ []) ∙ ap (λ (k : ℕ). map process_entry ps ++ (k, process_value p) ∷ []) new.pid ∙ sym (put_last (map process_entry ps) n (process_value p) making.given_processes)
 
-  objects_are : grown.objects ≡ put r.objects n fresh_object
-  objects_are = sym (put_last r.objects n fresh_object making.given_objects)
+  objects_are : grown.objects ≡ put r.objects n living
+  objects_are = sym (put_last r.objects n living making.given_objects)
 
   pub still_making : n ≤ 1024 → IsMaking (ps ++ p ∷ []) grown
   still_making left = record {
     fresh = All-push IsFresh ps p making.fresh new.fresh;
-    objects = ap (λ (m : Map Object). m ++ (n, fresh_object) ∷ []) making.objects
-        ∙ ap (λ (m : Map Object). keyed root_job ∷ m) (sym (map-append object_entry_of ps (p ∷ []) ∙ ap (λ (k : ℕ). map object_entry_of ps ++ (k, new_object k (body.Process 1 true) 0) ∷ []) new.pid));
+    objects = ap (λ (m : Map Object). m ++ (n, living) ∷ []) making.objects
+        ∙ ap (λ (m : Map Object). (1, root_job) ∷ m) (sym (map-append object_of ps (p ∷ []) ∙ ap (λ (k : ℕ). map object_of ps ++ (k, living) ∷ []) new.pid));
     processes_in_order = rw processes_are (sorted_put (map process_entry ps) n (process_value p) making.processes_in_order);
-    objects_in_order = rw objects_are (sorted_put r.objects n fresh_object making.objects_in_order);
+    objects_in_order = rw objects_are (sorted_put r.objects n living making.objects_in_order);
     given_processes = λ k there. below (put_key (map process_entry ps) n (process_value p) k (rw processes_are at there)) (making.given_processes k);
-    given_objects = λ k there. below (put_key r.objects n fresh_object k (rw objects_are at there)) (making.given_objects k);
+    given_objects = λ k there. below (put_key r.objects n living k (rw objects_are at there)) (making.given_objects k);
     koids = omega (arith, left);
   }
     where
@@ -108,10 +102,10 @@ module _ (ps : List Process) (r : Registry) (making : IsMaking ps r) (p : Proces
         last = new.fresh.none_removed i;
       }
 
-      objects_seen : map object_entry grown.objects ≡ put (map object_entry r.objects) n (object_value fresh_object)
+      objects_seen : map object_entry grown.objects ≡ put (map object_entry r.objects) n (object_value living)
       objects_seen =
-          map-append object_entry r.objects ((n, fresh_object) ∷ [])
-          ∙ sym (put_last (map object_entry r.objects) n (object_value fresh_object) (λ k there. making.given_objects k (sym (has_seen r.objects k) ∙ there)))
+          map-append object_entry r.objects ((n, living) ∷ [])
+          ∙ sym (put_last (map object_entry r.objects) n (object_value living) (λ k there. making.given_objects k (sym (has_seen r.objects k) ∙ there)))
 
 -- ---- the statement
 

@@ -63,7 +63,7 @@ module _ (before after : List Process) (p p2 : Process) (write : IsWrite before 
   n = r.next_koid
 
   abbrev fresh : Object
-  fresh = new_object n body.Event 1
+  fresh = new_object body.Event 1
 
   abbrev entry : Entry
   entry = new_entry n kind.Event

@@ -8,22 +8,26 @@ use Rattle.zl_calls.specs.declared.objects.Body.TheVariants as body
 use Rattle.zl_calls.specs.declared.objects.Object.{Object}
 use Rattle.zl_calls.specs.declared.process.State.TheVariants as state
 use Rattle.zl_calls.specs.declared.process.Process.{Process}
-use Rattle.zl_calls.specs.Registry.{Registry, keyed, new_object}
+use Rattle.zl_calls.specs.Registry.{Registry, new_object}
 use Rattle.zl_calls.specs.World.{process_entry}
 
 -- ---- objects
 
 -- the root job without handles
 abbrev pub root_job : Object
-root_job = new_object 1 body.RootJob 0
+root_job = new_object body.RootJob 0
 
 -- the root job alone
 abbrev pub root_alone : Registry
-root_alone = record { objects = keyed root_job ∷ []; next_koid = 2 }
+root_alone = record { objects = (1, root_job) ∷ []; next_koid = 2 }
 
--- the object of a living process of the root job
-abbrev pub object_of : Process → Object
-object_of p = new_object p.pid (body.Process 1 true) 0
+-- a living process of the root job without handles
+abbrev pub living : Object
+living = new_object (body.Process 1 true) 0
+
+-- the object of a process, under its pid
+abbrev pub object_of : Process → ℕ × Object
+object_of p = (p.pid, living)
 
 -- ---- processes
 
@@ -38,7 +42,7 @@ pub record IsFresh (p : Process) : Type 0 where
 -- the processes are fresh, and beside the root job just they are the objects
 pub record IsMaking (processes : List Process) (r : Registry) : Type 0 where
   pub fresh : All IsFresh processes
-  pub objects : r.objects ≡ keyed root_job ∷ map (λ p. keyed (object_of p)) processes
+  pub objects : r.objects ≡ (1, root_job) ∷ map object_of processes
   pub processes_in_order : IsTrue (is_sorted nat_cmp (map process_entry processes))
   pub objects_in_order : IsTrue (is_sorted nat_cmp r.objects)
   pub given_processes : (k : ℕ) → IsTrue (has_key (map process_entry processes) k) → k < r.next_koid

@@ -17,10 +17,6 @@ pub record Registry : Type 0 where
 pub record AreBelow (objects : Map Object) (next_koid : ℕ) : Type 0 where
   pub below : (k : ℕ) → IsTrue (has_key objects k) → k < next_koid
 
--- an object under its koid
-abbrev pub keyed : Object → ℕ × Object
-keyed o = (o.koid, o)
-
 -- ---- counts of handles
 
 -- one handle more may name the object
@@ -95,13 +91,13 @@ is_kept objects k o = nat_lt 0 o.handles || stays_alone objects k o.body
 -- ---- changes
 
 -- an object with no signals raised, which so many handles name
-abbrev pub new_object : ℕ → Body → ℕ → Object
-new_object koid body handles = record { koid = koid; body = body; raised = record { 0 = 0 }; handles = handles }
+abbrev pub new_object : Body → ℕ → Object
+new_object body handles = record { body = body; raised = record { 0 = 0 }; handles = handles }
 
 -- the objects with a new one, which gets the next koid
 abbrev pub with_new : Registry → Body → ℕ → Registry
 with_new r body handles = record {
-  objects = r.objects ++ (r.next_koid, new_object r.next_koid body handles) ∷ [];
+  objects = r.objects ++ (r.next_koid, new_object body handles) ∷ [];
   next_koid = r.next_koid + 1;
 }
 

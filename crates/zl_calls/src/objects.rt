@@ -20,7 +20,6 @@ pub enum Body {
 /// An object, with the signals that calls set and clear and the number of its handles.
 #[derive(Clone, Copy)]
 pub struct Object {
-    pub koid: Koid,
     pub body: Body,
     pub raised: Signals,
     pub handles: u64,
@@ -159,7 +158,6 @@ impl Objects {
         self.by_koid.insert(
             koid,
             Object {
-                koid,
                 body,
                 raised: Signals::empty(),
                 handles,

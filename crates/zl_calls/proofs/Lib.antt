@@ -4,6 +4,7 @@ pub mod Places
 pub mod Quiet
 pub mod Refused
 pub mod Positions
+pub mod Searching
 pub mod Answered
 pub mod ByKoid
 pub mod Counting

@@ -1,7 +1,9 @@
 //! Which process stands where, what stands next for it, and what it then does.
 
-ghost use Rattle.std.specs.Prelude.{◌≡◌, ◌==◌, ◌<◌, ◌^◌, Some, None, map, MatchOption, IsSome, IfSome, IfNone, OnSome, is_some};
+ghost use Rattle.std.specs.Prelude.{◌≡◌, ◌==◌, ◌<◌, ◌^◌, Some, None, map, MatchOption, IsTrue, IsSome, IfSome, IfNone, OnSome, is_some};
 ghost use Rattle.std.specs.List.{position};
+ghost use Rattle.std.specs.Ordering.{nat_cmp};
+ghost use Rattle.std.specs.FinMap.Entries.{is_sorted};
 ghost use Rattle.std.specs.Option.{option_map};
 ghost use Rattle.zl_rights.specs.Map.{get};
 ghost use Rattle.zl_rights.specs.World.{Cpu as CpuValue};
@@ -20,19 +22,15 @@ use std::alloc::Global;
 use zl_code::{CallInstr, CallName, LocalInstr, Outcome};
 use zl_rights::{HValue, Pid, Status};
 
-/// Where the process stands in the list.
+/// Where the process stands in a list in rising order of pids.
 pub fn place_of(processes: &[Process], pid: Pid) -> Option<usize>
+    requires in_order { IsTrue (is_sorted nat_cmp (map process_entry processes.now)) }
     ensures found { MatchOption result (get (map process_entry processes.now) pid ≡ None) (IsPlaceOf processes.now pid) }
     ensures first { result ≡ position (λ process. process.pid == pid) processes.now }
 {
-    first_with(processes, pid)
-}
-
-/// The first place with the pid.
-fn first_with(processes: &[Process], pid: Pid) -> Option<usize>
-    ensures { result ≡ position (λ process. process.pid == pid) processes.now }
-{
-    processes.iter().position(|process| process.pid == pid)
+    processes
+        .binary_search_by_key(&pid, |process| process.pid)
+        .ok()
 }
 
 /// The call that stands next, if one does.

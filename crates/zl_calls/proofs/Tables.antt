@@ -3,6 +3,8 @@ use Rattle.std.proofs.Common.{false, ◌^◌, bit_and, ◌≡◌, ◌<◌, ◌�
 use Rattle.std.proofs.lemmas.Bool.{cases_Bool, eqb-true}
 use Rattle.std.proofs.lemmas.Nat.{and_le_l}
 use Rattle.zl_rights.specs.declared.entry.Entry.{Entry}
+use Rattle.zl_rights.specs.declared.kind.Kind.{Kind}
+use Rattle.zl_rights.specs.declared.kind.Kind.TheVariants as kind
 use Rattle.zl_rights.specs.declared.status.Status.{Status}
 use Rattle.zl_rights.specs.declared.status.Status.TheVariants as status
 use Rattle.zl_rights.specs.Map.{Map, get, without}
@@ -10,7 +12,7 @@ use Rattle.zl_rights.specs.Numbers.{within}
 use Rattle.zl_rights.specs.LookUp.{looked_up}
 use Rattle.zl_table.specs.Table.{Handles, Drains}
 use Rattle.zl_calls.specs.Registry.{Registry, Closes, none_left, one_more, released}
-use Rattle.zl_calls.specs.Parts.{without_handle}
+use Rattle.zl_calls.specs.Parts.{without_handle, settable_at}
 
 length-without : {X : Type 0} (m : Map X) (k : ℕ) → length (without m k) ≤ length m
 unfolding without
@@ -54,9 +56,13 @@ all_closed t r none = rw none (none_left r)
 
 -- ---- sets of bits
 
+settable_small : (k : Kind) → settable_at k < 2 ^ 32
+settable_small kind.Event = omega arith
+settable_small _ = omega arith
+
 -- a number that is too large has a bit outside the set
-pub too_large : (bits settable : ℕ) → settable < 2 ^ 32 → (bits < 2 ^ 32 → ⊥) → within bits settable ≡ false
-too_large bits settable small large = elim (cases_Bool (within bits settable)) as (λ _. within bits settable ≡ false) [
-  | inl inside ↦ absurd (large (omega (arith, eqb-true (bit_and settable bits) bits inside, and_le_l settable bits, small)))
+pub too_large : (bits : ℕ) (k : Kind) → (bits < 2 ^ 32 → ⊥) → within bits (settable_at k) ≡ false
+too_large bits k large = elim (cases_Bool (within bits (settable_at k))) as (λ _. within bits (settable_at k) ≡ false) [
+  | inl inside ↦ absurd (large (omega (arith, eqb-true (bit_and (settable_at k) bits) bits inside, and_le_l (settable_at k) bits, settable_small k)))
   | inr outside ↦ outside
 ]

@@ -1,5 +1,5 @@
 -- What calls do to the table of their caller and to the objects.
-use Rattle.std.specs.Prelude.{ℕ, ◌≡◌, ◌<◌, IsTrue, ◌+◌, ◌^◌, Bool, ◌&&◌, ◌||◌, not, nat_le, List, [], ◌∷◌, length, Option, Some, None, Result, Ok, Err, ℤ, ⊤, ◌==◌, if◌then◌else◌}
+use Rattle.std.specs.Prelude.{ℕ, ◌≡◌, ◌<◌, IsTrue, ◌+◌, ◌^◌, Bool, ◌&&◌, ◌||◌, not, nat_le, bit_or, List, [], ◌∷◌, length, Option, Some, None, Result, Ok, Err, ℤ, ⊤, ◌==◌, if◌then◌else◌}
 use Rattle.std.specs.Bool.{then_some}
 use Rattle.std.specs.Option.{option_or}
 use Rattle.zl_rights.specs.declared.kind.Kind.{Kind}
@@ -8,7 +8,7 @@ use Rattle.zl_rights.specs.declared.status.Status.{Status}
 use Rattle.zl_rights.specs.declared.status.Status.TheVariants as status
 use Rattle.zl_rights.specs.declared.entry.Entry.{Entry}
 use Rattle.zl_rights.specs.declared.rights.Rights.{Rights}
-use Rattle.zl_rights.specs.Numbers.{bits, within, narrowed, DUPLICATE, SIGNAL, USER_SIGNALS, status_magnitude}
+use Rattle.zl_rights.specs.Numbers.{bits, within, narrowed, DUPLICATE, SIGNAL, SIGNALED, USER_SIGNALS, status_magnitude}
 use Rattle.zl_rights.specs.Map.{Map, get, has_key, without}
 use Rattle.zl_rights.specs.Signals.{is_empty}
 use Rattle.zl_rights.specs.World.{answered}
@@ -129,7 +129,7 @@ pub record CreatesEvent (t : Handles) (r : Registry) (made : ℕ) (t2 : Handles)
 
 -- the signals that calls may set and clear at an object of the kind
 abbrev pub settable_at : Kind → ℕ
-settable_at kind.Event = 0xff00_0008
+settable_at kind.Event = bit_or SIGNALED USER_SIGNALS
 settable_at _ = USER_SIGNALS
 
 -- both masks keep to the signals that calls may change

@@ -228,10 +228,9 @@ fn signal_value(
     ensures same_objects { OnErr result (objects.new ≡ objects.old) }
 {
     let entry = look_up(table, value, Rights::SIGNAL)?;
-    let settable = settable(entry.kind);
     let (Some(clear), Some(set)) = (
-        signals_within(clear, settable),
-        signals_within(set, settable),
+        signals_within(clear, entry.kind),
+        signals_within(set, entry.kind),
     ) else {
         return Err(Status::InvalidArgs);
     };
@@ -267,33 +266,36 @@ pub fn end(alloc: Global, process: &mut Process, objects: &mut Objects, code: i3
     }
 }
 
-/// The signals that calls may set and clear at an object of this kind.
-fn settable(kind: Kind) -> u32
-    ensures { result ≡ settable_at kind }
+/// The signals with these bits, if calls may set and clear each of them at an object of this kind.
+fn signals_within(bits: u64, kind: Kind) -> Option<Signals>
+    ensures { result ≡ (if within bits (settable_at kind) then Some (record { 0 = bits }) else None) }
 {
-    match kind {
-        Kind::Event => 0xff00_0008,
-        _ => 0xff00_0000,
-    }
-}
-
-/// The signals with these bits, if each of them may be changed.
-fn signals_within(bits: u64, settable: u32) -> Option<Signals>
-    ensures { result ≡ (if within bits settable then Some (record { 0 = bits }) else None) }
-{
-    match u32::try_from(bits) {
-        Ok(bits) => signals_if(bits, settable),
-        Err(_) => None,
-    }
-}
-
-fn signals_if(bits: u32, settable: u32) -> Option<Signals>
-    ensures { result ≡ (if within bits settable then Some (record { 0 = bits }) else None) }
-{
-    if settable & bits == bits {
-        Some(Signals::from_bits_retain(bits))
+    let Ok(bits) = u32::try_from(bits) else {
+        return None;
+    };
+    let signals = Signals::from_bits_retain(bits);
+    if settable(kind).contains(signals) {
+        Some(signals)
     } else {
         None
+    }
+}
+
+/// The signals that calls may set and clear at an object of this kind.
+fn settable(kind: Kind) -> Signals
+    ensures { result.0 ≡ settable_at kind }
+{
+    let user = Signals::USER_0
+        .union(Signals::USER_1)
+        .union(Signals::USER_2)
+        .union(Signals::USER_3)
+        .union(Signals::USER_4)
+        .union(Signals::USER_5)
+        .union(Signals::USER_6)
+        .union(Signals::USER_7);
+    match kind {
+        Kind::Event => Signals::SIGNALED.union(user),
+        _ => user,
     }
 }
 

@@ -83,6 +83,11 @@ fn assemble<R: AllocGlobal + Files + Print>(
     text: &str,
     image: &str,
 ) -> Result<Verdict, EngineFault> {
+    // Where standard streams are closed these get their numbers, so that the image doesn't: the line
+    // of a refusal would go into it.
+    let _input = fs::open(rt, "/dev/null");
+    let _output = fs::open(rt, "/dev/null");
+    let _errors = fs::open(rt, "/dev/null");
     let Ok(mut image) = fs::create(rt, image) else {
         return Err(EngineFault::Write);
     };

@@ -1,5 +1,5 @@
 -- From what the parts of the engine do to the answer to a text.
-use Rattle.std.proofs.Common.{◌≡◌, ℕ, List, ◌++◌, length, Option, Result, Ok, Err, sym, ap, ◌∙◌, subst, arith}
+use Rattle.std.proofs.Common.{◌≡◌, ℕ, List, [], ◌++◌, length, Option, Some, None, Result, Ok, Err, refl, sym, ap, ◌∙◌, subst, arith}
 use Rattle.std.specs.Prelude.{IfOk, OnOk, OnErr}
 use Rattle.std.specs.Io.KnownBytes.{Appends}
 use Rattle.zl_code.specs.declared.history.TraceItem.{TraceItem}
@@ -10,7 +10,8 @@ use Rattle.zlab.specs.declared.fault.Verdict.TheVariants as verdict
 use Rattle.zlab.specs.declared.input.Input.{Input}
 use Rattle.zlab.specs.declared.input.Input.TheVariants as input
 use Rattle.zlab.specs.declared.system.End.{End}
-use Rattle.zlab.specs.Engine.{said_in, states_of, IsRunOf, IsFirstFault, too_long, IsAnswer, trace, refusal, Answers, BeginsAnswer, nothing, beginning, AnswersReader, BeginsReader, IsStart, IsRun, WritesRun, BeginsRun, no_line, some_lines}
+use Rattle.zlab.specs.Assembling.{BeginsAssembly, nothing_written}
+use Rattle.zlab.specs.Engine.{said_in, states_of, IsRunOf, IsFirstFault, too_long, IsAnswer, trace, refusal, Answers, BeginsAnswer, nothing, beginning, IsTextOf, AnswersReader, BeginsReader, IsStart, IsRun, WritesRun, BeginsRun, no_line, some_lines}
 use Rattle.zlab.specs.Follows.{turns_of, EndsBy}
 use Rattle.zlab.specs.Input.{IsInputOf}
 use Rattle.zlab.specs.Output.{AppendsBeginning}
@@ -94,3 +95,21 @@ module _ (told : Option (List ℕ)) (read : Input) (is : IsInputOf told read) wh
     is_text = record { those_told = is.those_told };
     begins = refusal_begins is.bytes TOO_LONG (too_long (rw long at is.holds)) old new begun;
   }
+
+-- the text that a reader had, or any where it tells none
+abbrev text_of : Option (List ℕ) → List ℕ
+text_of None = []
+text_of (Some left) = left
+
+-- it is such a text
+is_text_of : (told : Option (List ℕ)) → IsTextOf told (text_of told)
+is_text_of None = record { those_told = tt }
+is_text_of (Some left) = record { those_told = refl }
+
+-- where nothing is written, it is a beginning of an answer
+pub reader_unanswered : (told old : Option (List ℕ)) → BeginsReader told old old
+reader_unanswered told old = record { text = text_of told; is_text = is_text_of told; begins = nothing }
+
+-- the same with two writers
+pub text_unanswered : (told old_image old_line : Option (List ℕ)) → BeginsAssembly told old_image old_image old_line old_line
+text_unanswered told old_image old_line = record { text = text_of told; is_text = is_text_of told; begins = nothing_written }

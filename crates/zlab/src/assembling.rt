@@ -1,5 +1,5 @@
 //! The engine of the assembler: a text is read, and its image written, or the line of its fault.
-ghost use Rattle.std.specs.Prelude.{◌≡◌, ◌≢◌, ◌⊎◌, ◌+◌, ◌≤◌, length, IfOk, IfErr, OnOk, OnErr};
+ghost use Rattle.std.specs.Prelude.{◌≡◌, ◌≢◌, ◌+◌, ◌≤◌, length, IfOk, IfErr, OnOk, OnErr};
 ghost use Rattle.std.specs.Io.KnownBytes.{Appends};
 ghost use Rattle.zl_asm.specs.Causes.{cause_name};
 ghost use Rattle.zlab.specs.Input.{TakesAtMost};
@@ -43,8 +43,7 @@ pub fn asm_engine<R: Read, I: Write, L: Write>(
     line: &mut L,
 ) -> Result<Verdict, EngineFault>
     ensures ok { IfOk result (λ verdict. AssemblesReader (R.remaining text.old) verdict (I.contents image.old) (I.contents image.new) (L.contents line.old) (L.contents line.new)) }
-    ensures err { OnErr result (((I.contents image.new ≡ I.contents image.old) × (L.contents line.new ≡ L.contents line.old))
-        ⊎ BeginsAssembly (R.remaining text.old) (I.contents image.old) (I.contents image.new) (L.contents line.old) (L.contents line.new)) }
+    ensures err { OnErr result (BeginsAssembly (R.remaining text.old) (I.contents image.old) (I.contents image.new) (L.contents line.old) (L.contents line.new)) }
     ensures read { IfErr result (λ fault. fault ≡ EngineFault.Read → (I.contents image.new ≡ I.contents image.old) × (L.contents line.new ≡ L.contents line.old)) }
     ensures taken { TakesAtMost (R.remaining text.old) (R.remaining text.new) (MOST_INPUT + 1) }
 {

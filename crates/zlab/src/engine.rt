@@ -1,5 +1,5 @@
 //! The engine: an input is read, and its answer written.
-ghost use Rattle.std.specs.Prelude.{◌≡◌, ◌≢◌, ◌⊎◌, ◌++◌, ◌+◌, ◌≤◌, length, slice_index_or, Some, IfOk, IfErr, OnOk, OnErr, string_bytes};
+ghost use Rattle.std.specs.Prelude.{◌≡◌, ◌≢◌, ◌++◌, ◌+◌, ◌≤◌, length, slice_index_or, Some, IfOk, IfErr, OnOk, OnErr, string_bytes};
 ghost use Rattle.std.specs.List.{flat_map};
 ghost use Rattle.std.specs.Io.KnownBytes.{Appends};
 ghost use Rattle.zlab.specs.Engine.{AnswersReader, BeginsReader, Answers, BeginsAnswer, Starts, WritesRun, BeginsRun, states_of, line_cause};
@@ -34,7 +34,7 @@ pub fn step_engine<R: Read, W: Write>(
     writer: &mut W,
 ) -> Result<Verdict, EngineFault>
     ensures ok { IfOk result (λ verdict. AnswersReader (R.remaining reader.old) verdict (W.contents writer.old) (W.contents writer.new)) }
-    ensures err { OnErr result ((W.contents writer.new ≡ W.contents writer.old) ⊎ BeginsReader (R.remaining reader.old) (W.contents writer.old) (W.contents writer.new)) }
+    ensures err { OnErr result (BeginsReader (R.remaining reader.old) (W.contents writer.old) (W.contents writer.new)) }
     ensures read { IfErr result (λ fault. fault ≡ EngineFault.Read → W.contents writer.new ≡ W.contents writer.old) }
     ensures taken { TakesAtMost (R.remaining reader.old) (R.remaining reader.new) (MOST_INPUT + 1) }
 {

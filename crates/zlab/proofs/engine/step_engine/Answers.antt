@@ -1,6 +1,9 @@
-use Rattle.std.proofs.Common.{inr}
-use Rattle.zlab.proofs.Answering.{both_ok, mapped_err, long_answers, long_begins}
+use Rattle.zlab.proofs.Answering.{both_ok, mapped_err, long_answers, long_begins, reader_unanswered}
+use Rattle.zlab.proofs.KnownOutput.{on_err}
 use Rattle.zlab.proofs.engine.step_engine.Goals as goal
+
+pub returns-in_err-text-clause-err : goal.returns-in_err-text-clause-err
+returns-in_err-text-clause-err g c = on_err c.from_residual.result (reader_unanswered _ _)
 
 pub returns-in-TooLong-clause-ok : goal.returns-in-TooLong-clause-ok
 returns-in-TooLong-clause-ok g c =
@@ -8,4 +11,4 @@ returns-in-TooLong-clause-ok g c =
 
 pub returns-in-TooLong-clause-err : goal.returns-in-TooLong-clause-err
 returns-in-TooLong-clause-err g c =
-    mapped_err c.write_refusal.result _ _ (λ begun. inr (long_begins _ c.in_ok-text.field-0 (c.in_ok-text.ensures).ok _ _ c.in-TooLong.is begun)) c.write_refusal.ensures.err
+    mapped_err c.write_refusal.result _ _ (long_begins _ c.in_ok-text.field-0 (c.in_ok-text.ensures).ok _ _ c.in-TooLong.is) c.write_refusal.ensures.err

@@ -56,7 +56,7 @@ fn close_value(table: &mut Table, objects: &mut Objects, value: u64) -> Status
     }
 }
 
-/// What it is answered to close a value that isn't live.
+/// The answer to closing a value that isn't live.
 fn unless_zero(value: u64) -> Status
     ensures { result ≡ answer_of (then_some (not (value == 0)) Status.BadHandle) }
 {

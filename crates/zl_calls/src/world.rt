@@ -64,7 +64,7 @@ impl World {
     /// The fault names the first statement that can't be done: `Unknown` where it names no job or no
     /// program, `Limit` for the 65th process or where no koid up to 1,024 is left. A limit of the
     /// trace above `Boot::MOST_ITEMS` is `Limit` of a statement one past the last. `NoMemory` may
-    /// come at any statement.
+    /// come at any statement, and for the root job, which is made before all, as of statement 0.
     pub fn boot(alloc: Global, library: Library, boot: &Boot) -> Result<World, BootFault>
         ensures ok { IfOk result (λ world. IsBoot library boot.now.statements.items world.world) }
         ensures programs { IfOk result (λ world. world.programs ≡ library) }
@@ -86,6 +86,7 @@ impl World {
     pub fn process_at(&self, n: usize) -> Option<Pid>
         ensures koid { result ≡ slice_get (map (λ p. p.0) self.now.world.processes) n }
         ensures in_order { IsTrue (is_sorted nat_cmp self.now.world.processes) }
+        // A loop that counts `n` up to the largest `usize` meets every process.
         ensures few { length self.now.world.processes < 2 ^ 64 }
     {
         Some(self.processes.get(n)?.pid)

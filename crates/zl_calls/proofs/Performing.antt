@@ -1,23 +1,20 @@
 -- A process of a lab takes one step: perform and local, from the list of processes to the relation of steps.
-use Rattle.std.proofs.Common.{◌≡◌, ◌<◌, length, ℕ, Bool, true, false, List, map, get_or, set, refl, sym, ap, ◌∙◌, subst, Some, None, IsTrue, ◌==◌}
+use Rattle.std.proofs.Common.{◌≡◌, ℕ, Bool, true, false, List, map, get_or, set, refl, sym, ap, Some, None, IsTrue, ◌==◌}
 use Rattle.std.specs.Prelude.{IsSome}
 use Rattle.std.specs.List.{position}
 use Rattle.std.proofs.lemmas.Bool.{false≢true}
-use Rattle.std.proofs.lemmas.Option.{same_Some, slice_get_read}
 use Rattle.zl_rights.specs.Numbers.{STUCK}
 use Rattle.zl_rights.specs.Map.{Map, get}
-use Rattle.zl_rights.specs.World.{Cpu, Process as ProcessValue, Ready}
+use Rattle.zl_rights.specs.World.{Process as ProcessValue, Ready}
 use Rattle.zl_rights.specs.Signals.{is_ready, is_process}
 use Rattle.zl_code.specs.declared.instr.CallInstr.{CallInstr}
 use Rattle.zl_code.specs.declared.instr.CallInstr.TheVariants as call
-use Rattle.zl_code.specs.declared.instr.LocalInstr.{LocalInstr}
 use Rattle.zl_code.specs.declared.history.Outcome.{Outcome}
 use Rattle.zl_code.specs.declared.history.TraceItem.TheVariants as item
 use Rattle.zl_code.specs.Effects.{on_process}
 use Rattle.zl_code.specs.Image.{Library}
-use Rattle.zl_code.specs.Local.{local_effect}
 use Rattle.zl_code.specs.Request.{site_of, name_of}
-use Rattle.zl_code.specs.Steps.{IsStuck, moves, calls_at, next_for}
+use Rattle.zl_code.specs.Steps.{IsStuck, Moves, calls_at, next_for}
 use Rattle.zl_calls.specs.declared.process.State.{State}
 use Rattle.zl_calls.specs.declared.process.State.TheVariants as state
 use Rattle.zl_calls.specs.declared.process.Process.{Process}
@@ -32,7 +29,6 @@ use Rattle.zl_calls.proofs.Done.{IsDone}
 use Rattle.zl_calls.proofs.Exit.{ends_keeps, stuck_steps}
 use Rattle.zl_calls.proofs.Labs.{all_held, started}
 use Rattle.zl_calls.proofs.Performed.{acted_done}
-use Rattle.zl_calls.proofs.Positions.{first_at}
 use Rattle.zl_calls.proofs.Quiet.{settles_itself, wakes_nothing}
 use Rattle.zl_calls.proofs.Written.{write_at, pid_read, refusal_keeps}
 
@@ -52,11 +48,10 @@ same_pid (call.Signal a h clear set) p r o p2 r2 acts = ap (λ (q : Process). q.
 same_pid (call.ProcessExit a) p r o p2 r2 acts = ap (λ (q : Process). q.pid) acts.over.process
 same_pid _ p r o p2 r2 acts = absurd acts
 
--- two reads of one place
-pub same_read : (ps : List Process) (pid place : ℕ) (p q : Process) → Some place ≡ position (λ x. x.pid == pid) ps → p ≡ get_or ps place p → q ≡ get_or ps place q → p ≡ q
-same_read ps pid place p q found first second =
-    let within : place < length ps = (first_at (λ (x : Process). x.pid) process_value ps pid place p (sym found)).within in
-    same_Some p q (sym (slice_get_read ps (length ps) place p refl within first) ∙ slice_get_read ps (length ps) place q refl within second)
+-- a lab after a step: its invariant, and what was done
+pub record IsStepped (ps : List Process) (r : Registry) (A : Type 0) : Type 0 where
+  pub lab : IsLab ps r
+  pub done : A
 
 -- the process p stands at the place, under the pid
 module _ (lib : Library) (ps : List Process) (r : Registry) (lab : IsLab ps r) (pid place : ℕ) (p : Process)
@@ -85,17 +80,17 @@ module _ (lib : Library) (ps : List Process) (r : Registry) (lab : IsLab ps r) (
     done : IsDone lib ps (set ps place p2) r r2 p.pid (name_of i) o
     done = acted_done lib ps (set ps place p2) r r2 p p2 lab (write_of p2 (same_pid i p r o p2 r2 acts)) ready i o next acts
 
-    pub perform_keeps : IsLab (set ps place p2) r2
-    perform_keeps = done.lab
+    pub call_is : call_for (lab_value lib ps r) pid ≡ Some (name_of i)
+    call_is = rw (there, ready) (sym named)
 
-    pub is_called : call_for (lab_value lib ps r) pid ≡ Some (name_of i)
-    is_called = rw (there, ready) (sym named)
-
-    pub performed : Performs (lab_value lib ps r) pid o (lab_value lib (set ps place p2) r2)
-    performed = record {
-      call = name_of i;
-      at_call = is_called;
-      steps = record { programs = refl; step = rw (← key) done.step };
+    pub performs : IsStepped (set ps place p2) r2 (Performs (lab_value lib ps r) pid o (lab_value lib (set ps place p2) r2))
+    performs = record {
+      lab = done.lab;
+      done = record {
+        call = name_of i;
+        at_call = call_is;
+        steps = record { programs = refl; step = rw (← key) done.step };
+      };
     }
 
   -- ---- local
@@ -105,15 +100,15 @@ module _ (lib : Library) (ps : List Process) (r : Registry) (lab : IsLab ps r) (
     unfolding is_process
     is_ready_there = ready_state p.state (rw there at ready_in)
 
-    -- one local instruction
-    module _ (i : LocalInstr) (c : Cpu) (next : next_for lib (process_value p) ≡ moves (local_effect i p.cpu)) (effect : local_effect i p.cpu ≡ Some c) where
-      abbrev moved : Process
-      moved = record p { cpu = c }
+    -- one local instruction, which changes the Cpu alone
+    module _ (p2 : Process) (next : next_for lib (process_value p) ≡ Moves p2.cpu) (cpu : p2 ≡ record p { cpu = p2.cpu }) where
+      moved : IsWrite ps (set ps place p2) p p2
+      moved = write_of p2 (ap (λ (q : Process). q.pid) cpu)
 
-      pub moved_keeps : IsLab (set ps place moved) r
-      moved_keeps = refusal_keeps ps (set ps place moved) p moved r (write_of moved refl) lab refl refl
+      moved_keeps : IsLab (set ps place p2) r
+      moved_keeps = refusal_keeps ps (set ps place p2) p p2 r moved lab (ap (λ (q : Process). q.table) cpu) (ap (λ (q : Process). q.state) cpu)
 
-      pub moved_steps : StepsTo (lab_value lib ps r) (item.Run pid 1) (lab_value lib (set ps place moved) r)
+      moved_steps : StepsTo (lab_value lib ps r) (item.Run pid 1) (lab_value lib (set ps place p2) r)
       unfolding on_process
       moved_steps = record {
         programs = refl;
@@ -121,80 +116,31 @@ module _ (lib : Library) (ps : List Process) (r : Registry) (lab : IsLab ps r) (
           process = process_value p;
           is_there = there;
           is_ready = is_ready_there;
-          acted = world_value (set ps place moved) r;
-          acts = rw (next, effect) (refl, ap (λ (m : Map ProcessValue). record (world_value ps r) { processes = m }) (rw (← key) ((write_of moved refl).writes (λ q. record q { cpu = c }) refl)));
-          settled = world_value (set ps place moved) r;
-          settles = settles_itself (map process_entry (set ps place moved)) (map object_entry r.objects) r.next_koid (started (set ps place moved)) (all_held (set ps place moved) r moved_keeps);
-          ends_awake = sym (wakes_nothing (map process_entry (set ps place moved)) (map object_entry r.objects) r.next_koid);
+          acted = world_value (set ps place p2) r;
+          acts = rw next (refl, ap (λ (m : Map ProcessValue). record (world_value ps r) { processes = m }) (rw (← key) (moved.writes (λ q. record q { cpu = p2.cpu }) (ap process_value cpu))));
+          settled = world_value (set ps place p2) r;
+          settles = settles_itself (map process_entry (set ps place p2)) (map object_entry r.objects) r.next_koid (started (set ps place p2)) (all_held (set ps place p2) r moved_keeps);
+          ends_awake = sym (wakes_nothing (map process_entry (set ps place p2)) (map object_entry r.objects) r.next_koid);
         };
       }
 
+      pub moves_on : IsStepped (set ps place p2) r (StepsTo (lab_value lib ps r) (item.Run pid 1) (lab_value lib (set ps place p2) r))
+      moves_on = record { lab = moved_keeps; done = moved_steps }
+
     -- the end of a stuck process
-    module _ (p2 : Process) (r2 : Registry) (next : next_for lib (process_value p) ≡ IsStuck) (ends : Ends STUCK p r p2 r2) where
-      write : IsWrite ps (set ps place p2) p p2
-      write = write_of p2 (ap (λ (q : Process). q.pid) ends.process)
+    module _ (no_call : call_for (lab_value lib ps r) pid ≡ None) (missing : call_in (next_for lib (process_value p)) ≡ None → next_for lib (process_value p) ≡ IsStuck)
+        (p2 : Process) (r2 : Registry) (ends : Ends STUCK p r p2 r2) where
+      ended : IsWrite ps (set ps place p2) p p2
+      ended = write_of p2 (ap (λ (q : Process). q.pid) ends.process)
 
-      pub stuck_keeps : IsLab (set ps place p2) r2
-      stuck_keeps = ends_keeps lib ps (set ps place p2) r r2 p p2 lab write STUCK ends is_ready_there
+      stuck_next : next_for lib (process_value p) ≡ IsStuck
+      stuck_next = missing (rw (there, is_ready_there) at no_call)
 
-      pub stuck_done : StepsTo (lab_value lib ps r) (item.Stuck pid) (lab_value lib (set ps place p2) r2)
-      stuck_done = record {
-        programs = refl;
-        step = rw (← key) (stuck_steps lib ps (set ps place p2) r r2 p p2 lab write STUCK ends is_ready_there refl next);
+      pub is_stuck : IsStepped (set ps place p2) r2 (StepsTo (lab_value lib ps r) (item.Stuck pid) (lab_value lib (set ps place p2) r2))
+      is_stuck = record {
+        lab = ends_keeps lib ps (set ps place p2) r r2 p p2 lab ended STUCK ends is_ready_there;
+        done = record {
+          programs = refl;
+          step = rw (← key) (stuck_steps lib ps (set ps place p2) r r2 p p2 lab ended STUCK ends is_ready_there refl stuck_next);
+        };
       }
-
--- ---- with the two reads of a process that the code makes
-
--- a lab after a step: its invariant, and what was done
-pub record IsStepped (ps : List Process) (r : Registry) (A : Type 0) : Type 0 where
-  pub lab : IsLab ps r
-  pub done : A
-
-module _ (lib : Library) (ps : List Process) (r : Registry) (lab : IsLab ps r) (pid place : ℕ) (q p : Process)
-    (found : Some place ≡ position (λ x. x.pid == pid) ps) (first : q ≡ get_or ps place q) (read : p ≡ get_or ps place p) where
-  same : q ≡ p
-  same = same_read ps pid place q p found first read
-
-  pub performs : (i : CallInstr) (o : Outcome) (p2 : Process) (r2 : Registry) → Some (name_of i) ≡ call_in (next_for lib (process_value q)) → next_for lib (process_value q) ≡ calls_at (name_of i) (site_of i q.cpu)
-      → IsSome (call_for (lab_value lib ps r) pid) → Acted i p r o p2 r2 → IsStepped (set ps place p2) r2 (Performs (lab_value lib ps r) pid o (lab_value lib (set ps place p2) r2))
-  performs i o p2 r2 named next called acts =
-      let named_p : Some (name_of i) ≡ call_in (next_for lib (process_value p)) = subst (λ (x : Process). Some (name_of i) ≡ call_in (next_for lib (process_value x))) same named in
-      let next_p : next_for lib (process_value p) ≡ calls_at (name_of i) (site_of i p.cpu) = subst (λ (x : Process). next_for lib (process_value x) ≡ calls_at (name_of i) (site_of i x.cpu)) same next in
-      record {
-        lab = perform_keeps lib ps r lab pid place p found read i o p2 r2 named_p next_p called acts;
-        done = performed lib ps r lab pid place p found read i o p2 r2 named_p next_p called acts;
-      }
-
-  pub call_is : (i : CallInstr) (o : Outcome) (p2 : Process) (r2 : Registry) → Some (name_of i) ≡ call_in (next_for lib (process_value q)) → next_for lib (process_value q) ≡ calls_at (name_of i) (site_of i q.cpu)
-      → IsSome (call_for (lab_value lib ps r) pid) → Acted i p r o p2 r2 → call_for (lab_value lib ps r) pid ≡ Some (name_of i)
-  call_is i o p2 r2 named next called acts = is_called lib ps r lab pid place p found read i o p2 r2
-      (subst (λ (x : Process). Some (name_of i) ≡ call_in (next_for lib (process_value x))) same named)
-      (subst (λ (x : Process). next_for lib (process_value x) ≡ calls_at (name_of i) (site_of i x.cpu)) same next) called acts
-
-  pub moves_on : IsTrue (is_ready_in (lab_value lib ps r) pid) → (i : LocalInstr) (c : Cpu) → next_for lib (process_value q) ≡ moves (local_effect i q.cpu) → local_effect i p.cpu ≡ Some c
-      → IsStepped (set ps place (record p { cpu = c })) r (StepsTo (lab_value lib ps r) (item.Run pid 1) (lab_value lib (set ps place (record p { cpu = c })) r))
-  moves_on ready i c next effect =
-      let next_p : next_for lib (process_value p) ≡ moves (local_effect i p.cpu) = subst (λ (x : Process). next_for lib (process_value x) ≡ moves (local_effect i x.cpu)) same next in
-      record {
-        lab = moved_keeps lib ps r lab pid place p found read ready i c next_p effect;
-        done = moved_steps lib ps r lab pid place p found read ready i c next_p effect;
-      }
-
-  pub is_stuck : IsTrue (is_ready_in (lab_value lib ps r) pid) → call_for (lab_value lib ps r) pid ≡ None → (p2 : Process) (r2 : Registry)
-      → (call_in (next_for lib (process_value q)) ≡ None → next_for lib (process_value q) ≡ IsStuck) → Ends STUCK p r p2 r2
-      → IsStepped (set ps place p2) r2 (StepsTo (lab_value lib ps r) (item.Stuck pid) (lab_value lib (set ps place p2) r2))
-  is_stuck ready no_call p2 r2 missing ends =
-      let none_p : call_in (next_for lib (process_value p)) ≡ None = rw (there lib ps r lab pid place p found read, is_ready_there lib ps r lab pid place p found read ready) at no_call in
-      let next_p : next_for lib (process_value p) ≡ IsStuck = subst (λ (x : Process). call_in (next_for lib (process_value x)) ≡ None → next_for lib (process_value x) ≡ IsStuck) same missing none_p in
-      record {
-        lab = stuck_keeps lib ps r lab pid place p found read ready p2 r2 next_p ends;
-        done = stuck_done lib ps r lab pid place p found read ready p2 r2 next_p ends;
-      }
-
-  -- a local instruction that can't be done, which left the Cpu as it was
-  pub cannot : IsTrue (is_ready_in (lab_value lib ps r) pid) → call_for (lab_value lib ps r) pid ≡ None → (i : LocalInstr) (c : Cpu) (p2 : Process) (r2 : Registry)
-      → next_for lib (process_value q) ≡ moves (local_effect i q.cpu) → local_effect i p.cpu ≡ None → c ≡ p.cpu → Ends STUCK (record p { cpu = c }) r p2 r2
-      → IsStepped (set ps place p2) r2 (StepsTo (lab_value lib ps r) (item.Stuck pid) (lab_value lib (set ps place p2) r2))
-  cannot ready no_call i c p2 r2 next no_effect unchanged ends =
-      let none_q : local_effect i q.cpu ≡ None = subst (λ (x : Process). local_effect i x.cpu ≡ None) (sym same) no_effect in
-      is_stuck ready no_call p2 r2 (λ _. next ∙ ap moves none_q) (subst (λ (x : Cpu). Ends STUCK (record p { cpu = x }) r p2 r2) unchanged ends)

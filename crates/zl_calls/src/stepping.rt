@@ -9,7 +9,7 @@ ghost use Rattle.zl_rights.specs.Map.{get};
 ghost use Rattle.zl_rights.specs.World.{Cpu as CpuValue};
 ghost use Rattle.zl_code.specs.Local.{local_effect};
 ghost use Rattle.zl_code.specs.Request.{name_of, site_of};
-ghost use Rattle.zl_code.specs.Steps.{next_for, moves, calls_at, IsStuck};
+ghost use Rattle.zl_code.specs.Steps.{next_for, moves, calls_at, Moves, IsStuck};
 ghost use Rattle.zl_calls.specs.Acted.{Acted};
 ghost use Rattle.zl_calls.specs.Parts.{status_of};
 ghost use Rattle.zl_calls.specs.World.{process_entry, process_value, call_in, IsPlaceOf};
@@ -18,6 +18,7 @@ use crate::calls;
 use crate::objects::Objects;
 use crate::process::Process;
 use crate::program::Library;
+use crate::running::run;
 use std::alloc::Global;
 use zl_code::{CallInstr, CallName, LocalInstr, Outcome};
 use zl_rights::{HValue, Pid, Status};
@@ -45,8 +46,20 @@ pub fn next_call(library: &Library, process: &Process) -> Option<CallInstr>
     if is_built(&call) { Some(call) } else { None }
 }
 
+/// Does the local instruction that stands next. Where none does, or it can't be done, nothing
+/// changes.
+pub fn run_next(library: &Library, process: &mut Process) -> Option<()>
+    ensures runs { OnSome result (next_for library.now (process_value process.old) ≡ Moves process.new.cpu) }
+    ensures cpu { process.new ≡ record process.old { cpu = process.new.cpu } }
+    ensures stuck { IfNone result (call_in (next_for library.now (process_value process.old)) ≡ None → next_for library.now (process_value process.old) ≡ IsStuck) }
+    ensures unchanged { IfNone result (process.new ≡ process.old) }
+{
+    let local = next_local(library, process)?;
+    run(&mut process.cpu, local)
+}
+
 /// The local instruction that stands next, if one does.
-pub fn next_local(library: &Library, process: &Process) -> Option<LocalInstr>
+fn next_local(library: &Library, process: &Process) -> Option<LocalInstr>
     ensures found { IfSome result (λ local. next_for library.now (process_value process.now) ≡ moves (local_effect local process.now.cpu)) }
     ensures missing { IfNone result (call_in (next_for library.now (process_value process.now)) ≡ None → next_for library.now (process_value process.now) ≡ IsStuck) }
     ensures within { OnSome result (process.now.cpu.counter < 4096) }

@@ -12,8 +12,7 @@ use crate::calls::end;
 use crate::objects::Objects;
 use crate::process::Process;
 use crate::program::Library;
-use crate::running::run;
-use crate::stepping::{act, name_of, next_call, next_local, place_of};
+use crate::stepping::{act, name_of, next_call, place_of, run_next};
 use std::alloc::Global;
 use std::marker::Model;
 use zl_code::{Boot, BootFault, CallName, Outcome, ProcState};
@@ -129,10 +128,10 @@ impl World {
         let Some(place) = place_of(&self.processes, pid) else {
             unreachable!()
         };
-        let Some(call) = next_call(&self.library, &self.processes[place]) else {
+        let process = &mut self.processes[place];
+        let Some(call) = next_call(&self.library, process) else {
             unreachable!()
         };
-        let process = &mut self.processes[place];
         act(self.alloc, process, &mut self.objects, call)
     }
 
@@ -148,16 +147,9 @@ impl World {
         let Some(place) = place_of(&self.processes, pid) else {
             unreachable!()
         };
-        let next = next_local(&self.library, &self.processes[place]);
         let process = &mut self.processes[place];
-        match next {
-            Some(local) => match run(&mut process.cpu, local) {
-                Some(()) => Local::Ran,
-                None => {
-                    end(self.alloc, process, &mut self.objects, STUCK);
-                    Local::Stuck
-                }
-            },
+        match run_next(&self.library, process) {
+            Some(()) => Local::Ran,
             None => {
                 end(self.alloc, process, &mut self.objects, STUCK);
                 Local::Stuck

@@ -93,10 +93,8 @@ impl Made {
         word: u64,
     ) -> Result<(), BootCause>
         requires { IsMaking self.old.processes.items self.old.objects }
-        ensures ok { OnOk result (
-            Makes library.now (Statement.Process job program word) self.old self.new) }
-        ensures err { IfErr result (
-            IsCauseOf (boot_fault library.now (seen self.old) (Statement.Process job program word))) }
+        ensures ok { OnOk result (Makes library.now (Statement.Process job program word) self.old self.new) }
+        ensures err { IfErr result (IsCauseOf (boot_fault library.now (seen self.old) (Statement.Process job program word))) }
     {
         let Some(listed) = library.get(program as usize) else {
             return Err(BootCause::Unknown);

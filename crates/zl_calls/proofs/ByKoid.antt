@@ -1,5 +1,5 @@
 -- What std's map from koids holds after a read or a write, in the words of the definitions.
-use Rattle.std.proofs.Common.{◌≡◌, ◌<◌, ◌+◌, ℕ, true, false, ◌==◌, ◌||◌, [], ◌∷◌, ◌++◌, length, refl, sym, subst, ap, ◌∙◌, cond, Option, Some, None, inl, inr, arith, IsTrue, eq-eqb}
+use Rattle.std.proofs.Common.{◌≡◌, ◌<◌, ◌+◌, ℕ, true, false, ◌||◌, [], ◌∷◌, ◌++◌, length, refl, sym, ap, ◌∙◌, cond, Option, Some, None, inl, inr, arith, IsTrue}
 use Rattle.std.specs.Prelude.{is_some, IsSome, IfSome, IfNone, ◌↔◌}
 use Rattle.std.specs.List.{list_any}
 use Rattle.std.specs.Ordering.{nat_cmp}
@@ -8,7 +8,7 @@ use Rattle.std.specs.Map.{lookup, set_value, remove_entry, values_of}
 use Rattle.std.specs.BTreeMap.{BTreeMap, is_at, insert_entry, IsUnchanged, IsUpperBound, Updates}
 use Rattle.std.proofs.lemmas.Bool.{cases_Bool, false≢true}
 use Rattle.std.proofs.lemmas.Bool.Decides.{nat_tests}
-use Rattle.zl_rights.specs.Map.{Map, get, update, without, has_key}
+use Rattle.zl_rights.specs.Map.{Map, get, put, update, without, has_key}
 use Rattle.zl_table.proofs.MapEdits.{update_missing, put_key}
 use Rattle.zl_calls.specs.declared.objects.Object.{Object}
 use Rattle.zl_calls.specs.Registry.{AreBelow, lives_below, has_living_child}
@@ -22,7 +22,7 @@ module _ {X : Type 0} where
   looked_up (e ∷ es) k = grind (arith, nat_tests, looked_up es k, unsigned_tied k e.0)
 
   -- a new value at a key that is there
-  pub value_set : (es : Map X) (k : ℕ) (f : X → X) (v : X) → Some v ≡ lookup (is_at (nat_cmp k)) es → set_value (is_at (nat_cmp k)) es (f v) ≡ update es k f
+  value_set : (es : Map X) (k : ℕ) (f : X → X) (v : X) → Some v ≡ lookup (is_at (nat_cmp k)) es → set_value (is_at (nat_cmp k)) es (f v) ≡ update es k f
   unfolding update
   value_set [] k f v there = cc
   value_set (e ∷ es) k f v there = grind (arith, nat_tests, value_set es k f v, unsigned_tied k e.0)
@@ -47,17 +47,15 @@ module _ {X : Type 0} where
   entry_removed [] k gone = refl
   entry_removed (e ∷ es) k gone = grind (arith, nat_tests, entry_removed es k, unsigned_tied k e.0, looked_up es k, without_missing es k)
 
+  -- an insertion is the definitions' own put
+  inserted : (es : Map X) (k : ℕ) (v : X) → insert_entry nat_cmp es k v ≡ put es k v
+  unfolding put
+  inserted [] k v = refl
+  inserted (e ∷ es) k v = grind (arith, nat_tests, inserted es k v, unsigned_tied k e.0)
+
   -- a key above all others goes to the end
   pub entry_inserted : (es : Map X) (k : ℕ) (v : X) → ((j : ℕ) → IsTrue (has_key es j) → j < k) → insert_entry nat_cmp es k v ≡ es ++ (k, v) ∷ []
-  unfolding get
-  entry_inserted [] k v below = refl
-  entry_inserted (e ∷ es) k v below =
-      let first : e.0 < k = below e.0 (rw (eq-eqb e.0 e.0 refl) refl) in
-      let rest = entry_inserted es k v (λ j there. below j (later j there)) in
-      grind (arith, nat_tests)
-    where
-      later : (j : ℕ) → IsTrue (has_key es j) → IsTrue (has_key (e ∷ es) j)
-      later j there = elim (e.0 == j) as (λ b. IsTrue (is_some (cond b (Some e.1) (get es j)))) [ true ↦ refl | false ↦ there ]
+  entry_inserted es k v below = inserted es k v ∙ put_last es k v below
 
 -- ---- all koids lie below the next one
 
@@ -85,8 +83,8 @@ removed_below m n next k below removed = record { below = λ j there. below.belo
 
 -- a new object has the next koid
 pub inserted_below : (m n : Map Object) (next : ℕ) (o : Object) → AreBelow m next → n ≡ insert_entry nat_cmp m next o → AreBelow n (next + 1)
-inserted_below m n next o below inserted = record {
-  below = λ k there. elim (put_key m next o k (subst (λ (n : Map Object). IsTrue (has_key n k)) (inserted ∙ entry_inserted m next o below.below ∙ sym (put_last m next o below.below)) there)) as (λ _. k < next + 1) [
+inserted_below m n next o below into = record {
+  below = λ k there. elim (put_key m next o k (rw (into, inserted m next o) at there)) as (λ _. k < next + 1) [
     | inl same ↦ omega (arith, same)
     | inr old ↦ omega (arith, below.below k old)
   ];

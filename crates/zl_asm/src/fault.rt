@@ -7,8 +7,8 @@ use std::alloc::{AllocError, AllocFailed};
 /// Why a text denotes no image, or want of memory. Own profile.
 #[derive(Clone, Copy, PartialEq, Eq, Debug)]
 pub enum AsmCause {
-    /// What stands there is no word of the grammar, as a tab, a byte outside ASCII, or a missing
-    /// comma.
+    /// A word that the grammar doesn't have, as one with a tab, a sign or a byte outside ASCII; a
+    /// comma that is missing, or one too many; a label that isn't alone on its line.
     Token,
     /// An unknown word in the place of a directive, a mnemonic, a kind or a condition.
     UnknownName,
@@ -16,8 +16,9 @@ pub enum AsmCause {
     LabelTwice,
     /// A target that names no label.
     LabelMissing,
-    /// A wrong count, class or range of operands, a directive twice or behind an instruction, or
-    /// rights outside the default of the kind.
+    /// A wrong count, class or range of operands; rights outside the default of the kind; a
+    /// condition that no image can need; a directive twice, or behind a label or an instruction;
+    /// `.bytes` of a known opcode, or without `.raw`.
     Operand,
     /// A number outside a limit of the image, or one more instruction, start handle or slot array
     /// than an image has.

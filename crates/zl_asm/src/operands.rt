@@ -55,7 +55,7 @@ pub(crate) fn split_operands<'a>(
 pub(crate) fn number_operand(word: &[u8]) -> Result<u32, AsmCause>
     ensures { result_ok result ≡ number_of word.now }
 {
-    number(word).ok_or(misfit(word, AsmCause::Operand))
+    number(word).ok_or_else(|| misfit(word, AsmCause::Operand))
 }
 
 /// Puts the registers of the words into the first places.

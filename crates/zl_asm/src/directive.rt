@@ -1,5 +1,4 @@
 ghost use Rattle.std.specs.Prelude.{◌≡◌, [], ◌∷◌, map, Some};
-ghost use Rattle.std.specs.Option.{option_map};
 ghost use Rattle.std.specs.Result.{result_ok};
 ghost use Rattle.zl_code.specs.Image.{is_among, can_be_needed};
 ghost use Rattle.zl_asm.specs.Words.{number_of};

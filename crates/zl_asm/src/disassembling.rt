@@ -1,12 +1,11 @@
 //! The disassembler: an image to its text.
 
-ghost use Rattle.std.specs.Prelude.{◌≡◌, ◌≤◌, ◌<◌, ◌++◌, ◌∷◌, [], codes, map, filter, not, ◌==◌, length, take, IfOk, OnOk, IfSome, string_bytes, ℕ, ◌||◌, true, false, get_or, slice_index, IfNone, if◌then◌else◌};
+ghost use Rattle.std.specs.Prelude.{◌≡◌, ◌≤◌, ◌<◌, ◌++◌, ◌∷◌, [], codes, map, filter, not, ◌==◌, length, IfOk, OnOk, IfSome, string_bytes, ℕ, ◌||◌, true, false, get_or, slice_index, IfNone, if◌then◌else◌};
 ghost use Rattle.std.specs.List.{flat_map};
-ghost use Rattle.zl_code.specs.Image.{is_among};
 ghost use Rattle.zl_code.specs.Instructions.{row_of};
 ghost use Rattle.zl_code.specs.Spells.{instr_bytes, reading_of};
 ghost use Rattle.zl_asm.specs.Denotes.{Denotes};
-ghost use Rattle.zl_asm.specs.Canonical.{kind_text, label_text, joined, register_text, target_text, tail_texts, instr_text, hex_text, hex_digit, aims, aims_at, code_lines, text_of};
+ghost use Rattle.zl_asm.specs.Canonical.{kind_text, joined, register_text, target_text, tail_texts, instr_text, hex_text, hex_digit, aims, aims_at, code_lines, text_of};
 ghost use Rattle.zl_asm.specs.Pieces.{ended, fields_text, need_if_among, needs_text, start_text, slots_text, directives_text, behind, laid_out, line_text, TargetsAre};
 
 use bitflags::Flags;

@@ -1,6 +1,5 @@
 ghost use Rattle.std.specs.Prelude.{◌≡◌, [], ◌∷◌, map, Some};
 ghost use Rattle.std.specs.Result.{result_ok};
-ghost use Rattle.zl_code.specs.Image.{is_among, can_be_needed};
 ghost use Rattle.zl_asm.specs.Words.{number_of};
 ghost use Rattle.zl_asm.specs.Lines.{number_within, need_of, kind_of, start_with, slots_with, directive_of};
 
@@ -104,19 +103,9 @@ fn need_of(word: &[u8]) -> Result<Condition, AsmCause>
     ensures { result_ok result ≡ need_of word.now }
 {
     match Condition::named(word) {
-        Some(condition) if can_be_needed(condition) => Ok(condition),
+        Some(condition) if Image::can_need(condition) => Ok(condition),
         Some(_) => Err(AsmCause::Operand),
         None => Err(misfit(word, AsmCause::UnknownName)),
-    }
-}
-
-fn can_be_needed(condition: Condition) -> bool
-    ensures { result ≡ is_among can_be_needed condition }
-{
-    match condition {
-        Condition::NewChannel | Condition::NewEvent | Condition::NewPort | Condition::NewProcess =>
-            true,
-        Condition::BadHandle | Condition::WrongObject | Condition::NewAny => false,
     }
 }
 

@@ -56,8 +56,7 @@ impl Image {
     }
 
     /// Declares that the processes of the program have to be allowed to make objects by this
-    /// condition. Only `NewChannel`, `NewEvent`, `NewPort` and `NewProcess` can be declared; another
-    /// condition changes nothing.
+    /// condition. One that can't be declared (`can_need`) changes nothing.
     pub fn add_need(&mut self, condition: Condition)
         ensures { self.new ≡ record self.old { needs = needs_named (condition ∷ self.old.needs) } }
     {

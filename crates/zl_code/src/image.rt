@@ -1,5 +1,5 @@
 ghost use Rattle.std.specs.Prelude.{◌≡◌, ◌≤◌, ◌<◌, ◌==◌, length, OnSome, IsTrue};
-ghost use Rattle.zl_code.specs.Image.{instr_at, local_at, call_at, is_among};
+ghost use Rattle.zl_code.specs.Image.{instr_at, local_at, call_at, is_among, can_be_needed, needs_value};
 ghost use Rattle.zl_code.specs.Spells.{is_in_range};
 ghost use Rattle.zl_code.specs.declared.image.DecodeFault.TheVariants.{NoMemory};
 
@@ -28,6 +28,29 @@ pub(crate) struct Needs {
     pub event: bool,
     pub port: bool,
     pub process: bool,
+}
+
+impl Needs {
+    /// Every need that there is.
+    const ALL: Needs = Needs {
+        channel: true,
+        event: true,
+        port: true,
+        process: true,
+    };
+
+    /// Whether the condition is one of them.
+    fn has(self, condition: Condition) -> bool
+        ensures { result ≡ is_among (needs_value self) condition }
+    {
+        match condition {
+            Condition::NewChannel => self.channel,
+            Condition::NewEvent => self.event,
+            Condition::NewPort => self.port,
+            Condition::NewProcess => self.process,
+            Condition::BadHandle | Condition::WrongObject | Condition::NewAny => false,
+        }
+    }
 }
 
 /// A handle with which a process of the program starts. Own profile.
@@ -109,18 +132,20 @@ impl Image {
         self.budget
     }
 
+    /// Whether a program can declare that its processes have to be allowed to make objects by this
+    /// condition: `NewChannel`, `NewEvent`, `NewPort` and `NewProcess` can be declared.
+    pub fn can_need(condition: Condition) -> bool
+        ensures { result ≡ is_among can_be_needed condition }
+    {
+        Needs::ALL.has(condition)
+    }
+
     /// Whether the program declares that its processes have to be allowed to make objects by this
-    /// condition; it can declare `NewChannel`, `NewEvent`, `NewPort` and `NewProcess`.
+    /// condition.
     pub fn needs(&self, condition: Condition) -> bool
         ensures { result ≡ is_among self.now.needs condition }
     {
-        match condition {
-            Condition::NewChannel => self.needs.channel,
-            Condition::NewEvent => self.needs.event,
-            Condition::NewPort => self.needs.port,
-            Condition::NewProcess => self.needs.process,
-            Condition::BadHandle | Condition::WrongObject | Condition::NewAny => false,
-        }
+        self.needs.has(condition)
     }
 
     /// The handles with which a process of a checked program starts, at most 7.

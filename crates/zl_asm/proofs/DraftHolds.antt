@@ -235,8 +235,8 @@ starts_held d image s e first = subst (λ (im : Image). Holds d (Declares (direc
   sources = h.sources ∙ sym (kept source_in said (Declares (directive.Start s)) refl);
 })
 
-pub slots_held : (d : Held) (image : Image) (s : SlotArray) → image ≡ record d.image { slots = d.image.slots ++ (s ∷ []) } → d.has_body ≡ false → Holds d (Declares (directive.Slots s)) (record d { image = image })
-slots_held d image s e first = subst (λ (im : Image). Holds d (Declares (directive.Slots s)) (record d { image = im })) (sym e) (λ said h. record {
+pub slot_array_held : (d : Held) (image : Image) (s : SlotArray) → image ≡ record d.image { slots = d.image.slots ++ (s ∷ []) } → d.has_body ≡ false → Holds d (Declares (directive.Slots s)) (record d { image = image })
+slot_array_held d image s e first = subst (λ (im : Image). Holds d (Declares (directive.Slots s)) (record d { image = im })) (sym e) (λ said h. record {
   order = order-declared said (directive.Slots s) (sym h.body ∙ first);
   body = h.body ∙ sym (no_body-more said (Declares (directive.Slots s)) refl);
   mark = same_given _ _ _ _ _ (kept mark_in said (Declares (directive.Slots s)) refl) h.mark;

@@ -11,7 +11,7 @@ use Rattle.zl_code.specs.Spells.{is_start_in_range, is_slot_in_range}
 use Rattle.zl_asm.specs.declared.directive.Directive.{Directive}
 use Rattle.zl_asm.specs.declared.directive.Directive.TheVariants as directive
 use Rattle.zl_asm.specs.Words.{is_ascii, words_of, is_word, number_of}
-use Rattle.zl_asm.specs.Lines.{Line, Declares, Code, Source, if_fits, number_within, need_of, kind_of, start_with, slots_with, directive_of, instruction_of, unknown_of, label_of, alone, point_line, line_of}
+use Rattle.zl_asm.specs.Lines.{Line, Declares, Code, Source, if_fits, number_within, need_of, kind_of, start_with, slot_array_with, directive_of, instruction_of, unknown_of, label_of, alone, point_line, line_of}
 use Rattle.zl_asm.specs.Draft.{Held, Holds, Reads, line_said, is_directive_in_range}
 
 -- ---- reading on
@@ -48,7 +48,7 @@ start-fits (Some k) (Some r) s e = passes is_start_in_range (Some (record { kind
 start-fits (Some k) None s e = cc
 start-fits None r s e = cc
 
-slots-fit : (k : Option (Option Kind)) (l r : Option ℕ) (s : SlotArray) → slots_with k l r ≡ Some s → is_slot_in_range s ≡ true
+slots-fit : (k : Option (Option Kind)) (l r : Option ℕ) (s : SlotArray) → slot_array_with k l r ≡ Some s → is_slot_in_range s ≡ true
 slots-fit (Some k) (Some l) (Some r) s e = passes is_slot_in_range (Some (record { kind = k; length = l; rights = rights_of r })) s e
 slots-fit (Some k) (Some l) None s e = cc
 slots-fit (Some k) None r s e = cc
@@ -78,8 +78,8 @@ directive-fits name (kind ∷ rights ∷ []) d e =
     either (is_word name (codes ".start")) (option_map directive.Start (start_with (kind_of kind) (number_of rights))) None d
     (made_of directive.Start (start_with (kind_of kind) (number_of rights)) d (λ s f. start-fits (kind_of kind) (number_of rights) s f)) (nothing d) e
 directive-fits name (kind ∷ len ∷ rights ∷ []) d e =
-    either (is_word name (codes ".slots")) (option_map directive.Slots (slots_with (kind_of kind) (number_within 1 256 len) (number_of rights))) None d
-    (made_of directive.Slots (slots_with (kind_of kind) (number_within 1 256 len) (number_of rights)) d (λ s f. slots-fit (kind_of kind) (number_within 1 256 len) (number_of rights) s f)) (nothing d) e
+    either (is_word name (codes ".slots")) (option_map directive.Slots (slot_array_with (kind_of kind) (number_within 1 256 len) (number_of rights))) None d
+    (made_of directive.Slots (slot_array_with (kind_of kind) (number_within 1 256 len) (number_of rights)) d (λ s f. slots-fit (kind_of kind) (number_within 1 256 len) (number_of rights) s f)) (nothing d) e
 directive-fits name (a ∷ b ∷ c ∷ e ∷ more) d f = cc
 
 -- ---- the directive of a line

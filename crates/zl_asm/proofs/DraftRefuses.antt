@@ -29,8 +29,8 @@ budget_refused d n e = λ said h rest. refused_budget said rest d.image.budget n
 pub start_refused : (d : Held) (s : Start) → 7 ≤ length d.image.starts → Refuses d (Declares (directive.Start s))
 start_refused d s many = λ said h rest. refused_start said rest s (subst (λ (l : List Start). 7 ≤ length l) h.starts many)
 
-pub slots_refused : (d : Held) (s : SlotArray) → 8 ≤ length d.image.slots → Refuses d (Declares (directive.Slots s))
-slots_refused d s many = λ said h rest. refused_slots said rest s (subst (λ (l : List SlotArray). 8 ≤ length l) h.slots many)
+pub slot_array_refused : (d : Held) (s : SlotArray) → 8 ≤ length d.image.slots → Refuses d (Declares (directive.Slots s))
+slot_array_refused d s many = λ said h rest. refused_slots said rest s (subst (λ (l : List SlotArray). 8 ≤ length l) h.slots many)
 
 pub label_refused : (d : Held) (name : List ℕ) → is_some (position_of d.labels name) ≡ true → Refuses d (Label name)
 label_refused d name there = λ said h rest. refused_label said rest name (subst (λ (l : List (List ℕ × ℕ)). is_some (position_of l name) ≡ true) h.labels there)

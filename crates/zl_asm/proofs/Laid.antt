@@ -15,7 +15,7 @@ use Rattle.zl_code.specs.Spells.{instr_bytes, is_in_range}
 use Rattle.zl_code.proofs.ImageNeeds.{needs_named-needs}
 use Rattle.zl_code.proofs.ImageRanges.{ranges}
 use Rattle.zl_asm.specs.Canonical.{kind_text, label_text, directive_lines, is_target, aims_at, label_lines, instr_text, code_lines_from, code_lines, text_of}
-use Rattle.zl_asm.specs.Pieces.{ended, fields_text, need_text, needs_text, start_text, slots_text, directives_text, line_text, TargetsAre}
+use Rattle.zl_asm.specs.Pieces.{ended, fields_text, need_text, needs_text, start_text, slot_array_text, directives_text, line_text, TargetsAre}
 
 -- ---- instructions
 
@@ -86,8 +86,8 @@ start_ended s =
     ∙ ap (λ (x : List ℕ). codes ".start " ++ x) (append_assoc (kind_text s.kind) (codes " " ++ decimal (bits s.rights)) (codes "\n")
     ∙ ap (λ (x : List ℕ). kind_text s.kind ++ x) (append_assoc (codes " ") (decimal (bits s.rights)) (codes "\n")))
 
-slots_ended : (s : SlotArray) → (codes ".slots " ++ (kind_text s.kind ++ (codes " " ++ (decimal s.length ++ (codes " " ++ decimal (bits s.rights)))))) ++ codes "\n" ≡ slots_text s
-slots_ended s =
+slot_array_ended : (s : SlotArray) → (codes ".slots " ++ (kind_text s.kind ++ (codes " " ++ (decimal s.length ++ (codes " " ++ decimal (bits s.rights)))))) ++ codes "\n" ≡ slot_array_text s
+slot_array_ended s =
     let rights = decimal (bits s.rights) in
     append_assoc (codes ".slots ") (kind_text s.kind ++ (codes " " ++ (decimal s.length ++ (codes " " ++ rights)))) (codes "\n")
     ∙ ap (λ (x : List ℕ). codes ".slots " ++ x) (append_assoc (kind_text s.kind) (codes " " ++ (decimal s.length ++ (codes " " ++ rights))) (codes "\n")
@@ -144,10 +144,10 @@ directives_ended i same =
     let needs = map (λ c. codes ".need " ++ condition_name c) i.needs in
     let starts = map (λ s. codes ".start " ++ (kind_text s.kind ++ (codes " " ++ decimal (bits s.rights)))) i.starts in
     let slots = map (λ s. codes ".slots " ++ (kind_text s.kind ++ (codes " " ++ (decimal s.length ++ (codes " " ++ decimal (bits s.rights)))))) i.slots in
-    let lists : ended (needs ++ (starts ++ slots)) ≡ needs_text i.needs ++ (flat_map start_text i.starts ++ flat_map slots_text i.slots) =
+    let lists : ended (needs ++ (starts ++ slots)) ≡ needs_text i.needs ++ (flat_map start_text i.starts ++ flat_map slot_array_text i.slots) =
     both_ended needs (starts ++ slots)
     ∙ (λ k. needs_ended i.needs same k ++ both_ended starts slots k)
-    ∙ (λ k. needs_text i.needs ++ (mapped_ended {X = Start} (λ s. codes ".start " ++ (kind_text s.kind ++ (codes " " ++ decimal (bits s.rights)))) start_text start_ended i.starts k ++ mapped_ended {X = SlotArray} (λ s. codes ".slots " ++ (kind_text s.kind ++ (codes " " ++ (decimal s.length ++ (codes " " ++ decimal (bits s.rights)))))) slots_text slots_ended i.slots k)) in
+    ∙ (λ k. needs_text i.needs ++ (mapped_ended {X = Start} (λ s. codes ".start " ++ (kind_text s.kind ++ (codes " " ++ decimal (bits s.rights)))) start_text start_ended i.starts k ++ mapped_ended {X = SlotArray} (λ s. codes ".slots " ++ (kind_text s.kind ++ (codes " " ++ (decimal s.length ++ (codes " " ++ decimal (bits s.rights)))))) slot_array_text slot_array_ended i.slots k)) in
     both_ended (cond i.raw (codes ".raw" ∷ []) []) ((codes ".memory " ++ decimal i.memory) ∷ (codes ".budget " ++ decimal i.budget) ∷ (needs ++ (starts ++ slots)))
     ∙ fields_ended i.raw (decimal i.memory) (decimal i.budget) (ended (needs ++ (starts ++ slots)))
     ∙ ap (λ (x : List ℕ). fields_text i.raw i.memory i.budget ++ x) lists

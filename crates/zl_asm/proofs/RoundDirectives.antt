@@ -164,8 +164,8 @@ starts_said (s ∷ starts) h =
 
 -- ---- slot arrays
 
-abbrev slots_line : SlotArray → List ℕ
-slots_line s = codes ".slots " ++ (kind_text s.kind ++ (codes " " ++ (decimal s.length ++ (codes " " ++ decimal (bits s.rights)))))
+abbrev slot_array_line : SlotArray → List ℕ
+slot_array_line s = codes ".slots " ++ (kind_text s.kind ++ (codes " " ++ (decimal s.length ++ (codes " " ++ decimal (bits s.rights)))))
 
 -- the ranges of a slot array
 record SlotRanges (s : SlotArray) : Type 0 where
@@ -187,9 +187,9 @@ slot_ranges s h =
       rights_small = within_small (bits s.rights) (rights_allowed s.kind) q.1 (allowed_small s.kind);
     }
 
-slots_line_said : (s : SlotArray) → is_slot_in_range s ≡ true → line_of (words_of (slots_line s)) ≡ Some (Declares (directive.Slots s))
+slot_array_line_said : (s : SlotArray) → is_slot_in_range s ≡ true → line_of (words_of (slot_array_line s)) ≡ Some (Declares (directive.Slots s))
 unfolding line_of directive_of is_word
-slots_line_said s h =
+slot_array_line_said s h =
     let r = slot_ranges s h in
     ap line_of
     (four_words (codes ".slots") (kind_text s.kind) (decimal s.length) (decimal (bits s.rights)) refl (plain_kind s.kind) (plain-decimal s.length r.length_small) (plain-decimal (bits s.rights) r.rights_small))
@@ -201,6 +201,6 @@ slots_said [] h = says_nothing
 slots_said (s ∷ slots) h =
     let p = and_parts (is_slot_in_range s) (list_all is_slot_in_range slots) h in
     let r = slot_ranges s p.0 in
-    says_line (slots_line s) (map slots_line slots) (Declares (directive.Slots s)) (map (λ s. Declares (directive.Slots s)) slots)
+    says_line (slot_array_line s) (map slot_array_line slots) (Declares (directive.Slots s)) (map (λ s. Declares (directive.Slots s)) slots)
     (printed_rights s.kind (decimal s.length ++ (codes " " ++ decimal (bits s.rights))) (printed-append (decimal s.length) (codes " " ++ decimal (bits s.rights)) (printed-decimal s.length r.length_small) (printed-decimal (bits s.rights) r.rights_small)))
-    (slots_line_said s p.0) (slots_said slots p.1)
+    (slot_array_line_said s p.0) (slots_said slots p.1)

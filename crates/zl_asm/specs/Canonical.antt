@@ -48,13 +48,13 @@ directive_lines i =
     ++ (((codes ".memory " ++ decimal i.memory) ∷ [])
     ++ (((codes ".budget " ++ decimal i.budget) ∷ [])
     ++ (map (λ c. codes ".need " ++ condition_name c) i.needs
-    ++ (map start_line i.starts ++ map slots_line i.slots))))
+    ++ (map start_line i.starts ++ map slot_array_line i.slots))))
   where
     start_line : Start → List ℕ
     start_line s = codes ".start " ++ (kind_text s.kind ++ (codes " " ++ decimal (bits s.rights)))
 
-    slots_line : SlotArray → List ℕ
-    slots_line s = codes ".slots " ++ (kind_text s.kind ++ (codes " " ++ (decimal s.length ++ (codes " " ++ decimal (bits s.rights)))))
+    slot_array_line : SlotArray → List ℕ
+    slot_array_line s = codes ".slots " ++ (kind_text s.kind ++ (codes " " ++ (decimal s.length ++ (codes " " ++ decimal (bits s.rights)))))
 
 -- ---- instructions
 

@@ -59,9 +59,9 @@ start_with (Some kind) (Some rights) = if_fits is_start_in_range (Some (record {
 start_with _ _ = None
 
 -- the slot array by its operands, if each was read and an image can declare it
-abbrev pub slots_with : Option (Option Kind) → Option ℕ → Option ℕ → Option SlotArray
-slots_with (Some kind) (Some len) (Some rights) = if_fits is_slot_in_range (Some (record { kind = kind; length = len; rights = rights_of rights }))
-slots_with _ _ _ = None
+abbrev pub slot_array_with : Option (Option Kind) → Option ℕ → Option ℕ → Option SlotArray
+slot_array_with (Some kind) (Some len) (Some rights) = if_fits is_slot_in_range (Some (record { kind = kind; length = len; rights = rights_of rights }))
+slot_array_with _ _ _ = None
 
 -- the directive of this name with these operands
 unfoldable pub directive_of : List ℕ → List (List ℕ) → Option Directive
@@ -74,7 +74,7 @@ directive_of name (operand ∷ []) =
 directive_of name (kind ∷ rights ∷ []) =
     if is_word name (codes ".start") then option_map directive.Start (start_with (kind_of kind) (number_of rights)) else None
 directive_of name (kind ∷ len ∷ rights ∷ []) =
-    if is_word name (codes ".slots") then option_map directive.Slots (slots_with (kind_of kind) (number_within 1 256 len) (number_of rights)) else None
+    if is_word name (codes ".slots") then option_map directive.Slots (slot_array_with (kind_of kind) (number_within 1 256 len) (number_of rights)) else None
 directive_of _ _ = None
 
 -- ---- instructions

@@ -31,8 +31,8 @@ abbrev pub start_text : Start → List ℕ
 start_text s = codes ".start " ++ (kind_text s.kind ++ (codes " " ++ (decimal (bits s.rights) ++ codes "\n")))
 
 -- the line of a slot array
-abbrev pub slots_text : SlotArray → List ℕ
-slots_text s = codes ".slots " ++ (kind_text s.kind ++ (codes " " ++ (decimal s.length ++ (codes " " ++ (decimal (bits s.rights) ++ codes "\n")))))
+abbrev pub slot_array_text : SlotArray → List ℕ
+slot_array_text s = codes ".slots " ++ (kind_text s.kind ++ (codes " " ++ (decimal s.length ++ (codes " " ++ (decimal (bits s.rights) ++ codes "\n")))))
 
 -- the line of a need that is among these
 abbrev pub need_if_among : List Condition → Condition → List ℕ
@@ -46,7 +46,7 @@ needs_text needs =
 
 -- the lines of all directives
 abbrev pub directives_text : Image → List ℕ
-directives_text i = fields_text i.raw i.memory i.budget ++ (needs_text i.needs ++ (flat_map start_text i.starts ++ flat_map slots_text i.slots))
+directives_text i = fields_text i.raw i.memory i.budget ++ (needs_text i.needs ++ (flat_map start_text i.starts ++ flat_map slot_array_text i.slots))
 
 -- operands behind others, from which the separator parts them
 abbrev pub behind : List ℕ → List (List ℕ) → List ℕ

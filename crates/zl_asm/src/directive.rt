@@ -1,7 +1,7 @@
 ghost use Rattle.std.specs.Prelude.{◌≡◌, [], ◌∷◌, map, Some};
 ghost use Rattle.std.specs.Result.{result_ok};
 ghost use Rattle.zl_asm.specs.Words.{number_of};
-ghost use Rattle.zl_asm.specs.Lines.{number_within, need_of, kind_of, start_with, slots_with, directive_of};
+ghost use Rattle.zl_asm.specs.Lines.{number_within, need_of, kind_of, start_with, slot_array_with, directive_of};
 
 use crate::fault::AsmCause;
 use crate::numbers::{number, spells_number};
@@ -45,7 +45,7 @@ pub(crate) fn directive_of(name: &[u8], operands: &[&[u8]]) -> Result<Directive,
         }
         [kind, length, rights] => {
             if is(name, b".slots") {
-                Ok(Directive::Slots(slots_of(kind, length, rights)?))
+                Ok(Directive::Slots(slot_array_of(kind, length, rights)?))
             } else {
                 Err(misplaced(name, operands))
             }
@@ -137,16 +137,16 @@ fn start_of(kind: &[u8], rights: &[u8]) -> Result<Start, AsmCause>
     }
 }
 
-fn slots_of(kind: &[u8], length: &[u8], rights: &[u8]) -> Result<SlotArray, AsmCause>
-    ensures { result_ok result ≡ slots_with (kind_of kind.now) (number_within 1 256 length.now) (number_of rights.now) }
+fn slot_array_of(kind: &[u8], length: &[u8], rights: &[u8]) -> Result<SlotArray, AsmCause>
+    ensures { result_ok result ≡ slot_array_with (kind_of kind.now) (number_within 1 256 length.now) (number_of rights.now) }
 {
-    let slots = SlotArray {
+    let array = SlotArray {
         kind: kind_of(kind)?,
         length: number_within(1, u32::from(SlotArray::MOST_PLACES), length)? as u16,
         rights: Rights::from_bits_retain(number_operand(rights)?),
     };
-    if slots.is_in_range() {
-        Ok(slots)
+    if array.is_in_range() {
+        Ok(array)
     } else {
         Err(AsmCause::Operand)
     }

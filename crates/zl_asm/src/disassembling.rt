@@ -6,7 +6,7 @@ ghost use Rattle.zl_code.specs.Instructions.{row_of};
 ghost use Rattle.zl_code.specs.Spells.{instr_bytes, reading_of};
 ghost use Rattle.zl_asm.specs.Denotes.{Denotes};
 ghost use Rattle.zl_asm.specs.Canonical.{kind_text, joined, register_text, target_text, tail_texts, instr_text, hex_text, hex_digit, aims, aims_at, code_lines, text_of};
-ghost use Rattle.zl_asm.specs.Pieces.{ended, fields_text, need_if_among, needs_text, start_text, slots_text, directives_text, behind, laid_out, line_text, TargetsAre};
+ghost use Rattle.zl_asm.specs.Pieces.{ended, fields_text, need_if_among, needs_text, start_text, slot_array_text, directives_text, behind, laid_out, line_text, TargetsAre};
 
 use bitflags::Flags;
 use std::alloc::{AllocError, Global};
@@ -76,8 +76,8 @@ fn push_starts(text: &mut String, starts: &[Start]) -> Result<(), AllocError>
 }
 
 /// Adds the line of a slot array.
-fn push_array(text: &mut String, array: SlotArray) -> Result<(), AllocError>
-    ensures { OnOk result (string_bytes text.new ≡ string_bytes text.old ++ slots_text array) }
+fn push_slot_array(text: &mut String, array: SlotArray) -> Result<(), AllocError>
+    ensures { OnOk result (string_bytes text.new ≡ string_bytes text.old ++ slot_array_text array) }
 {
     let kind = kind_name(array.kind);
     let len = array.length;
@@ -87,10 +87,10 @@ fn push_array(text: &mut String, array: SlotArray) -> Result<(), AllocError>
 
 /// Adds the lines of the slot arrays.
 fn push_slots(text: &mut String, slots: &[SlotArray]) -> Result<(), AllocError>
-    ensures { OnOk result (string_bytes text.new ≡ string_bytes text.old ++ flat_map slots_text slots.now) }
+    ensures { OnOk result (string_bytes text.new ≡ string_bytes text.old ++ flat_map slot_array_text slots.now) }
 {
     for array in slots {
-        push_array(text, *array)?;
+        push_slot_array(text, *array)?;
     }
     Ok(())
 }

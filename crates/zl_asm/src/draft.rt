@@ -77,7 +77,7 @@ impl<'a> Draft<'a> {
                 Ok(())
             }
             Directive::Start(start) => self.declare_start(start),
-            Directive::Slots(slots) => self.declare_slots(slots),
+            Directive::Slots(array) => self.declare_slot_array(array),
         }
     }
 
@@ -140,16 +140,16 @@ impl<'a> Draft<'a> {
     }
 
     /// Takes a slot array.
-    fn declare_slots(&mut self, slots: SlotArray) -> Result<(), AsmCause>
+    fn declare_slot_array(&mut self, array: SlotArray) -> Result<(), AsmCause>
         requires first { self.old.has_body ≡ false }
-        requires in_range { IsTrue (is_slot_in_range slots) }
-        ensures held { OnOk result (Holds (held_by self.old) (Declares (directives.Slots slots)) (held_by self.new)) }
-        ensures refused { IfErr result (λ cause. (cause ≡ NoMemory) ⊎ Refuses (held_by self.old) (Declares (directives.Slots slots))) }
+        requires in_range { IsTrue (is_slot_in_range array) }
+        ensures held { OnOk result (Holds (held_by self.old) (Declares (directives.Slots array)) (held_by self.new)) }
+        ensures refused { IfErr result (λ cause. (cause ≡ NoMemory) ⊎ Refuses (held_by self.old) (Declares (directives.Slots array))) }
     {
         if self.image.slots().len() >= Image::MOST_SLOT_ARRAYS {
             return Err(AsmCause::Limit);
         }
-        self.image.push_slots(slots)?;
+        self.image.push_slot_array(array)?;
         Ok(())
     }
 

@@ -83,13 +83,13 @@ impl Image {
 
     /// Adds a slot array behind the others, of which there are fewer than 8. The error says that
     /// memory was refused; the image is then as it was.
-    pub fn push_slots(&mut self, slots: SlotArray) -> Result<(), AllocError>
-        requires in_range { IsTrue (is_slot_in_range slots) }
+    pub fn push_slot_array(&mut self, array: SlotArray) -> Result<(), AllocError>
+        requires in_range { IsTrue (is_slot_in_range array) }
         requires room { length self.old.slots < 8 }
-        ensures ok { OnOk result (self.new ≡ record self.old { slots = self.old.slots ++ (slots ∷ []) }) }
+        ensures ok { OnOk result (self.new ≡ record self.old { slots = self.old.slots ++ (array ∷ []) }) }
         ensures err { OnErr result (self.new ≡ self.old) }
     {
-        self.slots.push(slots)?;
+        self.slots.push(array)?;
         Ok(())
     }
 

@@ -111,7 +111,7 @@ impl Start {
     }
 }
 
-fn is_slots_length(length: u16) -> bool
+fn is_slot_array_length(length: u16) -> bool
     ensures { result ≡ (nat_lt 0 length && nat_le length 256) }
 {
     length > 0 && length <= SlotArray::MOST_PLACES
@@ -123,7 +123,7 @@ impl SlotArray {
     pub fn is_in_range(&self) -> bool
         ensures { result ≡ is_slot_in_range self.now }
     {
-        is_slots_length(self.length) && is_allowed(self.kind, self.rights)
+        is_slot_array_length(self.length) && is_allowed(self.kind, self.rights)
     }
 }
 
@@ -134,7 +134,7 @@ fn length_of(bytes: [u8; DECLARATION_LEN]) -> Option<u16>
     ensures none { IfNone result (has_length bytes ≡ false) }
 {
     let length = u16::from_le_bytes([bytes[2], bytes[3]]);
-    if bytes[1] == 0 && is_slots_length(length) {
+    if bytes[1] == 0 && is_slot_array_length(length) {
         Some(length)
     } else {
         None
@@ -142,9 +142,9 @@ fn length_of(bytes: [u8; DECLARATION_LEN]) -> Option<u16>
 }
 
 /// The slot array of the eight bytes.
-fn slot_of(bytes: [u8; DECLARATION_LEN]) -> Result<SlotArray, DecodeFault>
-    ensures bytes { IfOk result (λ slots. slot_bytes slots ≡ bytes) }
-    ensures in_range { IfOk result (λ slots. IsTrue (is_slot_in_range slots)) }
+fn slot_array_of(bytes: [u8; DECLARATION_LEN]) -> Result<SlotArray, DecodeFault>
+    ensures bytes { IfOk result (λ array. slot_bytes array ≡ bytes) }
+    ensures in_range { IfOk result (λ array. IsTrue (is_slot_in_range array)) }
     ensures fault { MatchResult result (λ _. slot_fault bytes ≡ None) (λ fault. slot_fault bytes ≡ Some fault) }
 {
     let Some(length) = length_of(bytes) else {
@@ -188,7 +188,7 @@ pub(crate) fn slots_of(
 {
     let mut slots = Vec::with_capacity(alloc, pieces.len())?;
     for piece in pieces {
-        let array = slot_of(*piece)?;
+        let array = slot_array_of(*piece)?;
         slots.push(array)?;
     }
     Ok(slots)

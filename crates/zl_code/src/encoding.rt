@@ -96,13 +96,33 @@ fn put_start(out: &mut Vec<u8>, start: Start) -> Result<(), AllocError>
     out.extend_from_slice(&start.rights.bits().to_le_bytes())
 }
 
-/// Adds the eight bytes of a slot array.
-fn put_slots(out: &mut Vec<u8>, slots: SlotArray) -> Result<(), AllocError>
-    ensures { OnOk result (out.new.items ≡ out.old.items ++ slot_bytes slots) }
+/// Adds the start handles.
+fn put_starts(out: &mut Vec<u8>, starts: &[Start]) -> Result<(), AllocError>
+    ensures { OnOk result (out.new.items ≡ out.old.items ++ flat_map start_bytes starts.now) }
 {
-    out.extend_from_slice(&[kind_byte(slots.kind), 0])?;
-    out.extend_from_slice(&slots.length.to_le_bytes())?;
-    out.extend_from_slice(&slots.rights.bits().to_le_bytes())
+    for start in starts {
+        put_start(out, *start)?;
+    }
+    Ok(())
+}
+
+/// Adds the eight bytes of a slot array.
+fn put_slot_array(out: &mut Vec<u8>, array: SlotArray) -> Result<(), AllocError>
+    ensures { OnOk result (out.new.items ≡ out.old.items ++ slot_bytes array) }
+{
+    out.extend_from_slice(&[kind_byte(array.kind), 0])?;
+    out.extend_from_slice(&array.length.to_le_bytes())?;
+    out.extend_from_slice(&array.rights.bits().to_le_bytes())
+}
+
+/// Adds the slot arrays.
+fn put_slots(out: &mut Vec<u8>, slots: &[SlotArray]) -> Result<(), AllocError>
+    ensures { OnOk result (out.new.items ≡ out.old.items ++ flat_map slot_bytes slots.now) }
+{
+    for array in slots {
+        put_slot_array(out, *array)?;
+    }
+    Ok(())
 }
 
 /// Adds the declarations.
@@ -114,20 +134,7 @@ fn put_declarations(
     ensures { OnOk result (out.new.items ≡ out.old.items ++ (flat_map start_bytes starts.now ++ flat_map slot_bytes slots.now)) }
 {
     put_starts(out, starts)?;
-    for array in slots {
-        put_slots(out, *array)?;
-    }
-    Ok(())
-}
-
-/// Adds the start handles.
-fn put_starts(out: &mut Vec<u8>, starts: &[Start]) -> Result<(), AllocError>
-    ensures { OnOk result (out.new.items ≡ out.old.items ++ flat_map start_bytes starts.now) }
-{
-    for start in starts {
-        put_start(out, *start)?;
-    }
-    Ok(())
+    put_slots(out, slots)
 }
 
 /// How many bytes the image has.

@@ -278,7 +278,7 @@ fn declared_again(alloc: Global) -> Result<Vec<u8>, DecodeFault> {
     }
     for array in declared.slots() {
         if array.is_in_range() && image.slots().len() < Image::MOST_SLOT_ARRAYS {
-            image.push_slots(*array)?;
+            image.push_slot_array(*array)?;
         }
     }
     for instr in declared.code() {

@@ -1,7 +1,7 @@
 use Rattle.std.proofs.Common.{◌≡◌, ◌++◌, take, string_bytes}
 use Rattle.std.specs.List.{flat_map}
-use Rattle.zl_asm.specs.Pieces.{slots_text}
+use Rattle.zl_asm.specs.Pieces.{slot_array_text}
 use Rattle.zl_asm.proofs.disassembling.push_slots.Given as goal
 
 abbrev pub invariant-loop-array : goal.invariant-loop-array
-invariant-loop-array l = string_bytes l.text ≡ string_bytes l.fn.text ++ flat_map slots_text (take l.array-index l.slots)
+invariant-loop-array l = string_bytes l.text ≡ string_bytes l.fn.text ++ flat_map slot_array_text (take l.array-index l.slots)

@@ -1,7 +1,7 @@
 use Rattle.std.proofs.Common.{rules, true, false}
 use Rattle.std.proofs.lemmas.Result.{err_from_is_err_and}
 use Rattle.zl_code.proofs.ImageDeclared.{slot_bytes-read, slot_in_range-read, slot_fault-by, slot_fault-length}
-use Rattle.zl_code.proofs.declarations.slot_of.Goals as goal
+use Rattle.zl_code.proofs.declarations.slot_array_of.Goals as goal
 
 pub returns-in_default-clause-fault : goal.returns-in_default-clause-fault
 returns-in_default-clause-fault c = slot_fault-length c.args.bytes c.in_default.ensures.none

@@ -1,7 +1,0 @@
-use Rattle.std.proofs.Common.{◌≡◌, ◌++◌, take}
-use Rattle.std.specs.List.{flat_map}
-use Rattle.zl_code.specs.Spells.{start_bytes, slot_bytes}
-use Rattle.zl_code.proofs.encoding.put_declarations.Given as goal
-
-abbrev pub invariant-loop-array : goal.invariant-loop-array
-invariant-loop-array l = l.out.items ≡ l.fn.out.items ++ (flat_map start_bytes l.starts ++ flat_map slot_bytes (take l.array-index l.slots))

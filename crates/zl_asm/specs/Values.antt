@@ -1,4 +1,4 @@
--- What the lines that were read stand for.
+-- What the lines that were read stand for. No public clause cites this module.
 use Rattle.std.specs.Option.{option_map}
 use Rattle.zl_asm.specs.declared.line.Line.{Line as ReadLine}
 use Rattle.zl_asm.specs.declared.line.Line.TheVariants as read

@@ -5,7 +5,7 @@ ghost use Rattle.std.specs.List.{flat_map};
 ghost use Rattle.zl_code.specs.Instructions.{row_of};
 ghost use Rattle.zl_code.specs.Spells.{instr_bytes, reading_of};
 ghost use Rattle.zl_asm.specs.Denotes.{Denotes};
-ghost use Rattle.zl_asm.specs.Canonical.{kind_text, joined, register_text, target_text, tail_texts, instr_text, hex_text, hex_digit, aims, aims_at, code_lines, text_of};
+ghost use Rattle.zl_asm.specs.Canonical.{kind_text, joined, register_text, target_text, tail_texts, instr_text, hex_text, aims, aims_at, code_lines, text_of};
 ghost use Rattle.zl_asm.specs.Pieces.{ended, fields_text, need_if_among, needs_text, start_text, slot_array_text, directives_text, behind, laid_out, line_text, TargetsAre};
 
 use bitflags::Flags;
@@ -105,24 +105,11 @@ fn push_directives(text: &mut String, image: &Image) -> Result<(), AllocError>
     push_slots(text, image.slots())
 }
 
-/// The digit of a number below 16.
-fn hex_digit(number: u8) -> char
-    requires { number < 16 }
-    ensures { result ≡ hex_digit number }
-{
-    char::from(if number < 10 {
-        b'0' + number
-    } else {
-        b'a' - 10 + number
-    })
-}
-
 /// Adds the digits of the byte.
 fn push_hex(text: &mut String, byte: u8) -> Result<(), AllocError>
     ensures { OnOk result (string_bytes text.new ≡ string_bytes text.old ++ hex_text (byte ∷ [])) }
 {
-    text.push(hex_digit(byte / 16))?;
-    text.push(hex_digit(byte % 16))
+    write!(text, "{byte:02x}")
 }
 
 /// Adds the digits of the bytes.

@@ -11,12 +11,7 @@ fn digit(byte: u8) -> Option<u8>
     ensures value { result ≡ digit_of byte }
     ensures below { IfSome result (λ digit. digit < 16) }
 {
-    match byte {
-        b'0'..=b'9' => Some(byte - b'0'),
-        b'a'..=b'f' => Some(byte - b'a' + 10),
-        b'A'..=b'F' => Some(byte - b'A' + 10),
-        _ => None,
-    }
+    char::from(byte).to_digit(16).map(|digit| digit as u8)
 }
 
 /// The number with one more digit of the base at its end, if it is one and has 32 bits.

@@ -142,7 +142,7 @@ fn numbers_in(bytes: [u8; Instr::LEN]) -> (u32, u32)
 }
 
 /// The places of a list of handles in the last eight bytes.
-fn places_in(bytes: [u8; Instr::LEN]) -> [u8; 8]
+fn places_in(bytes: [u8; Instr::LEN]) -> [u8; HandleList::MOST]
     ensures { result ≡ (reading_of bytes).places }
 {
     let [_, _, _, _, _, _, _, _, a, b, c, d, e, f, g, h] = bytes;

@@ -5,6 +5,8 @@ ghost use Rattle.std.specs.List.{list_all};
 ghost use Rattle.zl_asm.specs.Words.{digit_of, number_in, number_of, register_of, is_name_byte, is_name, byte_before, hex_bytes};
 ghost use Rattle.zl_asm.specs.Lines.{if_fits};
 
+use zl_code::{Instr, Register};
+
 /// The value of a hexadecimal digit, in capital letters or not.
 #[tactic(auto, unfolding(crate::specs::Words::digit_of))]
 fn digit(byte: u8) -> Option<u8>
@@ -69,7 +71,7 @@ pub(crate) fn register(word: &[u8]) -> Option<u8>
         [b'r', high @ b'1'..=b'3', low @ b'0'..=b'9'] => (high - b'0') * 10 + (low - b'0'),
         _ => return None,
     };
-    (number < 32).then_some(number)
+    (usize::from(number) < Register::COUNT).then_some(number)
 }
 
 /// Whether the word is the name of a label: a small letter, and behind it small letters, digits or
@@ -92,14 +94,14 @@ fn are_of_name(bytes: &[u8]) -> bool
 }
 
 /// The 16 bytes that the hexadecimal digits spell, two digits a byte, if they spell so many.
-pub(crate) fn sixteen_bytes(digits: &[u8]) -> Option<[u8; 16]>
+pub(crate) fn sixteen_bytes(digits: &[u8]) -> Option<[u8; Instr::LEN]>
     ensures { result ≡ if_fits (λ bytes. length bytes == 16) (hex_bytes digits.now) }
 {
-    if digits.len() != 32 {
+    if digits.len() != 2 * Instr::LEN {
         return None;
     }
-    let mut bytes = [0; 16];
-    for i in 0..16 {
+    let mut bytes = [0; Instr::LEN];
+    for i in 0..Instr::LEN {
         let Some(byte) = byte_of(digits[2 * i], digits[2 * i + 1]) else {
             return None;
         };

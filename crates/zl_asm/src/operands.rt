@@ -18,7 +18,7 @@ use zl_code::{Ending, HandleList, Instr, Row};
 /// where a label names it.
 #[derive(Clone, Copy)]
 pub(crate) struct Tail<'a> {
-    pub bytes: [u8; 8],
+    pub bytes: [u8; HandleList::MOST],
     pub label: Option<&'a [u8]>,
 }
 
@@ -113,10 +113,10 @@ fn tail_to<'a>(number: u32, target: &'a [u8]) -> Result<Tail<'a>, AsmCause>
 fn handles<'a>(words: &[&'a [u8]]) -> Result<Tail<'a>, AsmCause>
     ensures { option_map tail_value (result_ok result) ≡ tail_of ending.Handles (map (λ word. word.now) words.now) }
 {
-    if words.len() > 8 {
+    if words.len() > HandleList::MOST {
         return Err(AsmCause::Operand);
     }
-    let mut bytes = [HandleList::NONE; 8];
+    let mut bytes = [HandleList::NONE; HandleList::MOST];
     put_registers(&mut bytes, words)?;
     Ok(Tail { bytes, label: None })
 }
@@ -137,7 +137,11 @@ fn tail_of<'a>(ending: Ending, operands: &[&'a [u8]]) -> Result<Tail<'a>, AsmCau
 }
 
 /// The 16 bytes of an instruction.
-fn instruction_bytes(opcode: u8, registers: [u8; 7], last: [u8; 8]) -> [u8; Instr::LEN]
+fn instruction_bytes(
+    opcode: u8,
+    registers: [u8; 7],
+    last: [u8; HandleList::MOST],
+) -> [u8; Instr::LEN]
     ensures { result ≡ opcode ∷ (registers ++ last) }
 {
     let [a, b, c, d, e, f, g] = registers;

@@ -26,7 +26,7 @@ pub(crate) struct Fields {
     pub imm: u32,
     pub target: u32,
     /// The last eight bytes again, as the places of a list of handles.
-    pub places: [u8; 8],
+    pub places: [u8; HandleList::MOST],
 }
 
 /// The register of this number.
@@ -75,7 +75,8 @@ fn are_places(places: &[u8]) -> bool
 fn is_room(first: Register, triples: u32) -> bool
     ensures { result ≡ is_room first triples }
 {
-    triples <= 8 && u32::from(first.number()) + 3 * triples <= 32
+    triples <= HandleList::MOST as u32
+        && u32::from(first.number()) + 3 * triples <= Register::COUNT as u32
 }
 
 /// Whether the registers that the last eight bytes name are there.

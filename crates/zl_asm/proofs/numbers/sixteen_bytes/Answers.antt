@@ -3,8 +3,8 @@ use Rattle.std.proofs.lemmas.Grind.{common_steps}
 use Rattle.zl_asm.proofs.WordsHex.{not_sixteen, next_byte, no_byte, last_byte}
 use Rattle.zl_asm.proofs.numbers.sixteen_bytes.Goals as goal
 
-pub returns-then-digits-ne32 : goal.returns-then-digits-ne32
-returns-then-digits-ne32 c = not_sixteen c.args.digits.now c.if-digits-ne32.true
+pub returns-then-digits : goal.returns-then-digits
+returns-then-digits c = not_sixteen c.args.digits.now c.if-digits.true
 
 pub returns-in_default : goal.returns-in_default
 returns-in_default c = no_byte c.args.digits.now c.loop-i.i c.loop-i.bytes (omega arith) c.in_default.ensures c.loop-i.invariant.so_far

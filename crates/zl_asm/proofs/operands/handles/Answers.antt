@@ -5,8 +5,8 @@ use Rattle.zl_asm.proofs.LineOperands.{too_many, no_handles, handles_placed}
 use Rattle.zl_asm.proofs.Answered.{no_answer}
 use Rattle.zl_asm.proofs.operands.handles.Goals as goal
 
-pub returns-then-words-gt8 : goal.returns-then-words-gt8
-returns-then-words-gt8 c = too_many c.args.words.now c.if-words-gt8.true
+pub returns-then-words-gt-MOST : goal.returns-then-words-gt-MOST
+returns-then-words-gt-MOST c = too_many c.args.words.now c.if-words-gt-MOST.true
 
 pub returns-in_err-put_registers : goal.returns-in_err-put_registers
 returns-in_err-put_registers c =
@@ -14,4 +14,4 @@ returns-in_err-put_registers c =
     ∙ no_handles c.args.words.now _ (c.in_err-put_registers.ensures {u = tt})
 
 pub returns : goal.returns
-returns c = handles_placed c.args.words.now c.put_registers.new.places c.if-words-gt8.false (c.in_ok-put_registers.ensures {u = tt})
+returns c = handles_placed c.args.words.now c.put_registers.new.places c.if-words-gt-MOST.false (c.in_ok-put_registers.ensures {u = tt})

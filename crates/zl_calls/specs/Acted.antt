@@ -1,4 +1,4 @@
--- What an instruction that is a call does to its process and to the objects, for each call.
+-- What an instruction that is a call does to its process and to the objects, for each call. No public clause cites this module.
 use Rattle.std.specs.Prelude.{ℕ, ◌≡◌, ⊤, [], ◌∷◌, Result, Some, IfOk, IfErr, OnOk, OnErr}
 use Rattle.zl_rights.specs.declared.status.Status.{Status}
 use Rattle.zl_rights.specs.Map.{get}

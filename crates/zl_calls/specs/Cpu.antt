@@ -1,4 +1,4 @@
--- The Cpu of a process that starts, its slots, and instructions that are never stuck.
+-- The Cpu of a process that starts, its slots, and instructions that are never stuck. No public clause cites this module.
 use Rattle.std.specs.Prelude.{ℕ, Bool, true, false, List, Option, Some, None, slice_get, slice_set}
 use Rattle.zl_rights.specs.World.{Cpu}
 use Rattle.zl_code.specs.declared.instr.LocalInstr.{LocalInstr}

@@ -1,4 +1,4 @@
--- What the statements of a boot make, before what isn't held is gone.
+-- What the statements of a boot make, before what isn't held is gone. No public clause cites this module.
 use Rattle.std.specs.Prelude.{ℕ, ◌≡◌, ◌<◌, ◌≤◌, true, IsTrue, List, [], ◌∷◌, map, None}
 use Rattle.std.specs.List.{All}
 use Rattle.std.specs.Ordering.{nat_cmp}

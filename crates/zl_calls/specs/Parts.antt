@@ -1,4 +1,4 @@
--- What calls do to the table of their caller and to the objects.
+-- What calls do to the table of their caller and to the objects. No public clause cites this module.
 use Rattle.std.specs.Prelude.{ℕ, ◌≡◌, ◌<◌, IsTrue, ◌+◌, ◌^◌, Bool, ◌&&◌, ◌||◌, not, nat_le, bit_or, List, [], ◌∷◌, length, Option, Some, None, Result, Ok, Err, ℤ, ⊤, ◌==◌, if◌then◌else◌}
 use Rattle.std.specs.Bool.{then_some}
 use Rattle.std.specs.Option.{option_or}

@@ -1,4 +1,4 @@
--- What the definitions of calls see of the objects: each with its count of handles, by koid.
+-- What the definitions of calls see of the objects: each with its count of handles, by koid. No public clause cites this module.
 use Rattle.std.specs.Prelude.{ℕ, ◌≡◌, ◌+◌, ◌-◌, ◌^◌, ◌<◌, IsTrue, Bool, true, false, ◌&&◌, ◌||◌, ◌==◌, nat_lt, [], ◌∷◌, ◌++◌, Option, Some, None, if◌then◌else◌}
 use Rattle.std.specs.List.{list_any}
 use Rattle.zl_rights.specs.declared.entry.Entry.{Entry}

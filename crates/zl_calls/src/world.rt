@@ -1,11 +1,11 @@
-ghost use Rattle.std.specs.Prelude.{length, ◌<◌, ◌^◌, ◌≡◌, ◌≢◌, ◌≤◌, IsSome, IsTrue, IfSome, IfOk, OnOk, IfErr, None, slice_get, map};
+ghost use Rattle.std.specs.Prelude.{length, ◌<◌, ◌^◌, ◌≡◌, ◌≢◌, ◌≤◌, false, IsSome, IsTrue, IfSome, IfNone, IfOk, OnOk, IfErr, None, slice_get, map};
 ghost use Rattle.std.specs.Ordering.{nat_cmp};
 ghost use Rattle.std.specs.FinMap.Entries.{is_sorted};
 ghost use Rattle.zl_code.specs.declared.boot.BootCause.TheVariants.{NoMemory};
 ghost use Rattle.zl_code.specs.Boot.{IsBoot, FirstFault, MOST_ITEMS};
 ghost use Rattle.zl_calls.specs.World.{call_for, state_in, is_ready_in};
 ghost use Rattle.zl_calls.specs.Makes.{IsReached};
-ghost use Rattle.zl_calls.specs.Steps.{Performs, StepsTo, local_item, takes_memory};
+ghost use Rattle.zl_calls.specs.Steps.{Performs, StepsTo, TakesStep, local_item, takes_memory};
 
 use crate::booting::{Made, booted};
 use crate::calls::end;
@@ -15,7 +15,7 @@ use crate::program::Library;
 use crate::stepping::{act, name_of, next_call, place_of, run_next};
 use std::alloc::Global;
 use std::marker::Model;
-use zl_code::{Boot, BootFault, CallName, Outcome, ProcState};
+use zl_code::{Boot, BootFault, CallName, Outcome, ProcState, TraceItem};
 use zl_rights::{Pid, Status};
 
 /// The code with which a stuck process ends (own profile).
@@ -107,11 +107,45 @@ impl World {
     {
         let place = place_of(&self.processes, pid)?;
         let process = &self.processes[place];
+        if process.is_ready() {
+            let call = next_call(&self.library, process)?;
+            Some(name_of(&call))
+        } else {
+            None
+        }
+    }
+
+    /// Does the next instruction of the process, if the process is ready: the system call at which it
+    /// is, as `perform` does, or a local one, as `local` does. It looks the process up once.
+    ///
+    /// Nothing where the process isn't ready, or there is none of this koid.
+    /// Source: that of `perform` and `local`.
+    pub fn step(&mut self, pid: Pid) -> Option<TraceItem>
+        ensures ran { IfSome result (TakesStep self.old pid self.new) }
+        ensures not_ready { IfNone result (is_ready_in self.old pid ≡ false) }
+        ensures unchanged { IfNone result (self.new ≡ self.old) }
+    {
+        let place = place_of(&self.processes, pid)?;
+        let process = &mut self.processes[place];
         if !process.is_ready() {
             return None;
         }
-        let call = next_call(&self.library, process)?;
-        Some(name_of(call))
+        if let Some(call) = next_call(&self.library, process) {
+            let name = name_of(&call);
+            let outcome = act(self.alloc, process, &mut self.objects, call);
+            return Some(TraceItem::Call {
+                pid,
+                call: name,
+                outcome,
+            });
+        }
+        match run_next(&self.library, process) {
+            Some(()) => Some(TraceItem::Run { pid, count: 1 }),
+            None => {
+                end(self.alloc, process, &mut self.objects, STUCK);
+                Some(TraceItem::Stuck { pid })
+            }
+        }
     }
 
     /// Does the system call at which the process is, with all that follows from it.

@@ -1,11 +1,11 @@
 -- What each value of a map has, and the order of its keys, after a change.
-use Rattle.std.proofs.Common.{◌≡◌, ℕ, inl, inr, Bool, true, false, ◌==◌, [], ◌∷◌, refl, sym, subst, Option, Some, None, T, arith}
+use Rattle.std.proofs.Common.{◌≡◌, ℕ, inl, inr, Bool, true, false, ◌==◌, [], ◌∷◌, refl, ap, sym, subst, ◌∙◌, Option, Some, None, T, arith, eq-eqb}
 use Rattle.std.specs.Prelude.{IsTrue}
 use Rattle.std.specs.Option.{option_map}
 use Rattle.std.specs.Ordering.{nat_cmp}
 use Rattle.std.specs.Cmp.{nat_cmp_total}
 use Rattle.std.specs.FinMap.Entries.{below_all, is_sorted-put, is_sorted-where_key}
-use Rattle.std.proofs.lemmas.Bool.{cases_Bool}
+use Rattle.std.proofs.lemmas.Bool.{cases_Bool, eqb-true}
 use Rattle.std.proofs.lemmas.Bool.Decides.{nat_tests}
 use Rattle.std.proofs.lemmas.Option.{none-some, same_Some}
 use Rattle.zl_rights.specs.Map.{Map, get, put, where_key, each, update}
@@ -60,21 +60,56 @@ module _ {X : Type 0} (P : X → Type 0) (m : Map X) (all : Each P m) where
     | inr other ↦ all k x (rw (get-put m q v k, other) at there)
   ]
 
-  from_old : (f : X → X) → ((x : X) → P x → P (f x)) → (k : ℕ) (x : X) (o : Option X) → get m k ≡ o → option_map f o ≡ Some x → P x
-  from_old f keeps k x None old e = absurd (none-some x e)
-  from_old f keeps k x (Some y) old e = subst P (same_Some (f y) x e) (keeps y (all k y old))
-
-  pub each_update : (q : ℕ) (f : X → X) → ((x : X) → P x → P (f x)) → Each P (update m q f)
-  each_update q f keeps k x there = elim (cases_Bool (q == k)) as (λ _. P x) [
-    | inl here ↦ from_old f keeps k x (get m k) refl (rw (get-update m q f k, here) at there)
-    | inr other ↦ all k x (rw (get-update m q f k, other) at there)
-  ]
-
-  pub each_each : (f : ℕ → X → X) → ((k : ℕ) (x : X) → P x → P (f k x)) → Each P (each f m)
-  each_each f keeps k x there = from_old (f k) (keeps k) k x (get m k) refl (rw (get-each m f k) at there)
-
   pub each_where_key : (p : ℕ → Bool) → Each P (where_key p m)
   each_where_key p k x there = elim (cases_Bool (p k)) as (λ _. P x) [
     | inl kept ↦ all k x (rw (get-where_key-in m p k kept) at there)
     | inr gone ↦ absurd (none-some x (rw (get-where_key-out m p k gone) at there))
+  ]
+
+-- ---- what stands at a key before and after
+
+-- what stands there is as it was, or changed as R says, or is new, as N says
+pub data Changed {X : Type 0} (R : X → X → Type 0) (N : X → Type 0) (before after : Option X) : Type 0 where
+  same : after ≡ before → Changed R N before after
+  changed : (x y : X) → before ≡ Some x → after ≡ Some y → R x y → Changed R N before after
+  new : (y : X) → after ≡ Some y → N y → Changed R N before after
+
+-- so it is at each key
+abbrev pub EachChanged : {X : Type 0} → (ℕ → X → X → Type 0) → (ℕ → X → Type 0) → Map X → Map X → Type 0
+EachChanged R N m m2 = (k : ℕ) → Changed (R k) (N k) (get m k) (get m2 k)
+
+module _ {X : Type 0} (R : ℕ → X → X → Type 0) (N : ℕ → X → Type 0) where
+  pub unchanged : (m m2 : Map X) → m2 ≡ m → EachChanged R N m m2
+  unchanged m m2 e k = same (ap (λ (l : Map X). get l k) e)
+
+  at_one_key : (m m2 : Map X) (q : ℕ) → ((k : ℕ) → (q == k) ≡ false → get m2 k ≡ get m k) → Changed (R q) (N q) (get m q) (get m2 q) → EachChanged R N m m2
+  at_one_key m m2 q apart here k = elim (cases_Bool (q == k)) as (λ _. Changed (R k) (N k) (get m k) (get m2 k)) [
+    | inl is ↦ subst (λ j. Changed (R j) (N j) (get m j) (get m2 j)) (eqb-true q k is) here
+    | inr other ↦ same (apart k other)
+  ]
+
+  pub changed_put : (m : Map X) (q : ℕ) (v : X) → Changed (R q) (N q) (get m q) (Some v) → EachChanged R N m (put m q v)
+  changed_put m q v here =
+      at_one_key m (put m q v) q (λ k other. get-put m q v k ∙ rw other refl)
+      (subst (Changed (R q) (N q) (get m q)) (sym (get-put m q v q ∙ rw (eq-eqb q q refl) refl)) here)
+
+  by_f : (k : ℕ) (f : X → X) (a b : Option X) → b ≡ option_map f a → ((x : X) → a ≡ Some x → Changed (R k) (N k) (Some x) (Some (f x))) → Changed (R k) (N k) a b
+  by_f k f None b is ok = same is
+  by_f k f (Some x) b is ok = subst (Changed (R k) (N k) (Some x)) (sym is) (ok x refl)
+
+  pub changed_update : (m : Map X) (q : ℕ) (f : X → X) → ((x : X) → get m q ≡ Some x → R q x (f x)) → EachChanged R N m (update m q f)
+  changed_update m q f ok =
+      at_one_key m (update m q f) q (λ k other. get-update m q f k ∙ rw other refl)
+      (by_f q f (get m q) (get (update m q f) q) (get-update m q f q ∙ rw (eq-eqb q q refl) refl) (λ x there. changed x (f x) refl refl (ok x there)))
+
+  pub changed_each : (m : Map X) (f : ℕ → X → X) → ((k : ℕ) (x : X) → Changed (R k) (N k) (Some x) (Some (f k x))) → EachChanged R N m (each f m)
+  changed_each m f ok k = by_f k (f k) (get m k) (get (each f m) k) (get-each m f k) (λ x there. ok k x)
+
+  -- what changes and new values keep is true of each value
+  pub each_changed : (P : ℕ → X → Type 0) (m m2 : Map X) → EachChanged R N m m2 → ((k : ℕ) (x y : X) → R k x y → P k x → P k y) → ((k : ℕ) (y : X) → N k y → P k y)
+      → ((k : ℕ) (x : X) → get m k ≡ Some x → P k x) → (k : ℕ) (y : X) → get m2 k ≡ Some y → P k y
+  each_changed P m m2 all keeps fresh old k y there = elim (all k) as (λ _. P k y) [
+    | same e ↦ old k y (sym e ∙ there)
+    | changed x z was is r ↦ subst (P k) (same_Some z y (sym is ∙ there)) (keeps k x z r (old k x was))
+    | new z is n ↦ subst (P k) (same_Some z y (sym is ∙ there)) (fresh k z n)
   ]

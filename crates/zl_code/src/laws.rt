@@ -16,6 +16,7 @@ ghost use Rattle.zl_code.specs.Steps.{Step, Runs, single, IsLegalHistory};
 ghost use Rattle.zl_code.specs.Boot.{IsBoot};
 ghost use Rattle.zl_code.specs.Koids.{HasGivenKoids, KeepsKoids};
 ghost use Rattle.zl_code.specs.Handles.{HandlesAreNamed, HandlesAreSound, Throughout};
+ghost use Rattle.zl_code.specs.Sound.{IsSound, KeepsProcesses};
 
 /// No bytes spell two images.
 pub fn no_bytes_spell_two_images()
@@ -112,4 +113,42 @@ pub fn histories_keep_handles_named()
     ensures { (lib : Library) (statements : List Statement) (boot after : World) (history : List TraceItem)
         → IsBoot lib statements boot → (legal : IsLegalHistory lib boot history after)
         → Throughout HandlesAreNamed lib boot (flat_map single history) after legal.run × HandlesAreNamed after }
+{}
+
+/// A boot world is sound.
+pub fn boot_worlds_are_sound()
+    ensures { (lib : Library) (statements : List Statement) (w : World)
+        → IsBoot lib statements w → IsSound w }
+{}
+
+/// A step leads from a sound world to a sound one.
+pub fn steps_keep_worlds_sound()
+    ensures { (lib : Library) (w : World) (p : ℕ) (x : TraceItem) (after : World)
+        → IsSound w → Step lib w p x after → IsSound after }
+{}
+
+/// The last world of a run from a boot world is sound.
+pub fn runs_keep_worlds_sound()
+    ensures { (lib : Library) (statements : List Statement) (boot after : World) (items : List TraceItem)
+        → IsBoot lib statements boot → Runs lib boot items after → IsSound after }
+{}
+
+/// Every world of a legal history from a boot world, the last one too, is sound.
+pub fn histories_keep_worlds_sound()
+    ensures { (lib : Library) (statements : List Statement) (boot after : World) (history : List TraceItem)
+        → IsBoot lib statements boot → (legal : IsLegalHistory lib boot history after)
+        → Throughout IsSound lib boot (flat_map single history) after legal.run × IsSound after }
+{}
+
+/// In a step from a sound world no process vanishes, and none changes its program.
+pub fn processes_stay()
+    ensures { (lib : Library) (w : World) (p : ℕ) (x : TraceItem) (after : World)
+        → IsSound w → Step lib w p x after → KeepsProcesses w after }
+{}
+
+/// From any point of a run that begins at a boot world, in the rest of the run no process vanishes, and
+/// none changes its program.
+pub fn runs_keep_processes()
+    ensures { (lib : Library) (statements : List Statement) (boot w after : World) (items more : List TraceItem)
+        → IsBoot lib statements boot → Runs lib boot items w → Runs lib w more after → KeepsProcesses w after }
 {}

@@ -1,5 +1,5 @@
-use Rattle.zl_code.proofs.HandlesNamed.{IsBoot-HandlesAreNamed}
+use Rattle.zl_code.proofs.SoundRuns.{boot_sound}
 use Rattle.zl_code.proofs.laws.boot_worlds_name_objects.Goals as goal
 
 pub returns : goal.returns
-returns c = IsBoot-HandlesAreNamed
+returns c = λ lib statements w boot. (boot_sound lib statements w boot).named

@@ -1,5 +1,6 @@
-use Rattle.zl_code.proofs.HandlesNamed.{IsLegalHistory-HandlesAreNamed}
+use Rattle.zl_code.specs.Handles.{HandlesAreNamed}
+use Rattle.zl_code.proofs.SoundRuns.{history_keeps}
 use Rattle.zl_code.proofs.laws.histories_keep_handles_named.Goals as goal
 
 pub returns : goal.returns
-returns c = IsLegalHistory-HandlesAreNamed
+returns c = history_keeps HandlesAreNamed (λ w s. s.named)

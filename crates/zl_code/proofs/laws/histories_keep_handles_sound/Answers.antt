@@ -1,5 +1,6 @@
-use Rattle.zl_code.proofs.HandlesKept.{IsLegalHistory-HandlesAreSound}
+use Rattle.zl_code.specs.Handles.{HandlesAreSound}
+use Rattle.zl_code.proofs.SoundRuns.{history_keeps}
 use Rattle.zl_code.proofs.laws.histories_keep_handles_sound.Goals as goal
 
 pub returns : goal.returns
-returns c = IsLegalHistory-HandlesAreSound
+returns c = history_keeps HandlesAreSound (λ w s. s.handles)

@@ -1,5 +1,5 @@
-use Rattle.zl_code.proofs.HandlesNamed.{boot_run_named}
+use Rattle.zl_code.proofs.SoundRuns.{run_sound}
 use Rattle.zl_code.proofs.laws.runs_keep_handles_named.Goals as goal
 
 pub returns : goal.returns
-returns c = boot_run_named
+returns c = λ lib statements boot after items is_boot run. (run_sound lib statements boot after items is_boot run).named

@@ -1,5 +1,5 @@
-use Rattle.zl_code.proofs.HandlesKept.{boot_run_sound}
+use Rattle.zl_code.proofs.SoundRuns.{run_sound}
 use Rattle.zl_code.proofs.laws.runs_keep_handles_sound.Goals as goal
 
 pub returns : goal.returns
-returns c = boot_run_sound
+returns c = λ lib statements boot after items is_boot run. (run_sound lib statements boot after items is_boot run).handles

@@ -1,5 +1,5 @@
-use Rattle.zl_code.proofs.HandlesKept.{Step-HandlesAreSound}
+use Rattle.zl_code.proofs.SoundRuns.{step_handles_sound}
 use Rattle.zl_code.proofs.laws.steps_keep_handles_sound.Goals as goal
 
 pub returns : goal.returns
-returns c = Step-HandlesAreSound
+returns c = step_handles_sound

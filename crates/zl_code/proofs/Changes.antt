@@ -1,0 +1,246 @@
+-- The elementary changes of which a step is made.
+use Rattle.std.proofs.Common.{◌≡◌, ◌<◌, ◌≤◌, inl, inr, arith, ℕ, suc, ◌+◌, Bool, true, false, not, ◌==◌, List, [], ◌∷◌, length, refl, ap, sym, subst, ◌∙◌, IsTrue, Option, Some, None, eq-eqb}
+use Rattle.std.specs.Prelude.{if◌then◌else◌, is_some, ℤ}
+use Rattle.std.specs.Option.{option_map}
+use Rattle.std.specs.List.{filter}
+use Rattle.std.proofs.lemmas.Bool.{cases_Bool, eqb-true, false≢true}
+use Rattle.zl_rights.specs.declared.entry.Entry.{Entry}
+use Rattle.zl_rights.specs.Numbers.{within}
+use Rattle.zl_rights.specs.Map.{Map, get, put, update, each, has_key, without}
+use Rattle.zl_rights.specs.World.{World, Cpu, answered, Process, State, Ready, Blocked, Ended, Object, Body, ChannelEnd, EventBody, PortBody, JobBody, ProcessBody, Packet}
+use Rattle.zl_rights.specs.Signals.{is_process, state_passes, lives, runs}
+use Rattle.zl_rights.specs.Settle.{Settles, queue_of}
+use Rattle.zl_rights.specs.Wakes.{fired, packets_for, made_ready, with_body, body_with_packets}
+use Rattle.zl_rights.proofs.MapLaws.{get-put, get-update, get-each}
+use Rattle.zl_code.specs.Effects.{on_process, on_object, process_with, process_without, process_ended, ended, with_object, object_changed, may_get}
+use Rattle.zl_code.specs.Boot.{with_process}
+use Rattle.zl_code.specs.Handles.{in_order, has_default_rights, names_its_object, HandlesAreSound, HandlesAreNamed}
+use Rattle.zl_code.specs.Sound.{is_blocked, HasItsObject, raisable, IsSound}
+use Rattle.zl_code.proofs.MapKept.{in_order-put, in_order-update, in_order-each, Changed, same, changed, new, EachChanged, unchanged, changed_put, changed_update, changed_each}
+
+-- ---- what becomes of one process and of one object, in a step that begins at the world start
+
+-- e may enter the table of x at the value v; after is the world in which it stands there
+pub record MayEnter (start after : World) (x : Process) (v : ℕ) (e : Entry) : Type 0 where
+  pub value : IsTrue (may_get x v)
+  pub room : length x.handles < 1024
+  pub running : IsTrue (runs x.state)
+  pub rights : HandlesAreSound start → IsTrue (has_default_rights e)
+  pub names : HandlesAreNamed start → names_its_object after.objects e
+
+pub data ProcessChange (start after : World) (x y : Process) : Type 0 where
+  handle_enters : (v : ℕ) (e : Entry) → y ≡ process_with v e x → MayEnter start after x v e → ProcessChange start after x y
+  handle_leaves : (v : ℕ) → y ≡ process_without v x → ProcessChange start after x y
+  computes : (c : Cpu) → y ≡ record x { cpu = c } → ProcessChange start after x y
+  ends : (code : ℤ) → y ≡ process_ended code x → ProcessChange start after x y
+  wakes : (c : Cpu) → y ≡ record x { state = Ready; cpu = c } → IsTrue (runs x.state) → ProcessChange start after x y
+
+-- a process that is made between w and after
+pub record IsNewProcess (start w after : World) (k : ℕ) (y : Process) : Type 0 where
+  pub free : IsSound start → get w.processes k ≡ None
+  pub given : k < after.next_koid
+  pub empty : y.handles ≡ []
+  pub nothing_last : y.last ≡ None
+  pub object : IsSound start → HasItsObject after.objects k
+
+pub data ObjectChange (start : World) (x y : Object) : Type 0 where
+  signals_change : (clear set : ℕ) → y ≡ object_changed clear set x → (HandlesAreSound start → HandlesAreNamed start → IsTrue (within set (raisable x.body))) → ObjectChange start x y
+  packets_change : (old packets : List Packet) → x.body ≡ PortBody old → y ≡ record x { body = PortBody packets } → ObjectChange start x y
+
+-- an object that is made between w and after
+pub record IsNewObject (w after : World) (k : ℕ) (y : Object) : Type 0 where
+  pub next : k ≡ w.next_koid
+  pub given : k < after.next_koid
+  pub quiet : queue_of y.body ≡ []
+  pub unraised : y.raised ≡ 0
+
+-- how often p stands in the list
+abbrev pub times : ℕ → List ℕ → ℕ
+times p ps = length (filter (λ q. q == p) ps)
+
+-- p is as it was among the blocked; or it isn't blocked, and not among them
+pub data KeepsBlocked (w w2 : World) (p : ℕ) : Type 0 where
+  still : times p w2.blocked ≡ times p w.blocked → is_process w2 is_blocked p ≡ is_process w is_blocked p → KeepsBlocked w w2 p
+  awake : times p w2.blocked ≡ 0 → is_process w2 is_blocked p ≡ false → KeepsBlocked w w2 p
+
+-- one change, in a step that begins at start
+pub record Change (start w w2 : World) : Type 0 where
+  pub next_koid : w.next_koid ≤ w2.next_koid
+  pub processes_in_order : IsTrue (in_order w.processes) → IsTrue (in_order w2.processes)
+  pub objects_in_order : IsTrue (in_order w.objects) → IsTrue (in_order w2.objects)
+  pub processes : EachChanged (λ k. ProcessChange start w2) (IsNewProcess start w w2) w.processes w2.processes
+  pub objects : EachChanged (λ k. ObjectChange start) (IsNewObject w w2) w.objects w2.objects
+  pub blocked : IsSound start → (p : ℕ) → KeepsBlocked w w2 p
+
+-- changes one after another, and what settles
+pub data Changes (start : World) : World → World → Type 0 where
+  stays : (w : World) → Changes start w w
+  changes : (u v w : World) → Change start u v → Changes start v w → Changes start u w
+  settles : (u v w : World) → Settles u v → Changes start v w → Changes start u w
+
+pub join : (start u v w : World) → Changes start u v → Changes start v w → Changes start u w
+join start _ _ w (stays u) b = b
+join start _ _ w (changes u m v c a) b = changes u m w c (join start m v w a b)
+join start _ _ w (settles u m v c a) b = settles u m w c (join start m v w a b)
+
+pub one : (start w w2 : World) → Change start w w2 → Changes start w w2
+one start w w2 c = changes w w2 w2 c (stays w2)
+
+-- what each change and each settling keeps, all of them keep
+pub kept : (start : World) (P : World → Type 0) → ((u v : World) → Change start u v → P u → P v) → ((u v : World) → Settles u v → P u → P v) → (u w : World) → Changes start u w → P u → P w
+kept start P by_change by_settling _ _ (stays w) p = p
+kept start P by_change by_settling _ _ (changes u v w c rest) p = kept start P by_change by_settling v w rest (by_change u v c p)
+kept start P by_change by_settling _ _ (settles u v w c rest) p = kept start P by_change by_settling v w rest (by_settling u v c p)
+
+-- ---- the list of the blocked
+
+times-same : (p : ℕ) (ps : List ℕ) → times p (filter (λ q. not (q == p)) ps) ≡ 0
+times-same p [] = refl
+times-same p (q ∷ ps) = elim (cases_Bool (q == p)) as (λ _. times p (filter (λ x. not (x == p)) (q ∷ ps)) ≡ 0) [
+  | inl is ↦ rw is (times-same p ps)
+  | inr other ↦ rw (other, other) (times-same p ps)
+]
+
+times-other : (p k : ℕ) → (p == k) ≡ false → (ps : List ℕ) → times k (filter (λ q. not (q == p)) ps) ≡ times k ps
+times-other p k apart [] = refl
+times-other p k apart (q ∷ ps) = elim (cases_Bool (q == p)) as (λ _. times k (filter (λ x. not (x == p)) (q ∷ ps)) ≡ times k (q ∷ ps)) [
+  | inl is ↦
+      let no : (q == k) ≡ false = subst (λ (j : ℕ). (j == k) ≡ false) (sym (eqb-true q p is)) apart in
+      rw (is, no) (times-other p k apart ps)
+  | inr other ↦ rw other (by_test (q == k) (times-other p k apart ps))
+]
+  where
+    by_test : (b : Bool) → times k (filter (λ x. not (x == p)) ps) ≡ times k ps
+        → length (if b then q ∷ filter (λ x. x == k) (filter (λ x. not (x == p)) ps) else filter (λ x. x == k) (filter (λ x. not (x == p)) ps)) ≡ length (if b then q ∷ filter (λ x. x == k) ps else filter (λ x. x == k) ps)
+    by_test true e = ap (λ (n : ℕ). suc n) e
+    by_test false e = e
+
+-- the list without p, where p isn't blocked after
+without_one : (w w2 : World) (p : ℕ) → w2.blocked ≡ filter (λ q. not (q == p)) w.blocked → is_process w2 is_blocked p ≡ false
+    → ((k : ℕ) → (p == k) ≡ false → get w2.processes k ≡ get w.processes k) → (k : ℕ) → KeepsBlocked w w2 k
+unfolding is_process
+without_one w w2 p list here apart k = elim (cases_Bool (p == k)) as (λ _. KeepsBlocked w w2 k) [
+  | inl is ↦ subst (KeepsBlocked w w2) (eqb-true p k is) (awake (ap (times p) list ∙ times-same p w.blocked) here)
+  | inr other ↦ still (ap (times k) list ∙ times-other p k other w.blocked) (ap (state_passes is_blocked) (apart k other))
+]
+
+-- ---- changes of a process
+
+state_kept : (m : Map Process) (p : ℕ) (f : Process → Process) → ((x : Process) → (f x).state ≡ x.state) → (k : ℕ) → state_passes is_blocked (get (update m p f) k) ≡ state_passes is_blocked (get m k)
+state_kept m p f alike k = ap (state_passes is_blocked) (get-update m p f k) ∙ by_test (p == k) (get m k)
+  where
+    by_test : (b : Bool) (o : Option Process) → state_passes is_blocked (if b then option_map f o else o) ≡ state_passes is_blocked o
+    by_test true None = refl
+    by_test true (Some x) = ap is_blocked (alike x)
+    by_test false o = refl
+
+pub process_changes : (start w : World) (p : ℕ) (f : Process → Process)
+    → ((x : Process) → get w.processes p ≡ Some x → ProcessChange start (on_process w p f) x (f x)) → ((x : Process) → (f x).state ≡ x.state) → Change start w (on_process w p f)
+unfolding on_process is_process
+process_changes start w p f ok alike = record {
+  next_koid = omega arith;
+  processes_in_order = λ h. rw (in_order-update w.processes p f) h;
+  objects_in_order = λ h. h;
+  processes = changed_update _ _ w.processes p f ok;
+  objects = unchanged _ _ w.objects w.objects refl;
+  blocked = λ s k. still refl (state_kept w.processes p f alike k);
+}
+
+-- what ends is not blocked
+ended_unblocked : (code : ℤ) (x : Process) → is_blocked (process_ended code x).state ≡ false
+ended_unblocked code x = elim (cases_Bool (lives x.state)) as (λ _. is_blocked (process_ended code x).state ≡ false) [
+  | inl alive ↦ rw alive refl
+  | inr over ↦ rw over (by_state x.state over)
+]
+  where
+    by_state : (s : State) → lives s ≡ false → is_blocked s ≡ false
+    by_state (Blocked awaited destinations) alive = absurd (false≢true (sym alive))
+    by_state _ alive = refl
+
+pub process_ends : (start w : World) (p : ℕ) (code : ℤ) → Change start w (ended w p code)
+unfolding ended on_process is_process
+process_ends start w p code = record {
+  next_koid = omega arith;
+  processes_in_order = λ h. rw (in_order-update w.processes p (process_ended code)) h;
+  objects_in_order = λ h. h;
+  processes = changed_update _ _ w.processes p (process_ended code) (λ x there. ends code refl);
+  objects = unchanged _ _ w.objects w.objects refl;
+  blocked = λ s. without_one w (ended w p code) p refl (ap (state_passes is_blocked) (get-update w.processes p (process_ended code) p ∙ rw (eq-eqb p p refl) refl) ∙ by_process (get w.processes p))
+      (λ k other. get-update w.processes p (process_ended code) k ∙ rw other refl);
+}
+  where
+    by_process : (o : Option Process) → state_passes is_blocked (option_map (process_ended code) o) ≡ false
+    by_process None = refl
+    by_process (Some x) = ended_unblocked code x
+
+pub process_wakes : (start w : World) (p : ℕ) (q : Process) (ds vs : List ℕ) → get w.processes p ≡ Some q → IsTrue (runs q.state) → Change start w (made_ready w p q ds vs)
+unfolding made_ready is_process
+process_wakes start w p q ds vs there running = record {
+  next_koid = omega arith;
+  processes_in_order = in_order-put w.processes p _;
+  objects_in_order = λ h. h;
+  processes = changed_put _ _ w.processes p _ (changed q _ there refl (wakes (answered q.cpu ds vs) refl running));
+  objects = unchanged _ _ w.objects w.objects refl;
+  blocked = λ s. without_one w (made_ready w p q ds vs) p refl (ap (state_passes is_blocked) {y = Some (record q { state = Ready; cpu = answered q.cpu ds vs })} (get-put w.processes p _ p ∙ rw (eq-eqb p p refl) refl)) (λ k other. get-put w.processes p _ k ∙ rw other refl);
+}
+
+pub process_is_made : (start w : World) (k : ℕ) (y : Process) → IsNewProcess start w (with_process w k y) k y → is_blocked y.state ≡ false → Change start w (with_process w k y)
+unfolding is_process
+process_is_made start w k y fine unblocked = record {
+  next_koid = omega arith;
+  processes_in_order = in_order-put w.processes k y;
+  objects_in_order = λ h. h;
+  processes = changed_put _ _ w.processes k y (new y refl fine);
+  objects = unchanged _ _ w.objects w.objects refl;
+  blocked = λ s p. still refl (ap (state_passes is_blocked) (get-put w.processes k y p) ∙ elim (cases_Bool (k == p)) as (λ _. state_passes is_blocked (if k == p then Some y else get w.processes p) ≡ state_passes is_blocked (get w.processes p)) [
+    | inl here ↦ rw (here, ← eqb-true k p here, fine.free s) unblocked
+    | inr other ↦ rw other refl
+  ]);
+}
+
+-- ---- changes of an object
+
+-- a world with other objects alone
+objects_alone : (start w w2 : World) → w2.processes ≡ w.processes → w2.blocked ≡ w.blocked → w.next_koid ≤ w2.next_koid
+    → (IsTrue (in_order w.objects) → IsTrue (in_order w2.objects)) → EachChanged (λ k. ObjectChange start) (IsNewObject w w2) w.objects w2.objects → Change start w w2
+unfolding is_process
+objects_alone start w w2 processes blocked next order objects = record {
+  next_koid = next;
+  processes_in_order = λ h. rw processes h;
+  objects_in_order = order;
+  processes = unchanged _ _ w.processes w2.processes processes;
+  objects = objects;
+  blocked = λ s p. still (ap (times p) blocked) (ap (λ (m : Map Process). state_passes is_blocked (get m p)) processes);
+}
+
+pub object_changes : (start w : World) (k : ℕ) (f : Object → Object) → ((x : Object) → get w.objects k ≡ Some x → ObjectChange start x (f x)) → Change start w (on_object w k f)
+unfolding on_object
+object_changes start w k f ok = objects_alone start w (on_object w k f) refl refl (omega arith) (λ h. rw (in_order-update w.objects k f) h) (changed_update _ _ w.objects k f ok)
+
+pub object_is_made : (start w : World) (b : Body) → queue_of b ≡ [] → Change start w (with_object w b)
+unfolding with_object
+object_is_made start w b quiet =
+    objects_alone start w (with_object w b) refl refl (omega arith) (in_order-put w.objects w.next_koid _)
+    (changed_put _ _ w.objects w.next_koid _ (new _ refl (record { next = refl; given = omega arith; quiet = quiet; unraised = refl })))
+
+-- the first packet leaves the port
+pub packet_goes : (start w : World) (k : ℕ) (o : Object) (old rest : List Packet) → get w.objects k ≡ Some o → o.body ≡ PortBody old → Change start w (with_body w k o (PortBody rest))
+packet_goes start w k o old rest there port =
+    objects_alone start w (with_body w k o (PortBody rest)) refl refl (omega arith) (in_order-put w.objects k _)
+    (changed_put _ _ w.objects k _ (changed o _ there refl (packets_change old rest port refl)))
+
+pub waits_fire : (start w : World) → Change start w (fired w)
+unfolding fired
+waits_fire start w =
+    objects_alone start w (fired w) refl refl (omega arith) (λ h. rw (in_order-each w.objects (λ k o. record o { body = body_with_packets (packets_for w k) o.body })) h)
+    (changed_each _ _ w.objects (λ k o. record o { body = body_with_packets (packets_for w k) o.body }) (λ k x. by_body k x x.body refl))
+  where
+    other : (k : ℕ) (x : Object) → body_with_packets (packets_for w k) x.body ≡ x.body → Changed (ObjectChange start) (IsNewObject w (fired w) k) (Some x) (Some (record x { body = body_with_packets (packets_for w k) x.body }))
+    other k x e = same (ap (λ (b : Body). Some (record x { body = b })) e)
+
+    by_body : (k : ℕ) (x : Object) (b : Body) → x.body ≡ b → Changed (ObjectChange start) (IsNewObject w (fired w) k) (Some x) (Some (record x { body = body_with_packets (packets_for w k) x.body }))
+    by_body k x (PortBody packets) is = changed x _ refl refl (packets_change packets _ is (ap (λ (b : Body). record x { body = body_with_packets (packets_for w k) b }) is))
+    by_body k x (ChannelEnd peer queue) is = other k x (ap (body_with_packets (packets_for w k)) is ∙ sym is)
+    by_body k x EventBody is = other k x (ap (body_with_packets (packets_for w k)) is ∙ sym is)
+    by_body k x (JobBody a b c d) is = other k x (ap (body_with_packets (packets_for w k)) is ∙ sym is)
+    by_body k x (ProcessBody job) is = other k x (ap (body_with_packets (packets_for w k)) is ∙ sym is)

@@ -1,0 +1,247 @@
+-- Every world of a run from a boot world is sound.
+use Rattle.std.proofs.Common.{◌≡◌, ◌<◌, ◌≤◌, ◌⊎◌, inl, inr, arith, ℕ, suc, ◌+◌, min, max, Bool, true, false, not, ◌&&◌, ◌||◌, ◌==◌, List, [], ◌∷◌, length, refl, ap, sym, subst, ◌∙◌, IsTrue, Option, Some, None, eq-eqb}
+use Rattle.std.specs.Prelude.{if◌then◌else◌, is_some, ℤ, nat_lt, bit_and, bit_or, bit_xor}
+use Rattle.std.specs.Int.{bit_at}
+use Rattle.std.specs.Option.{option_map}
+use Rattle.std.specs.List.{list_any, filter}
+use Rattle.std.proofs.lemmas.Bool.{cases_Bool, eqb-true, and_parts, and_from, or_left, or_right, true≢false, false≢true}
+use Rattle.std.proofs.lemmas.Nat.Bits.{same_from_bits, bit_at_and, bit_at_or, bit_at-zero}
+use Rattle.std.proofs.lemmas.Option.{none-some, same_Some}
+use Rattle.zl_rights.specs.declared.entry.Entry.{Entry}
+use Rattle.zl_rights.specs.Numbers.{within, changed as signals_changed}
+use Rattle.zl_rights.specs.Map.{Map, get, put, without, where_key, each, has_key}
+use Rattle.zl_rights.specs.World.{World, Process, State, Created, Ready, Blocked, Ended, Gone, Object, Body, ChannelEnd, EventBody, PortBody, JobBody, ProcessBody, Packet}
+use Rattle.zl_rights.specs.Signals.{is_process, state_passes, lives, runs, is_job_below, is_process_of}
+use Rattle.zl_rights.specs.Settle.{process_settled, state_without, Koids, IsLargestHeld, Settles, without_others, is_held, in_table, in_queue, has_living_child}
+use Rattle.zl_rights.proofs.MapLaws.{get-put, get-each, get-where_key-in, get-where_key-out}
+use Rattle.zl_code.specs.Tests.{body_in}
+use Rattle.zl_code.specs.Effects.{process_with, process_without, process_ended, may_get, may_get_after}
+use Rattle.zl_code.specs.Boot.{is_job_body}
+use Rattle.zl_code.specs.Koids.{HasGivenKoids}
+use Rattle.zl_code.specs.Sound.{is_value, IsSoundTable, is_blocked, HasItsObject, raisable, IsSound}
+use Rattle.zl_code.proofs.MapKept.{each_where_key, EachChanged, Changed, same, changed, new, changed_each, each_changed}
+use Rattle.zl_code.proofs.Changes.{MayEnter, ProcessChange, handle_enters, handle_leaves, computes, ends, wakes, ObjectChange, signals_change, packets_change, KeepsBlocked, still, awake, Change, Changes, kept}
+use Rattle.zl_code.proofs.Stepping.{length_filter}
+use Rattle.zl_code.proofs.StepChanges.{length_put, job_is_there}
+use Rattle.zl_code.proofs.HandlesKept.{sound_change, sound_settled}
+use Rattle.zl_code.proofs.NamesKept.{named_change, named_settled, held_is_kept, list_any-get}
+use Rattle.zl_code.proofs.NotReused.{given_change, given_settled}
+
+-- ---- a table
+
+no_key : (v : ℕ) → has_key {X = Entry} [] v ≡ false
+unfolding get
+no_key v = refl
+
+empty_table : (running : Bool) → IsSoundTable running [] None
+unfolding get
+empty_table running = record { few = omega arith; values = λ v h. absurd (true≢false (sym h)); free = λ v e. absurd (none-some v e); idle = λ h. (refl, refl) }
+
+-- a value that a handle may get is one, and none has it
+value_given : (x : Process) (v : ℕ) → IsSoundTable (runs x.state) x.handles x.last → IsTrue (may_get x v) → IsTrue (is_value v)
+value_given x v t = by_last x.last refl
+  where
+    by_last : (last : Option ℕ) → x.last ≡ last → IsTrue (may_get_after last x v) → IsTrue (is_value v)
+    by_last (Some l) is gets = rw (eqb-true v l gets) (t.free l is).0
+    by_last None is gets =
+        let above = and_parts (nat_lt 0 v) _ gets in
+        and_from _ _ above.0 (and_parts (nat_lt v 65536) _ above.1).0
+
+handle_in : (start after : World) (x : Process) (v : ℕ) (e : Entry) → MayEnter start after x v e → IsSoundTable (runs x.state) x.handles x.last → IsSoundTable (runs x.state) (put x.handles v e) None
+handle_in start after x v e may t = record {
+  few = let longer : length (put x.handles v e) ≤ suc (length x.handles) = length_put x.handles v e in omega (arith, may.room);
+  values = λ j h. elim (cases_Bool (v == j)) as (λ _. IsTrue (is_value j)) [
+    | inl here ↦ rw (← eqb-true v j here) (value_given x v t may.value)
+    | inr other ↦ t.values j (rw (get-put x.handles v e j, other) at h)
+  ];
+  free = λ j h. absurd (none-some j h);
+  idle = λ h. absurd (true≢false (sym may.running ∙ h));
+}
+
+handle_out : (x : Process) (v : ℕ) → has_key x.handles v ≡ true → IsSoundTable (runs x.state) x.handles x.last → IsSoundTable (runs x.state) (without x.handles v) (Some v)
+unfolding without where_key
+handle_out x v there t = record {
+  few = let shorter : length (without x.handles v) ≤ length x.handles = length_filter _ x.handles in omega (arith, t.few);
+  values = λ j h. elim (cases_Bool (j == v)) as (λ _. IsTrue (is_value j)) [
+    | inl here ↦ absurd (true≢false (sym h ∙ ap is_some (get-where_key-out x.handles (λ i. not (i == v)) j (ap not here))))
+    | inr other ↦ t.values j (sym (ap is_some (get-where_key-in x.handles (λ i. not (i == v)) j (ap not other))) ∙ h)
+  ];
+  free = λ j e. rw (← same_Some v j e) (t.values v there, ap is_some (get-where_key-out x.handles (λ i. not (i == v)) v (ap not (eq-eqb v v refl))));
+  idle = λ h. absurd (true≢false (sym (rw (t.idle h).0 at there) ∙ no_key v));
+}
+
+by_process : (start after : World) (x y : Process) → ProcessChange start after x y → IsSoundTable (runs x.state) x.handles x.last → IsSoundTable (runs y.state) y.handles y.last
+by_process start after x y (handle_enters v e is may) t = rw is (handle_in start after x v e may t)
+by_process start after x y (handle_leaves v is) t = rw is (elim (cases_Bool (has_key x.handles v)) as (λ _. IsSoundTable (runs (process_without v x).state) (process_without v x).handles (process_without v x).last) [
+  | inl there ↦ rw there (handle_out x v there t)
+  | inr gone ↦ rw gone t
+])
+by_process start after x y (computes c is) t = rw is t
+by_process start after x y (ends code is) t = rw is (elim (cases_Bool (lives x.state)) as (λ _. IsSoundTable (runs (process_ended code x).state) (process_ended code x).handles (process_ended code x).last) [
+  | inl alive ↦ rw alive (empty_table false)
+  | inr over ↦ rw over t
+])
+by_process start after x y (wakes c is running) t = rw is (rw running at t)
+
+-- ---- a living process has its object
+
+lives_before : (start after : World) (x y : Process) → ProcessChange start after x y → IsTrue (lives y.state) → IsTrue (lives x.state)
+lives_before start after x y (handle_enters v e is may) h = rw is at h
+lives_before start after x y (handle_leaves v is) h = elim (cases_Bool (has_key x.handles v)) as (λ _. IsTrue (lives x.state)) [ inl there ↦ rw (is, there) at h | inr gone ↦ rw (is, gone) at h ]
+lives_before start after x y (computes c is) h = rw is at h
+lives_before start after x y (ends code is) h = elim (cases_Bool (lives x.state)) as (λ _. IsTrue (lives x.state)) [ inl alive ↦ alive | inr over ↦ absurd (true≢false (sym (rw (is, over) at h) ∙ over)) ]
+lives_before start after x y (wakes c is running) h = by_state x.state running
+  where
+    by_state : (s : State) → IsTrue (runs s) → IsTrue (lives s)
+    by_state Ready r = refl
+    by_state (Blocked a b) r = refl
+    by_state _ r = absurd (false≢true r)
+
+has_body : (o : Option Object) (b : Body) → body_in o ≡ Some b → IsTrue (is_some o)
+has_body None b e = absurd (none-some b e)
+has_body (Some o) b e = refl
+
+-- no change but settling takes away an object, or changes its body, but for a port
+body_stays : (start u v : World) → HasGivenKoids u → Change start u v → (k : ℕ) (b : Body) → ((packets : List Packet) → b ≡ PortBody packets → ⊥) → body_in (get u.objects k) ≡ Some b
+    → body_in (get v.objects k) ≡ Some b
+body_stays start u v given c k b no_port there = elim (c.objects k) as (λ _. body_in (get v.objects k) ≡ Some b) [
+  | same e ↦ ap body_in e ∙ there
+  | changed x y was is r ↦ ap body_in is ∙ by_change x y r (same_Some x.body b (rw was at there))
+  | new y is n ↦ let below : k < u.next_koid = given.below k (has_body (get u.objects k) b there) in absurd (omega (arith, n.next))
+]
+  where
+    by_change : (x y : Object) → ObjectChange start x y → x.body ≡ b → Some y.body ≡ Some b
+    by_change x y (signals_change clear set is may) e = rw is (ap Some e)
+    by_change x y (packets_change old packets port is) e = absurd (no_port old (sym e ∙ port))
+
+object_stays : (start u v : World) → HasGivenKoids u → Change start u v → (p : ℕ) → HasItsObject u.objects p → HasItsObject v.objects p
+object_stays start u v given c p (job, is, job_there) = (job, body_stays start u v given c p (ProcessBody job) (λ packets e. cc) is, by_job (body_in (get u.objects job)) refl job_there)
+  where
+    by_job : (o : Option Body) → body_in (get u.objects job) ≡ o → IsTrue (is_job_body o) → IsTrue (is_job_body (body_in (get v.objects job)))
+    by_job None at j = absurd (false≢true j)
+    by_job (Some b) at j = rw (body_stays start u v given c job b (λ packets e. false≢true (rw e at j)) at) j
+
+-- ---- raised signals
+
+inside : (w r s x : ℕ) → min w r ≡ r → min w s ≡ s → min w (max (min r x) s) ≡ max (min r x) s
+inside w r s x a b = omega arith
+
+within_changed : (raised clear set whole : ℕ) → IsTrue (within raised whole) → IsTrue (within set whole) → IsTrue (within (signals_changed raised clear set) whole)
+within_changed raised clear set whole old fresh = eq-eqb _ _ (same_from_bits _ _ by_bit)
+  where
+    bit_of : (n : ℕ) → IsTrue (within n whole) → (i : ℕ) → min (bit_at whole i) (bit_at n i) ≡ bit_at n i
+    bit_of n h i = sym (bit_at_and whole n i) ∙ ap (λ (m : ℕ). bit_at m i) (eqb-true (bit_and whole n) n h)
+
+    bits : (i : ℕ) → bit_at (signals_changed raised clear set) i ≡ max (min (bit_at raised i) (bit_at (bit_xor clear 0xffff_ffff) i)) (bit_at set i)
+    bits i = bit_at_or (bit_and raised (bit_xor clear 0xffff_ffff)) set i ∙ ap (λ (m : ℕ). max m (bit_at set i)) (bit_at_and raised (bit_xor clear 0xffff_ffff) i)
+
+    by_bit : (i : ℕ) → bit_at (bit_and whole (signals_changed raised clear set)) i ≡ bit_at (signals_changed raised clear set) i
+    by_bit i =
+        bit_at_and whole (signals_changed raised clear set) i ∙ (ap (λ (m : ℕ). min (bit_at whole i) m) (bits i)
+        ∙ (inside (bit_at whole i) (bit_at raised i) (bit_at set i) (bit_at (bit_xor clear 0xffff_ffff) i) (bit_of raised old i) (bit_of set fresh i) ∙ sym (bits i)))
+
+by_object : (start : World) (x y : Object) → IsSound start → ObjectChange start x y → IsTrue (within x.raised (raisable x.body)) → IsTrue (within y.raised (raisable y.body))
+by_object start x y s (signals_change clear set is may) t = rw is (within_changed x.raised clear set (raisable x.body) t (may s.handles s.named))
+by_object start x y s (packets_change old packets port is) t = rw is (rw port at t)
+
+pub none_raised : (whole : ℕ) → IsTrue (within 0 whole)
+none_raised whole = eq-eqb _ _ (same_from_bits _ _ (λ i. bit_at_and whole 0 i ∙ (ap (λ (m : ℕ). min (bit_at whole i) m) (bit_at-zero i) ∙ (nothing (bit_at whole i) ∙ sym (bit_at-zero i)))))
+  where
+    nothing : (n : ℕ) → min n 0 ≡ 0
+    nothing n = omega arith
+
+-- ---- a change
+
+pub kept_by_change : (start u v : World) → IsSound start → Change start u v → IsSound u → IsSound v
+kept_by_change start u v before c s = record {
+  handles = sound_change start u v before.handles c s.handles;
+  named = named_change start u v before.named s.objects c s.named;
+  objects = given_change start u v c s.objects;
+  processes = λ p h. elim (c.processes p) as (λ _. p < v.next_koid) [
+    | same e ↦ let below : p < u.next_koid = s.processes p (rw e at h) in omega (arith, c.next_koid)
+    | changed x y was is r ↦ let below : p < u.next_koid = s.processes p (ap is_some was) in omega (arith, c.next_koid)
+    | new y is n ↦ n.given
+  ];
+  tables = each_changed _ _ (λ k q. IsSoundTable (runs q.state) q.handles q.last) u.processes v.processes c.processes (λ k x y. by_process start v x y) (λ k y n. rw (n.empty, n.nothing_last) (empty_table (runs y.state))) s.tables;
+  living = each_changed _ _ (λ k q. IsTrue (lives q.state) → HasItsObject v.objects k) u.processes v.processes c.processes (λ k x y r has alive. has (lives_before start v x y r alive)) (λ k y n alive. n.object before)
+      (λ p q there alive. object_stays start u v s.objects c p (s.living p q there alive));
+  blocked = λ p. elim (c.blocked before p) as (λ _. length (filter (λ q. q == p) v.blocked) ≡ (if is_process v is_blocked p then 1 else 0)) [
+    | still count state ↦ count ∙ (s.blocked p ∙ ap (λ (b : Bool). if b then 1 else 0) (sym state))
+    | awake count state ↦ count ∙ rw state refl
+  ];
+  raised = each_changed _ _ (λ k o. IsTrue (within o.raised (raisable o.body))) u.objects v.objects c.objects (λ k x y. by_object start x y before) (λ k y n. rw n.unraised (none_raised (raisable y.body))) s.raised;
+}
+
+-- ---- settling
+
+settled_state : (b : Bool) (s : State) → (runs (state_without b s) ≡ runs s) × (is_blocked (state_without b s) ≡ is_blocked s)
+settled_state true Created = (refl, refl)
+settled_state false Created = (refl, refl)
+settled_state b _ = (refl, refl)
+
+-- what lives after settling did so before, and its object is kept
+module _ (u : World) (K : Koids) (largest : IsLargestHeld u K) (p : ℕ) (x : Process) (there : get u.processes p ≡ Some x) where
+  lives_kept : (IsTrue (lives x.state) → IsTrue (has_key u.objects p)) → IsTrue (lives (state_without (K p) x.state)) → IsTrue (lives x.state) × IsTrue (K p)
+  unfolding is_held is_process
+  lives_kept here = by_state x.state refl
+    where
+      held : (s : State) → x.state ≡ s → IsTrue (lives s) → IsTrue (runs s) → IsTrue (K p)
+      held s is living running =
+          let runs_there : IsTrue (is_process u runs p) = rw (there, is) running in
+          held_is_kept u K largest p (and_from (has_key u.objects p) _ (here (rw is living)) (or_left _ (has_living_child u K p) (or_right (in_table u p || in_queue u K p) _ runs_there)))
+
+      if_kept : (b : Bool) → IsTrue (lives (if b then Created else Gone)) → IsTrue b
+      if_kept true h = refl
+      if_kept false h = h
+
+      by_state : (s : State) → x.state ≡ s → IsTrue (lives (state_without (K p) s)) → IsTrue (lives s) × IsTrue (K p)
+      by_state Created is h = (refl, if_kept (K p) h)
+      by_state Ready is h = (refl, held Ready is refl refl)
+      by_state (Blocked a b) is h = (refl, held (Blocked a b) is refl refl)
+      by_state _ is h = absurd (false≢true h)
+
+  -- so is the job of a kept process that lives
+  job_kept : (job : ℕ) (o : Object) → get u.objects p ≡ Some o → o.body ≡ ProcessBody job → IsTrue (has_key u.objects job) → IsTrue (lives x.state) → IsTrue (K p) → IsTrue (K job)
+  unfolding is_held has_living_child is_process
+  job_kept job o at is job_there alive kept_p =
+      held_is_kept u K largest job (and_from _ _ job_there (or_right _ _ (list_any-get _ u.objects p o at
+      (and_from (K p) _ kept_p (rw (is, there, eq-eqb job job refl) alive)))))
+
+object_kept : (u : World) (K : Koids) → IsLargestHeld u K → IsSound u → (p : ℕ) (x : Process) → get u.processes p ≡ Some x → IsTrue (lives (state_without (K p) x.state)) → HasItsObject (where_key K u.objects) p
+object_kept u K largest s p x there alive =
+    let both = lives_kept u K largest p x there (λ h. let has = s.living p x there h in has_body (get u.objects p) (ProcessBody has.0) has.1) alive in
+    let (job, is, job_there) = s.living p x there both.0 in
+    let kept_job : IsTrue (K job) = by_object job (get u.objects p) refl is job_there both in
+    (job, ap body_in (get-where_key-in u.objects K p both.1) ∙ is, rw (get-where_key-in u.objects K job kept_job) job_there)
+  where
+    by_object : (job : ℕ) (o : Option Object) → get u.objects p ≡ o → body_in o ≡ Some (ProcessBody job) → IsTrue (is_job_body (body_in (get u.objects job))) → IsTrue (lives x.state) × IsTrue (K p) → IsTrue (K job)
+    by_object job None at is job_there both = absurd (none-some _ is)
+    by_object job (Some o) at is job_there both = job_kept u K largest p x there job o at (same_Some o.body (ProcessBody job) is) (job_is_there (get u.objects job) job_there) both.0 both.1
+
+pub kept_by_settling : (u v : World) → Settles u v → IsSound u → IsSound v
+unfolding without_others is_process
+kept_by_settling u v (K, largest, e) s = rw e (record {
+  handles = sound_settled u (without_others u K) (K, largest, refl) s.handles;
+  named = named_settled u (without_others u K) (K, largest, refl) s.named;
+  objects = given_settled u (without_others u K) (K, largest, refl) s.objects;
+  processes = λ p h. s.processes p (some_before p (get u.processes p) (sym (ap is_some (get-each u.processes (process_settled K) p)) ∙ h));
+  tables = each_changed _ _ (λ k q. IsSoundTable (runs q.state) q.handles q.last) u.processes _ all (λ k x y is t. rw (is, (settled_state (K k) x.state).0) t) (λ k y none. absurd none) s.tables;
+  living = λ p q there. by_process p q (get u.processes p) refl (sym (get-each u.processes (process_settled K) p) ∙ there);
+  blocked = λ p. s.blocked p ∙ ap (λ (b : Bool). if b then 1 else 0) (sym (ap (state_passes is_blocked) (get-each u.processes (process_settled K) p) ∙ blocked_before p (get u.processes p)));
+  raised = each_where_key (λ o. IsTrue (within o.raised (raisable o.body))) u.objects s.raised K;
+})
+  where
+    all : EachChanged (λ k x y. y ≡ process_settled K k x) (λ k y. ⊥) u.processes (each (process_settled K) u.processes)
+    all = changed_each _ _ u.processes (process_settled K) (λ k x. changed x _ refl refl refl)
+
+    some_before : (p : ℕ) (o : Option Process) → IsTrue (is_some (option_map (process_settled K p) o)) → IsTrue (is_some o)
+    some_before p None h = h
+    some_before p (Some x) h = refl
+
+    blocked_before : (p : ℕ) (o : Option Process) → state_passes is_blocked (option_map (process_settled K p) o) ≡ state_passes is_blocked o
+    blocked_before p None = refl
+    blocked_before p (Some x) = (settled_state (K p) x.state).1
+
+    by_process : (p : ℕ) (q : Process) (o : Option Process) → get u.processes p ≡ o → option_map (process_settled K p) o ≡ Some q → IsTrue (lives q.state) → HasItsObject (where_key K u.objects) p
+    by_process p q None was is alive = absurd (none-some q is)
+    by_process p q (Some x) was is alive = object_kept u K largest s p x was (rw (← same_Some (process_settled K p x) q is) at alive)

@@ -1,0 +1,136 @@
+-- What steps keep, along runs and histories from a boot world.
+use Rattle.std.proofs.Common.{◌≡◌, ◌<◌, arith, inl, inr, ℕ, ◌==◌, List, [], ◌∷◌, refl, sym, subst, ◌∙◌, IsTrue, Option, Some, None}
+use Rattle.std.specs.Prelude.{is_some}
+use Rattle.std.specs.List.{list_all, flat_map}
+use Rattle.std.proofs.lemmas.Bool.{cases_Bool, eqb-true, false≢true}
+use Rattle.std.proofs.lemmas.Option.{none-some, same_Some}
+use Rattle.zl_rights.specs.Numbers.{within}
+use Rattle.zl_rights.specs.Map.{get}
+use Rattle.zl_rights.specs.World.{World, Object}
+use Rattle.zl_rights.specs.Signals.{is_process}
+use Rattle.zl_rights.specs.Settle.{queue_of}
+use Rattle.zl_code.specs.declared.boot.Statement.{Statement}
+use Rattle.zl_code.specs.declared.history.TraceItem.{TraceItem}
+use Rattle.zl_code.specs.Image.{Library}
+use Rattle.zl_code.specs.Steps.{Step, Runs, pid_of, single, IsLegalHistory}
+use Rattle.zl_code.specs.Boot.{Boots, IsBoot, boot_effect, origin}
+use Rattle.zl_code.specs.Koids.{HasGivenKoids, KeepsKoids}
+use Rattle.zl_code.specs.Handles.{has_default_rights, names_its_object, HandlesAreSound, HandlesAreNamed, Throughout}
+use Rattle.zl_code.specs.Sound.{raisable, IsSound, KeepsProcesses}
+use Rattle.zl_code.proofs.Changes.{Changes, kept}
+use Rattle.zl_code.proofs.StepChanges.{step_changes, boot_changes}
+use Rattle.zl_code.proofs.HandlesKept.{sound_change, sound_settled}
+use Rattle.zl_code.proofs.NamesKept.{QueueNames, no_queue, named_change, named_settled}
+use Rattle.zl_code.proofs.NotReused.{Keeps, nothing_changed, follows, koids_kept, Keeps-KeepsKoids, given_still, given_change, given_settled, stay_then, processes_kept}
+use Rattle.zl_code.proofs.SoundKept.{none_raised, kept_by_change, kept_by_settling}
+
+-- ---- what each step keeps
+
+module _ (P : World → Type 0) (keeps : (lib : Library) (w : World) (p : ℕ) (x : TraceItem) (after : World) → P w → Step lib w p x after → P after) where
+  run_keeps : (lib : Library) (w : World) (items : List TraceItem) (after : World) → P w → Runs lib w items after → P after
+  run_keeps lib w [] after s e = rw e s
+  run_keeps lib w (x ∷ items) after s (mid, step, rest) = run_keeps lib mid items after (keeps lib w (pid_of x) x mid s step) rest
+
+  throughout : (lib : Library) (w : World) (items : List TraceItem) (after : World) → P w → (run : Runs lib w items after) → Throughout P lib w items after run
+  throughout lib w [] after s e = s
+  throughout lib w (x ∷ items) after s (mid, step, rest) = (s, throughout lib mid items after (keeps lib w (pid_of x) x mid s step) rest)
+
+weaker : (P Q : World → Type 0) → ((w : World) → P w → Q w) → (lib : Library) (w : World) (items : List TraceItem) (after : World) (run : Runs lib w items after)
+    → Throughout P lib w items after run → Throughout Q lib w items after run
+weaker P Q more lib w [] after e s = more w s
+weaker P Q more lib w (x ∷ items) after (mid, step, rest) s = (more w s.0, weaker P Q more lib mid items after rest s.1)
+
+-- ---- koids and handles of a step
+
+pub step_keeps_koids : (lib : Library) (w : World) (p : ℕ) (x : TraceItem) (after : World) → HasGivenKoids w → Step lib w p x after → KeepsKoids w after
+step_keeps_koids lib w p x after given step = Keeps-KeepsKoids w after given (koids_kept w w after (step_changes lib w p x after step))
+
+pub step_given : (lib : Library) (w : World) (p : ℕ) (x : TraceItem) (after : World) → HasGivenKoids w → Step lib w p x after → HasGivenKoids after
+step_given lib w p x after given step = given_still w after given (koids_kept w w after (step_changes lib w p x after step))
+
+pub step_handles_sound : (lib : Library) (w : World) (p : ℕ) (x : TraceItem) (after : World) → HandlesAreSound w → Step lib w p x after → HandlesAreSound after
+step_handles_sound lib w p x after s step = kept w HandlesAreSound (λ u v. sound_change w u v s) sound_settled w after (step_changes lib w p x after step) s
+
+pub step_handles_named : (lib : Library) (w : World) (p : ℕ) (x : TraceItem) (after : World) → HasGivenKoids w → HandlesAreNamed w → Step lib w p x after → HandlesAreNamed after
+step_handles_named lib w p x after given s step =
+    (kept w (λ u. HasGivenKoids u × HandlesAreNamed u)
+    (λ u v c both. (given_change w u v c both.0, named_change w u v s both.0 c both.1))
+    (λ u v c both. (given_settled u v c both.0, named_settled u v c both.1)) w after (step_changes lib w p x after step) (given, s)).1
+
+-- ---- sound worlds
+
+changes_keep_sound : (u v : World) → Changes u u v → IsSound u → IsSound v
+changes_keep_sound u v c s = kept u IsSound (λ a b d. kept_by_change u a b s d) kept_by_settling u v c s
+
+pub step_sound : (lib : Library) (w : World) (p : ℕ) (x : TraceItem) (after : World) → IsSound w → Step lib w p x after → IsSound after
+step_sound lib w p x after s step = changes_keep_sound w after (step_changes lib w p x after step) s
+
+boots_sound : (lib : Library) (w : World) (statements : List Statement) (after : World) → IsSound w → Boots lib w statements after → IsSound after
+boots_sound lib w [] after s e = rw e s
+boots_sound lib w (st ∷ statements) after s (fine, rest) = boots_sound lib (boot_effect lib w st) statements after (changes_keep_sound w (boot_effect lib w st) (boot_changes lib w st fine) s) rest
+
+-- the root job is alone in the world where a boot begins
+root_alone : (P : ℕ → Object → Type 0) → ((o : Object) → o.raised ≡ 0 → queue_of o.body ≡ [] → P 1 o) → (k : ℕ) (o : Object) → get origin.objects k ≡ Some o → P k o
+unfolding get
+root_alone P root k o there = elim (cases_Bool (1 == k)) as (λ _. P k o) [
+  | inl here ↦
+      let is = same_Some _ o (rw here at there) in
+      subst (λ j. P j o) (eqb-true 1 k here) (root o (subst (λ (x : Object). x.raised ≡ 0) is refl) (subst (λ (x : Object). queue_of x.body ≡ []) is refl))
+  | inr other ↦ absurd (none-some o (rw other at there))
+]
+
+origin_is_sound : IsSound origin
+unfolding get is_process
+origin_is_sound = record {
+  handles = record {
+    processes = refl;
+    objects = refl;
+    places = λ p q there. absurd (none-some q there);
+    rights = λ p v q e there at. absurd (none-some q there);
+    queued = root_alone (λ k o. IsTrue (list_all (λ m. list_all has_default_rights m.handles) (queue_of o.body))) (λ o raised quiet. rw quiet refl);
+  };
+  named = record {
+    tables = λ p v q e there at. absurd (none-some q there);
+    queues = root_alone (λ k. QueueNames origin.objects) (λ o raised quiet. no_queue origin.objects o.body quiet);
+  };
+  objects = record { below = λ k there. by_object k (get origin.objects k) refl there };
+  processes = λ p there. absurd (false≢true there);
+  tables = λ p q there. absurd (none-some q there);
+  living = λ p q there. absurd (none-some q there);
+  blocked = λ p. refl;
+  raised = root_alone (λ k o. IsTrue (within o.raised (raisable o.body))) (λ o raised quiet. rw raised (none_raised (raisable o.body)));
+}
+  where
+    by_object : (k : ℕ) (o : Option Object) → get origin.objects k ≡ o → IsTrue (is_some o) → k < 2
+    by_object k None is h = absurd (false≢true h)
+    by_object k (Some o) is h = root_alone (λ j x. j < 2) (λ x raised quiet. omega arith) k o is
+
+pub boot_sound : (lib : Library) (statements : List Statement) (w : World) → IsBoot lib statements w → IsSound w
+boot_sound lib statements w boot = kept_by_settling boot.made w boot.settles (boots_sound lib origin statements boot.made origin_is_sound boot.boots)
+
+-- ---- runs and histories from a boot world
+
+pub run_sound : (lib : Library) (statements : List Statement) (boot after : World) (items : List TraceItem) → IsBoot lib statements boot → Runs lib boot items after → IsSound after
+run_sound lib statements boot after items is_boot run = run_keeps IsSound step_sound lib boot items after (boot_sound lib statements boot is_boot) run
+
+-- what every sound world has is true of every world of a legal history
+pub history_keeps : (Q : World → Type 0) → ((w : World) → IsSound w → Q w) → (lib : Library) (statements : List Statement) (boot after : World) (history : List TraceItem) → IsBoot lib statements boot
+    → (legal : IsLegalHistory lib boot history after) → Throughout Q lib boot (flat_map single history) after legal.run × Q after
+history_keeps Q of_sound lib statements boot after history is_boot legal = (
+  weaker IsSound Q of_sound lib boot (flat_map single history) after legal.run (throughout IsSound step_sound lib boot (flat_map single history) after (boot_sound lib statements boot is_boot) legal.run),
+  of_sound after (run_sound lib statements boot after (flat_map single history) is_boot legal.run),
+)
+
+pub runs_keep_koids : (lib : Library) (statements : List Statement) (boot w after : World) (items more : List TraceItem) → IsBoot lib statements boot → Runs lib boot items w → Runs lib w more after → KeepsKoids w after
+runs_keep_koids lib statements boot w after items more is_boot first second =
+    Keeps-KeepsKoids w after (run_sound lib statements boot w items is_boot first).objects
+    (run_keeps (Keeps w) (λ l u p x v k step. follows w u v k (koids_kept u u v (step_changes l u p x v step))) lib w more after (nothing_changed w) second)
+
+pub step_keeps_processes : (lib : Library) (w : World) (p : ℕ) (x : TraceItem) (after : World) → IsSound w → Step lib w p x after → KeepsProcesses w after
+step_keeps_processes lib w p x after s step = processes_kept w w after s (step_changes lib w p x after step)
+
+pub runs_keep_processes : (lib : Library) (statements : List Statement) (boot w after : World) (items more : List TraceItem) → IsBoot lib statements boot → Runs lib boot items w → Runs lib w more after → KeepsProcesses w after
+runs_keep_processes lib statements boot w after items more is_boot first second =
+    (run_keeps (λ u. IsSound u × KeepsProcesses w u)
+    (λ l u p x v both step. (step_sound l u p x v both.0 step, stay_then w u v both.1 (step_keeps_processes l u p x v both.0 step)))
+    lib w more after (run_sound lib statements boot w items is_boot first, (λ p q there. (q, there, refl))) second).1

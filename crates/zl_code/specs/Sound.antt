@@ -1,0 +1,65 @@
+-- What is true of every world of a run from a boot world, and what no step changes of a process.
+use Rattle.std.specs.Prelude.{ℕ, ◌≡◌, ◌≤◌, ◌<◌, Bool, true, false, ◌&&◌, ◌==◌, nat_lt, List, [], length, Option, Some, None, if◌then◌else◌, IsTrue}
+use Rattle.std.specs.List.{filter}
+use Rattle.zl_rights.specs.declared.entry.Entry.{Entry}
+use Rattle.zl_rights.specs.Numbers.{within}
+use Rattle.zl_rights.specs.Map.{Map, get, has_key}
+use Rattle.zl_rights.specs.World.{World, Process, State, Blocked, Object, Body, PortBody, ProcessBody}
+use Rattle.zl_rights.specs.Signals.{lives, runs, is_process}
+use Rattle.zl_code.specs.Tests.{body_in}
+use Rattle.zl_code.specs.Refusals.{settable_of}
+use Rattle.zl_code.specs.Boot.{is_job_body}
+use Rattle.zl_code.specs.Koids.{HasGivenKoids}
+use Rattle.zl_code.specs.Handles.{HandlesAreSound, HandlesAreNamed}
+
+-- a value that a handle may have: 16 bits, and not 0
+abbrev pub is_value : ℕ → Bool
+is_value v = nat_lt 0 v && nat_lt v 65536
+
+-- What is true of a table and of the value that was removed last from it; running says that its process runs.
+pub record IsSoundTable (running : Bool) (handles : Map Entry) (last : Option ℕ) : Type 0 where
+  -- at most 1,024 handles
+  pub few : length handles ≤ 1024
+  -- they stand at values of 16 bits, none of them 0
+  pub values : (v : ℕ) → IsTrue (has_key handles v) → IsTrue (is_value v)
+  -- the value removed last is such a value, and no handle has it
+  pub free : (v : ℕ) → last ≡ Some v → IsTrue (is_value v) × (has_key handles v ≡ false)
+  -- a process that was not started, or is over, has no handle and no such value
+  pub idle : running ≡ false → (handles ≡ []) × (last ≡ None)
+
+-- the process waits within a call
+abbrev pub is_blocked : State → Bool
+is_blocked (Blocked awaited destinations) = true
+is_blocked _ = false
+
+-- p is the koid of a process object, in a job that is there
+abbrev pub HasItsObject : Map Object → ℕ → Type 0
+HasItsObject objects p = (job : ℕ) × (body_in (get objects p) ≡ Some (ProcessBody job)) × IsTrue (is_job_body (body_in (get objects job)))
+
+-- the signals that may be raised at an object: none at a port, else those that calls may set
+abbrev pub raisable : Body → ℕ
+raisable (PortBody packets) = 0
+raisable b = settable_of (Some b)
+
+-- What is true of every world of a run from a boot world.
+pub record IsSound (w : World) : Type 0 where
+  -- each handle has a place of its own, and rights that a first handle of its kind has
+  pub handles : HandlesAreSound w
+  -- each handle names an object that is there, of its kind
+  pub named : HandlesAreNamed w
+  -- each object has a koid that was given
+  pub objects : HasGivenKoids w
+  -- so has each process
+  pub processes : (p : ℕ) → IsTrue (has_key w.processes p) → p < w.next_koid
+  -- the tables of processes
+  pub tables : (p : ℕ) (q : Process) → get w.processes p ≡ Some q → IsSoundTable (runs q.state) q.handles q.last
+  -- a process that lives has its object, in a job that is there
+  pub living : (p : ℕ) (q : Process) → get w.processes p ≡ Some q → IsTrue (lives q.state) → HasItsObject w.objects p
+  -- the list of the blocked has each blocked process once, and nothing else
+  pub blocked : (p : ℕ) → length (filter (λ q. q == p) w.blocked) ≡ (if is_process w is_blocked p then 1 else 0)
+  -- no signal is raised that no call could have set
+  pub raised : (k : ℕ) (o : Object) → get w.objects k ≡ Some o → IsTrue (within o.raised (raisable o.body))
+
+-- each process of w is one of w2, with the same program
+abbrev pub KeepsProcesses : World → World → Type 0
+KeepsProcesses w w2 = (p : ℕ) (q : Process) → get w.processes p ≡ Some q → (after : Process) × (get w2.processes p ≡ Some after) × (after.program ≡ q.program)

@@ -70,7 +70,8 @@ impl World {
         ensures limit { OnOk result (boot.now.limit ≤ MOST_ITEMS) }
         ensures err { IfErr result (λ fault. fault.cause ≢ NoMemory
             → FirstFault library boot.now.statements.items boot.now.limit fault.statement fault.cause) }
-        ensures reached { IfErr result (λ fault. IsReached library boot.now.statements.items fault.statement) }
+        ensures reached { IfErr result (λ fault. fault.cause ≡ NoMemory
+            → IsReached library boot.now.statements.items fault.statement) }
     {
         let Made { processes, objects } = booted(alloc, &library, boot)?;
         Ok(World {

@@ -334,14 +334,14 @@ throughout lib w (x ∷ items) w2 (mid, step, rest) s = (s, throughout lib mid i
 
 -- ---- boot
 
-boot_effect_keeps : (lib : Library) (w : World) (st : Statement) → IsSound w → IsSound (boot_effect lib w st)
+boot_effect_keeps : (lib : Library) (w : World) (st : Statement) (vs : List ℕ) → IsSound w → IsSound (boot_effect lib w st vs)
 unfolding boot_effect
-boot_effect_keeps lib w (statement.Process job program word) s =
+boot_effect_keeps lib w (statement.Process job program word) vs s =
     process_is_put (with_object w (ProcessBody job)) w.next_koid _ empty_table (object_is_made w (ProcessBody job) refl s)
 
 boots_keep : (lib : Library) (w : World) (sts : List Statement) (w2 : World) → Boots lib w sts w2 → IsSound w → IsSound w2
 boots_keep lib w [] w2 e s = rw e s
-boots_keep lib w (st ∷ sts) w2 (fine, rest) s = boots_keep lib (boot_effect lib w st) sts w2 rest (boot_effect_keeps lib w st s)
+boots_keep lib w (st ∷ sts) w2 (vs, fine, may, rest) s = boots_keep lib (boot_effect lib w st vs) sts w2 rest (boot_effect_keeps lib w st vs s)
 
 origin_is_sound : IsSound origin
 unfolding get

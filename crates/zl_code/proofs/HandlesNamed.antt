@@ -278,16 +278,16 @@ bare_named w b = joined w (record {
   queues = λ k o there. no_queue w.objects o.body (b.queues k o there);
 })
 
-boot_effect_bare : (lib : Library) (w : World) (st : Statement) → IsBare w → IsBare (boot_effect lib w st)
+boot_effect_bare : (lib : Library) (w : World) (st : Statement) (vs : List ℕ) → IsBare w → IsBare (boot_effect lib w st vs)
 unfolding boot_effect with_object
-boot_effect_bare lib w (statement.Process job program word) b = record {
+boot_effect_bare lib w (statement.Process job program word) vs b = record {
   tables = each_put (λ q. q.handles ≡ []) w.processes b.tables w.next_koid _ refl;
   queues = each_put (λ o. queue_of o.body ≡ []) w.objects b.queues w.next_koid _ refl;
 }
 
 boots_bare : (lib : Library) (w : World) (sts : List Statement) (w2 : World) → Boots lib w sts w2 → IsBare w → IsBare w2
 boots_bare lib w [] w2 e b = rw e b
-boots_bare lib w (st ∷ sts) w2 (fine, rest) b = boots_bare lib (boot_effect lib w st) sts w2 rest (boot_effect_bare lib w st b)
+boots_bare lib w (st ∷ sts) w2 (vs, fine, may, rest) b = boots_bare lib (boot_effect lib w st vs) sts w2 rest (boot_effect_bare lib w st vs b)
 
 origin_is_bare : IsBare origin
 unfolding get

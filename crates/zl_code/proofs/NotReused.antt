@@ -308,14 +308,14 @@ Step-HasGivenKoids lib w p x w2 given step = given_still w w2 given (step_keeps 
 
 -- ---- boot
 
-boot_effect_keeps : (lib : Library) (w : World) (s : Statement) → Keeps w (boot_effect lib w s)
+boot_effect_keeps : (lib : Library) (w : World) (s : Statement) (vs : List ℕ) → Keeps w (boot_effect lib w s vs)
 unfolding boot_effect
-boot_effect_keeps lib w (statement.Process job program word) =
+boot_effect_keeps lib w (statement.Process job program word) vs =
     follows w (with_object w (ProcessBody job)) _ (object_is_made w (ProcessBody job)) (same_objects (with_object w (ProcessBody job)) _ refl refl)
 
 boots_keep : (lib : Library) (w : World) (ss : List Statement) (w2 : World) → Boots lib w ss w2 → Keeps w w2
 boots_keep lib w [] w2 e = rw e (same_objects w w refl refl)
-boots_keep lib w (s ∷ ss) w2 (fine, rest) = follows w (boot_effect lib w s) w2 (boot_effect_keeps lib w s) (boots_keep lib (boot_effect lib w s) ss w2 rest)
+boots_keep lib w (s ∷ ss) w2 (vs, fine, may, rest) = follows w (boot_effect lib w s vs) w2 (boot_effect_keeps lib w s vs) (boots_keep lib (boot_effect lib w s vs) ss w2 rest)
 
 origin_given : HasGivenKoids origin
 unfolding get

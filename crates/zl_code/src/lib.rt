@@ -9,6 +9,7 @@
 #![tactic(auto)]
 
 mod boot;
+pub mod boot_laws;
 mod building;
 mod declarations;
 mod decoding;

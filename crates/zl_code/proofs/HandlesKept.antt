@@ -23,7 +23,7 @@ use Rattle.zl_code.specs.declared.history.TraceItem.{TraceItem}
 use Rattle.zl_code.specs.Image.{Library}
 use Rattle.zl_code.specs.Request.{Site, Request, close, dup, event_create, signal, process_exit}
 use Rattle.zl_code.specs.Tests.{handles_in, entry_at, object_at, copy_of, with_rights}
-use Rattle.zl_code.specs.Effects.{on_process, on_object, insert_all, remove_all, with_object, process_with, process_without, process_ended, ended, effect, gives, taken_handles, new_handles, object_changed}
+use Rattle.zl_code.specs.Effects.{on_process, on_object, insert_all, remove_all, with_object, process_with, process_without, process_ended, ended, effect, with_effect, gives_ok, gives_refused, taken_handles, new_handles, object_changed}
 use Rattle.zl_code.specs.Calls.{replied, taken, after_refusal, after_ok, ok_outcome, Choice, Refused, WantsMemory, Values, CallBy}
 use Rattle.zl_code.specs.Steps.{Next, Moves, AtCall, IsStuck, next_for, Acts, Step, Runs, pid_of, single, IsLegalHistory}
 use Rattle.zl_code.specs.Boot.{Boots, IsBoot, boot_effect, origin}
@@ -193,20 +193,22 @@ new_handles_are_fine w p (process_exit code) s = refl
 
 -- ---- calls
 
-effect_keeps : (lib : Library) (w u : World) (p : ℕ) (r : Request) (vs : List ℕ) → IsSound w → IsSound u → IsSound (effect lib w u p r vs)
+effect_keeps : (lib : Library) (w u : World) (p : ℕ) (r : Request) → IsSound u → IsSound (effect lib w u p r)
 unfolding effect
-effect_keeps lib w u p (close h) vs s t = t
-effect_keeps lib w u p (dup h rights) vs s t = handles_enter u p (new_handles w p (dup h rights)) vs (new_handles_are_fine w p (dup h rights) s) t
-effect_keeps lib w u p event_create vs s t =
-    object_is_made (insert_all u p (new_handles w p event_create) vs) EventBody refl (handles_enter u p (new_handles w p event_create) vs (new_handles_are_fine w p event_create s) t)
-effect_keeps lib w u p (signal h clear set) vs s t = object_is_signaled u (object_at w p h) clear set t
-effect_keeps lib w u p (process_exit code) vs s t = t
+effect_keeps lib w u p (close h) t = t
+effect_keeps lib w u p (dup h rights) t = t
+effect_keeps lib w u p event_create t = object_is_made u EventBody refl t
+effect_keeps lib w u p (signal h clear set) t = object_is_signaled u (object_at w p h) clear set t
+effect_keeps lib w u p (process_exit code) t = t
+
+all_keeps : (lib : Library) (w u : World) (p : ℕ) (r : Request) (vs : List ℕ) → IsSound w → IsSound u → IsSound (with_effect lib w u p r vs)
+all_keeps lib w u p r vs s t = handles_enter (effect lib w u p r) p (new_handles w p r) vs (new_handles_are_fine w p r s) (effect_keeps lib w u p r t)
 
 taken_keeps : (w : World) (p : ℕ) (site : Site) → IsSound w → IsSound (taken w p site)
 taken_keeps w p site s = handles_leave w p (taken_handles site.request) s
 
 refusal_keeps : (w : World) (p : ℕ) (site : Site) (o : Outcome) → IsSound w → IsSound (after_refusal w p site o)
-refusal_keeps w p site (outcome.Answered answer) s = call_replies (taken w p site) p site answer (gives w p site.request answer []) (taken_keeps w p site s)
+refusal_keeps w p site (outcome.Answered answer) s = call_replies (taken w p site) p site answer (gives_refused w p site.request answer) (taken_keeps w p site s)
 refusal_keeps w p site (outcome.Ended code) s = process_ends w p code s
 refusal_keeps w p site outcome.Blocked s = s
 
@@ -214,13 +216,13 @@ ok_keeps : (lib : Library) (w : World) (p : ℕ) (site : Site) (vs : List ℕ) (
 ok_keeps lib w p site vs o s = by_outcome o
   where
     done : World
-    done = effect lib w (taken w p site) p site.request vs
+    done = with_effect lib w (taken w p site) p site.request vs
 
     done_keeps : IsSound done
-    done_keeps = effect_keeps lib w (taken w p site) p site.request vs s (taken_keeps w p site s)
+    done_keeps = all_keeps lib w (taken w p site) p site.request vs s (taken_keeps w p site s)
 
     by_outcome : (o : Outcome) → IsSound (after_ok lib w p site vs o)
-    by_outcome (outcome.Answered answer) = call_replies done p site status.Ok (gives w p site.request status.Ok vs) done_keeps
+    by_outcome (outcome.Answered answer) = call_replies done p site status.Ok (gives_ok w p site.request vs) done_keeps
     by_outcome (outcome.Ended code) = process_ends done p code done_keeps
     by_outcome outcome.Blocked = s
 

@@ -25,7 +25,7 @@ use Rattle.zl_code.specs.declared.history.TraceItem.{TraceItem}
 use Rattle.zl_code.specs.Image.{Library}
 use Rattle.zl_code.specs.Request.{Site, Request, close, dup, event_create, signal, process_exit}
 use Rattle.zl_code.specs.Tests.{handles_in, entry_at, object_at, copy_of, with_rights}
-use Rattle.zl_code.specs.Effects.{on_process, on_object, insert_all, with_object, ended, effect, gives, taken_handles, new_entry, new_handles, object_changed}
+use Rattle.zl_code.specs.Effects.{on_process, on_object, insert_all, with_object, ended, effect, with_effect, gives_ok, gives_refused, taken_handles, new_entry, new_handles, object_changed}
 use Rattle.zl_code.specs.Calls.{replied, taken, after_refusal, after_ok, ok_outcome, Choice, Refused, WantsMemory, Values, CallBy}
 use Rattle.zl_code.specs.Steps.{Next, Moves, AtCall, IsStuck, next_for, Acts, Step, Runs, pid_of, single, IsLegalHistory}
 use Rattle.zl_code.specs.Boot.{Boots, IsBoot, boot_effect, origin}
@@ -70,39 +70,35 @@ names_new w b k is = (record { body = b; raised = 0 }, get-put w.objects w.next_
 
 -- ---- calls
 
-event_is_created : (u : World) (p k : ℕ) (vs : List ℕ) → u.next_koid ≡ k → get u.objects u.next_koid ≡ None → IsNamed u → IsNamed (with_object (insert_all u p (new_entry k kind.Event ∷ []) vs) EventBody)
-event_is_created u p k vs is free s = object_is_made m v EventBody refl entered
-  where
-    v : World
-    v = insert_all u p (new_entry k kind.Event ∷ []) vs
-
-    m : Map Object
-    m = (with_object v EventBody).objects
-
-    aside : IsAside u v
-    aside = enter_aside u p (new_entry k kind.Event ∷ []) vs
-
-    still : StillNamed u.objects m
-    still = subst (λ n. StillNamed n m) aside.objects (still_made v EventBody (rw (aside.objects, aside.next_koid) free))
-
-    entered : NamesIn m v
-    entered = handles_enter m u p (new_entry k kind.Event ∷ []) vs
-        (All-cons (names_its_object m) (new_entry k kind.Event) [] (names_new v EventBody k (aside.next_koid ∙ is)) (All-nil (names_its_object m)))
-        (grown u.objects m u still s)
-
 is_signaled : (u : World) (k clear set : ℕ) → IsNamed u → IsNamed (on_object u k (object_changed clear set))
 unfolding on_object
 is_signaled u k clear set s = object_is_signaled (update u.objects k (object_changed clear set)) u k clear set (grown u.objects (update u.objects k (object_changed clear set)) u (still_update u.objects k (object_changed clear set) (λ o. refl)) s)
 
-effect_keeps : (lib : Library) (w u : World) (p : ℕ) (r : Request) (vs : List ℕ) → IsAside w u → HasGivenKoids w → IsNamed w → IsNamed u → IsNamed (effect lib w u p r vs)
+is_made : (u : World) (b : Body) → queue_of b ≡ [] → get u.objects u.next_koid ≡ None → IsNamed u → IsNamed (with_object u b)
+is_made u b none free s = object_is_made (with_object u b).objects u b none (grown u.objects (with_object u b).objects u (still_made u b free) s)
+
+effect_keeps : (lib : Library) (w u : World) (p : ℕ) (r : Request) → IsAside w u → HasGivenKoids w → IsNamed u → IsNamed (effect lib w u p r)
+unfolding effect
+effect_keeps lib w u p (close h) a given t = t
+effect_keeps lib w u p (dup h rights) a given t = t
+effect_keeps lib w u p event_create a given t = is_made u EventBody refl (rw (a.objects, a.next_koid) (next_is_free w given)) t
+effect_keeps lib w u p (signal h clear set) a given t = is_signaled u (object_at w p h) clear set t
+effect_keeps lib w u p (process_exit code) a given t = t
+
+new_handles_are_named : (lib : Library) (w u : World) (p : ℕ) (r : Request) → IsAside w u → IsNamed w → All (names_its_object (effect lib w u p r).objects) (new_handles w p r)
 unfolding effect new_handles
-effect_keeps lib w u p (close h) vs a given s t = t
-effect_keeps lib w u p (dup h rights) vs a given s t =
-    aside_named u (insert_all u p (copy_of (entry_at w p h) rights) vs) (enter_aside u p (copy_of (entry_at w p h) rights) vs)
-    (handles_enter u.objects u p (copy_of (entry_at w p h) rights) vs (copy_is_named u.objects (entry_at w p h) rights (λ e there. rw a.objects (entry_is_named w p h s e there))) t)
-effect_keeps lib w u p event_create vs a given s t = event_is_created u p w.next_koid vs a.next_koid (rw (a.objects, a.next_koid) (next_is_free w given)) t
-effect_keeps lib w u p (signal h clear set) vs a given s t = is_signaled u (object_at w p h) clear set t
-effect_keeps lib w u p (process_exit code) vs a given s t = t
+new_handles_are_named lib w u p (close h) a s = All-nil _
+new_handles_are_named lib w u p (dup h rights) a s = copy_is_named u.objects (entry_at w p h) rights (λ e there. rw a.objects (entry_is_named w p h s e there))
+new_handles_are_named lib w u p event_create a s =
+    All-cons (names_its_object (with_object u EventBody).objects) (new_entry w.next_koid kind.Event) [] (names_new u EventBody w.next_koid a.next_koid) (All-nil _)
+new_handles_are_named lib w u p (signal h clear set) a s = All-nil _
+new_handles_are_named lib w u p (process_exit code) a s = All-nil _
+
+all_keeps : (lib : Library) (w u : World) (p : ℕ) (r : Request) (vs : List ℕ) → IsAside w u → HasGivenKoids w → IsNamed w → IsNamed u → IsNamed (with_effect lib w u p r vs)
+all_keeps lib w u p r vs a given s t =
+    let v = effect lib w u p r in
+    aside_named v (insert_all v p (new_handles w p r) vs) (enter_aside v p (new_handles w p r) vs)
+    (handles_enter v.objects v p (new_handles w p r) vs (new_handles_are_named lib w u p r a s) (effect_keeps lib w u p r a given t))
 
 taken_keeps : (w : World) (p : ℕ) (site : Site) → IsNamed w → IsNamed (taken w p site)
 taken_keeps w p site s = aside_named w (taken w p site) (leave_aside w p (taken_handles site.request)) (handles_leave w.objects w p (taken_handles site.request) s)
@@ -116,7 +112,7 @@ unfolding ended on_process
 is_ended w p code s = aside_named w (ended w p code) (record { objects = refl; next_koid = refl }) (process_ends w.objects w p code s)
 
 refusal_keeps : (w : World) (p : ℕ) (site : Site) (o : Outcome) → IsNamed w → IsNamed (after_refusal w p site o)
-refusal_keeps w p site (outcome.Answered answer) s = is_replied (taken w p site) p site answer (gives w p site.request answer []) (taken_keeps w p site s)
+refusal_keeps w p site (outcome.Answered answer) s = is_replied (taken w p site) p site answer (gives_refused w p site.request answer) (taken_keeps w p site s)
 refusal_keeps w p site (outcome.Ended code) s = is_ended w p code s
 refusal_keeps w p site outcome.Blocked s = s
 
@@ -124,13 +120,13 @@ ok_keeps : (lib : Library) (w : World) (p : ℕ) (site : Site) (vs : List ℕ) (
 ok_keeps lib w p site vs o given s = by_outcome o
   where
     done : World
-    done = effect lib w (taken w p site) p site.request vs
+    done = with_effect lib w (taken w p site) p site.request vs
 
     done_keeps : IsNamed done
-    done_keeps = effect_keeps lib w (taken w p site) p site.request vs (leave_aside w p (taken_handles site.request)) given s (taken_keeps w p site s)
+    done_keeps = all_keeps lib w (taken w p site) p site.request vs (leave_aside w p (taken_handles site.request)) given s (taken_keeps w p site s)
 
     by_outcome : (o : Outcome) → IsNamed (after_ok lib w p site vs o)
-    by_outcome (outcome.Answered answer) = is_replied done p site status.Ok (gives w p site.request status.Ok vs) done_keeps
+    by_outcome (outcome.Answered answer) = is_replied done p site status.Ok (gives_ok w p site.request vs) done_keeps
     by_outcome (outcome.Ended code) = is_ended done p code done_keeps
     by_outcome outcome.Blocked = s
 

@@ -23,7 +23,7 @@ use Rattle.zl_code.specs.declared.history.TraceItem.{TraceItem}
 use Rattle.zl_code.specs.Image.{Library}
 use Rattle.zl_code.specs.Request.{Site, Request, close, dup, event_create, signal, process_exit}
 use Rattle.zl_code.specs.Tests.{object_at}
-use Rattle.zl_code.specs.Effects.{on_process, on_object, insert_all, remove_all, with_object, process_with, process_without, ended, effect, gives, taken_handles, new_handles, object_changed}
+use Rattle.zl_code.specs.Effects.{on_process, on_object, insert_all, remove_all, with_object, process_with, process_without, ended, effect, with_effect, gives_ok, gives_refused, taken_handles, new_handles, object_changed}
 use Rattle.zl_code.specs.Calls.{replied, taken, after_refusal, after_ok, ok_outcome, Choice, Refused, WantsMemory, Values, CallBy}
 use Rattle.zl_code.specs.Steps.{Next, Moves, AtCall, IsStuck, next_for, Acts, Step, Runs, pid_of}
 use Rattle.zl_code.specs.Boot.{Boots, IsBoot, boot_effect, origin}
@@ -123,20 +123,22 @@ object_is_signaled w k clear set = same_kinds w (on_object w k (object_changed c
 
 -- ---- calls
 
-effect_keeps : (lib : Library) (w u : World) (p : ℕ) (r : Request) (vs : List ℕ) → Keeps u (effect lib w u p r vs)
+effect_keeps : (lib : Library) (w u : World) (p : ℕ) (r : Request) → Keeps u (effect lib w u p r)
 unfolding effect
-effect_keeps lib w u p (close h) vs = same_objects u u refl refl
-effect_keeps lib w u p (dup h rights) vs = handles_enter u p (new_handles w p (dup h rights)) vs
-effect_keeps lib w u p event_create vs =
-    follows u (insert_all u p (new_handles w p event_create) vs) _ (handles_enter u p (new_handles w p event_create) vs) (object_is_made (insert_all u p (new_handles w p event_create) vs) EventBody)
-effect_keeps lib w u p (signal h clear set) vs = object_is_signaled u (object_at w p h) clear set
-effect_keeps lib w u p (process_exit code) vs = same_objects u u refl refl
+effect_keeps lib w u p (close h) = same_objects u u refl refl
+effect_keeps lib w u p (dup h rights) = same_objects u u refl refl
+effect_keeps lib w u p event_create = object_is_made u EventBody
+effect_keeps lib w u p (signal h clear set) = object_is_signaled u (object_at w p h) clear set
+effect_keeps lib w u p (process_exit code) = same_objects u u refl refl
+
+all_keeps : (lib : Library) (w u : World) (p : ℕ) (r : Request) (vs : List ℕ) → Keeps u (with_effect lib w u p r vs)
+all_keeps lib w u p r vs = follows u (effect lib w u p r) _ (effect_keeps lib w u p r) (handles_enter (effect lib w u p r) p (new_handles w p r) vs)
 
 taken_keeps : (w : World) (p : ℕ) (s : Site) → Keeps w (taken w p s)
 taken_keeps w p s = handles_leave w p (taken_handles s.request)
 
 refusal_keeps : (w : World) (p : ℕ) (s : Site) (o : Outcome) → Keeps w (after_refusal w p s o)
-refusal_keeps w p s (outcome.Answered answer) = follows w (taken w p s) _ (taken_keeps w p s) (call_replies (taken w p s) p s answer (gives w p s.request answer []))
+refusal_keeps w p s (outcome.Answered answer) = follows w (taken w p s) _ (taken_keeps w p s) (call_replies (taken w p s) p s answer (gives_refused w p s.request answer))
 refusal_keeps w p s (outcome.Ended code) = process_ends w p code
 refusal_keeps w p s outcome.Blocked = same_objects w w refl refl
 
@@ -144,13 +146,13 @@ ok_keeps : (lib : Library) (w : World) (p : ℕ) (s : Site) (vs : List ℕ) (o :
 ok_keeps lib w p s vs o = by_outcome o
   where
     done : World
-    done = effect lib w (taken w p s) p s.request vs
+    done = with_effect lib w (taken w p s) p s.request vs
 
     done_keeps : Keeps w done
-    done_keeps = follows w (taken w p s) done (taken_keeps w p s) (effect_keeps lib w (taken w p s) p s.request vs)
+    done_keeps = follows w (taken w p s) done (taken_keeps w p s) (all_keeps lib w (taken w p s) p s.request vs)
 
     by_outcome : (o : Outcome) → Keeps w (after_ok lib w p s vs o)
-    by_outcome (outcome.Answered answer) = follows w done _ done_keeps (call_replies done p s status.Ok (gives w p s.request status.Ok vs))
+    by_outcome (outcome.Answered answer) = follows w done _ done_keeps (call_replies done p s status.Ok (gives_ok w p s.request vs))
     by_outcome (outcome.Ended code) = follows w done _ done_keeps (process_ends done p code)
     by_outcome outcome.Blocked = same_objects w w refl refl
 

@@ -429,7 +429,7 @@ unfolding computing
 signal_told = refl
 
 -- What is cleared and set stays set, as set comes last.
-signal_set_last : active (effect [] (with_rights SIGNAL) (with_rights SIGNAL) 2 (signal 7 SIGNALED SIGNALED) []) 3 ≡ SIGNALED
+signal_set_last : active (effect [] (with_rights SIGNAL) (with_rights SIGNAL) 2 (signal 7 SIGNALED SIGNALED)) 3 ≡ SIGNALED
 unfolding computing
 signal_set_last = refl
 

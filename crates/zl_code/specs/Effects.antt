@@ -1,17 +1,17 @@
 -- The table of calls: what a call does that is answered OK, and what its answer gives.
-use Rattle.std.specs.Prelude.{ℕ, ◌+◌, ◌%◌, ◌^◌, ℤ, pos, ◌-ℤ◌, Bool, true, false, ◌&&◌, not, ◌==◌, nat_lt, List, [], ◌∷◌, map, Option, Some, None, if◌then◌else◌}
+use Rattle.std.specs.Prelude.{ℕ, ◌+◌, ◌%◌, ◌^◌, ℤ, pos, ◌-ℤ◌, Bool, true, false, ◌&&◌, not, ◌==◌, nat_lt, List, [], ◌∷◌, ◌++◌, map, Option, Some, None, if◌then◌else◌}
 use Rattle.std.specs.List.{filter}
 use Rattle.zl_rights.specs.declared.kind.Kind.{Kind}
 use Rattle.zl_rights.specs.declared.kind.Kind.TheVariants as kind
 use Rattle.zl_rights.specs.declared.status.Status.{Status}
-use Rattle.zl_rights.specs.declared.status.Status.TheVariants as status
 use Rattle.zl_rights.specs.declared.entry.Entry.{Entry}
 use Rattle.zl_rights.specs.Numbers.{rights_of, default_rights_of, changed}
 use Rattle.zl_rights.specs.Map.{get, put, without, update, has_key}
-use Rattle.zl_rights.specs.World.{World, Process, Ended, Object, Body, EventBody}
+use Rattle.zl_rights.specs.World.{World, Process, Awaited, Blocked, Ended, Object, Body, EventBody}
 use Rattle.zl_rights.specs.Signals.{lives}
 use Rattle.zl_code.specs.Image.{Library}
 use Rattle.zl_code.specs.Request.{Request, close, dup, event_create, signal, process_exit}
+use Rattle.zl_code.specs.Local.{overwritten}
 use Rattle.zl_code.specs.Tests.{entry_at, object_at, copy_of}
 use Rattle.zl_code.specs.Refusals.{handle_operands}
 
@@ -75,6 +75,18 @@ new_handles w p (dup h rights) = copy_of (entry_at w p h) rights
 new_handles w p event_create = new_entry w.next_koid kind.Event ∷ []
 new_handles w p _ = []
 
+-- the process whose table new handles enter; the caller's, at each call of today
+abbrev pub receiver_of : World → ℕ → Request → ℕ
+receiver_of w p request = p
+
+-- the new handles whose values may be chosen; all of them, at each call of today
+abbrev pub choosing : World → ℕ → Request → List Entry
+choosing w p request = new_handles w p request
+
+-- the values at which new handles enter, where the chosen ones are vs; just these, at each call of today
+abbrev pub entering_at : Request → List ℕ → List ℕ
+entering_at request vs = vs
+
 -- ---- the free choice of values
 
 -- v is the value that was removed last; or, where none is kept, any of 16 bits but 0 that no handle has
@@ -100,7 +112,7 @@ gets_all (Some q) es vs = may_get_all q es vs
 
 -- these values may be given to the new handles; taken is the world without the operands that are always consumed
 unfoldable pub may_choose : World → World → ℕ → Request → List ℕ → Bool
-may_choose w taken p request vs = gets_all (get taken.processes p) (new_handles w p request) vs
+may_choose w taken p request vs = gets_all (get taken.processes (receiver_of w p request)) (choosing w p request) vs
 
 -- ---- the effect
 
@@ -108,21 +120,49 @@ may_choose w taken p request vs = gets_all (get taken.processes p) (new_handles 
 abbrev pub object_changed : ℕ → ℕ → Object → Object
 object_changed clear set o = record o { raised = changed o.raised clear set }
 
--- What the call does beside its caller's registers, where it is answered OK and new handles get the values vs.
+-- What the call does beside taking handles away, giving handles and writing registers, where it is answered OK.
 -- w is the world before it; taken is that world without the operands that are always consumed.
-unfoldable pub effect : Library → World → World → ℕ → Request → List ℕ → World
-effect lib w taken p (close h) vs = taken
-effect lib w taken p (dup h rights) vs = insert_all taken p (new_handles w p (dup h rights)) vs
-effect lib w taken p event_create vs = with_object (insert_all taken p (new_handles w p event_create) vs) EventBody
-effect lib w taken p (signal h clear set) vs = on_object taken (object_at w p h) (object_changed clear set)
-effect lib w taken p (process_exit code) vs = taken
+unfoldable pub effect : Library → World → World → ℕ → Request → World
+effect lib w taken p (close h) = taken
+effect lib w taken p (dup h rights) = taken
+effect lib w taken p event_create = with_object taken EventBody
+effect lib w taken p (signal h clear set) = on_object taken (object_at w p h) (object_changed clear set)
+effect lib w taken p (process_exit code) = taken
+
+-- the bytes that the call stores in its caller's memory, and the address of the first; none, at each call of today
+abbrev pub stored_by : World → ℕ → Request → ℕ × List ℕ
+stored_by w p request = (0, [])
+
+-- the world with these bytes in the memory of p
+abbrev pub storing : World → ℕ → ℕ × List ℕ → World
+storing w p (address, []) = w
+storing w p (address, b ∷ bytes) =
+    on_process w p (λ q. record q { cpu = record q.cpu { memory = overwritten q.cpu.memory address (b ∷ bytes) } })
+
+-- all that the call does but for its caller's registers, where new handles get the values vs
+abbrev pub with_effect : Library → World → World → ℕ → Request → List ℕ → World
+with_effect lib w taken p request vs =
+    storing (insert_all (effect lib w taken p request) (receiver_of w p request) (new_handles w p request) (entering_at request vs)) p (stored_by w p request)
 
 -- ---- what the answer gives
 
--- the values of the destinations behind the status
-unfoldable pub gives : World → ℕ → Request → Status → List ℕ → List ℕ
-gives w p request status.Ok vs = vs
-gives w p request _ vs = []
+-- the values of the destinations behind the status, where the call is answered OK and vs were chosen
+unfoldable pub gives_ok : World → ℕ → Request → List ℕ → List ℕ
+gives_ok w p request vs = vs
+
+-- the same where it is refused with the status
+unfoldable pub gives_refused : World → ℕ → Request → Status → List ℕ
+gives_refused w p request answer = []
+
+-- what the caller waits for, if the call blocks; no call of today does
+abbrev pub awaited_by : World → ℕ → Request → Option Awaited
+awaited_by w p request = None
+
+-- the process is blocked, last of all, if there is something to wait for
+abbrev pub waiting : World → ℕ → List ℕ → Option Awaited → World
+waiting w p destinations None = w
+waiting w p destinations (Some awaited) =
+    record (on_process w p (λ q. record q { state = Blocked awaited destinations })) { blocked = w.blocked ++ (p ∷ []) }
 
 -- the low 32 bits as a signed number
 abbrev pub signed_word : ℕ → ℤ

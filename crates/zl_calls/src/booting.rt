@@ -35,7 +35,8 @@ pub fn booted(alloc: Global, library: &Library, boot: &Boot) -> Result<Made, Boo
     ensures lab { IfOk result (λ made. IsLab made.processes.items made.objects) }
     ensures limit { OnOk result (boot.now.limit ≤ MOST_ITEMS) }
     ensures err { IfErr result (λ fault. fault.cause ≢ BootCause.NoMemory
-        → FirstFault library.now boot.now.statements.items boot.now.limit fault.statement fault.cause) }
+        → FirstFault library.now boot.now.statements.items boot.now.limit
+        fault.statement fault.cause) }
     ensures reached { IfErr result (λ fault. fault.cause ≡ BootCause.NoMemory
         → IsReached library.now boot.now.statements.items fault.statement) }
 {
@@ -96,8 +97,8 @@ impl Made {
         requires { IsMaking self.old.processes.items self.old.objects }
         ensures ok { OnOk result
             (Makes library.now (Statement.Process job program word) self.old self.new) }
-        ensures err { IfErr result
-            (IsCauseOf (boot_fault library.now (seen self.old) (Statement.Process job program word))) }
+        ensures err { IfErr result (IsCauseOf
+            (boot_fault library.now (seen self.old) (Statement.Process job program word))) }
     {
         let Some(listed) = library.get(program as usize) else {
             return Err(BootCause::Unknown);

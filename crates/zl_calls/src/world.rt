@@ -69,7 +69,8 @@ impl World {
         ensures programs { IfOk result (λ world. world.programs ≡ library) }
         ensures limit { OnOk result (boot.now.limit ≤ MOST_ITEMS) }
         ensures err { IfErr result (λ fault. fault.cause ≢ NoMemory
-            → FirstFault library boot.now.statements.items boot.now.limit fault.statement fault.cause) }
+            → FirstFault library boot.now.statements.items boot.now.limit
+            fault.statement fault.cause) }
         ensures reached { IfErr result (λ fault. fault.cause ≡ NoMemory
             → IsReached library boot.now.statements.items fault.statement) }
     {

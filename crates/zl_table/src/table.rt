@@ -115,15 +115,17 @@ impl Table {
     /// since, and else the one freed most recently, or a fresh one.
     ///
     /// `Full` where the table holds `CAPACITY` handles, and `NoMemory` where there is no memory.
-    /// That `Full` comes at no other time is true of this representation; callers use only that it
-    /// comes at `CAPACITY` handles.
+    /// `Full` comes at no other time (`full_only`), which is true of this representation alone: callers
+    /// use only that it comes at `CAPACITY` handles (`full`).
+    ///
     /// Source: own profile.
     pub fn insert(&mut self, entry: Entry) -> Result<HValue, InsertFault>
         ensures ok { IfOk result (λ value. Inserts self.old entry value self.new) }
         ensures unchanged { OnErr result (self.new ≡ self.old) }
         ensures handed_back { IfErr result (λ fault. refused_entry fault ≡ entry) }
         ensures full { length self.old.entries ≡ CAPACITY → result ≡ Err (InsertFault.Full entry) }
-        ensures full_only { result ≡ Err (InsertFault.Full entry) → length self.old.entries ≡ CAPACITY }
+        ensures full_only { result ≡ Err (InsertFault.Full entry)
+            → length self.old.entries ≡ CAPACITY }
     {
         let live = self.places.len();
         if live == Table::CAPACITY {
@@ -183,7 +185,8 @@ impl Table {
         true
     }
 
-    /// Takes one entry out, whichever it is, or nothing where the table is empty. It takes no memory.
+    /// Takes one entry out, whichever it is, or nothing where the table is empty. No memory is
+    /// taken.
     ///
     /// Source: own profile.
     pub fn drain(&mut self) -> Option<Entry>

@@ -63,14 +63,17 @@ impl World {
     /// The fault names the first statement that can't be done: `Unknown` where it names no job or no
     /// program, `Limit` for the 65th process or where no koid up to 1,024 is left. A limit of the
     /// trace above `Boot::MOST_ITEMS` is `Limit` of a statement one past the last. `NoMemory` may
-    /// come at any statement, and for the root job, which is made before all, as of statement 0.
+    /// come at any statement, and for the root job, which is made before all, as of statement 0, which
+    /// need not be there.
     pub fn boot(alloc: Global, library: Library, boot: &Boot) -> Result<World, BootFault>
         ensures ok { IfOk result (λ world. IsBoot library boot.now.statements.items world.world) }
         ensures programs { IfOk result (λ world. world.programs ≡ library) }
         ensures limit { OnOk result (boot.now.limit ≤ MOST_ITEMS) }
         ensures err { IfErr result (λ fault. fault.cause ≢ NoMemory
-            → FirstFault library boot.now.statements.items boot.now.limit fault.statement fault.cause) }
-        ensures reached { IfErr result (λ fault. IsReached library boot.now.statements.items fault.statement) }
+            → FirstFault library boot.now.statements.items boot.now.limit
+            fault.statement fault.cause) }
+        ensures reached { IfErr result (λ fault. fault.cause ≡ NoMemory
+            → IsReached library boot.now.statements.items fault.statement) }
     {
         let Made { processes, objects } = booted(alloc, &library, boot)?;
         Ok(World {

@@ -8,7 +8,7 @@ ghost use Rattle.zl_calls.specs.Makes.{IsReached};
 ghost use Rattle.zl_calls.specs.Steps.{Performs, StepsTo, local_item, takes_memory};
 
 use crate::booting::{Made, booted};
-use crate::calls::end;
+use crate::calls::process::end;
 use crate::objects::Objects;
 use crate::process::Process;
 use crate::program::Library;
@@ -111,7 +111,7 @@ impl World {
             return None;
         }
         let call = next_call(&self.library, process)?;
-        Some(name_of(call))
+        name_of(&call)
     }
 
     /// Does the system call at which the process is, with all that follows from it.

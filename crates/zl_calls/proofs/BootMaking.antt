@@ -23,7 +23,7 @@ use Rattle.zl_calls.specs.Making.{IsMaking, IsFresh, object_of, living, root_job
 use Rattle.zl_calls.specs.declared.booting.Made.{Made}
 use Rattle.zl_calls.specs.Makes.{Makes}
 use Rattle.zl_calls.proofs.BootFaults.{no_fault}
-use Rattle.zl_calls.proofs.Answered.{put_last}
+use Rattle.zl_calls.proofs.Updates.{put_last}
 use Rattle.zl_calls.proofs.Labs.{has_seen}
 
 -- ---- the only job is the root job

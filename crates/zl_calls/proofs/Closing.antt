@@ -20,7 +20,7 @@ use Rattle.zl_calls.specs.declared.process.Process.{Process}
 use Rattle.zl_calls.specs.Registry.{Registry, held_once_less, letting_go, without_unheld, without_unkept, is_kept, stays_alone, has_living_child, lives_below, is_job_at}
 use Rattle.zl_calls.specs.World.{process_entry, object_entry, object_value, world_value}
 use Rattle.zl_calls.specs.Lab.{IsNamed, AgreesOn, is_in_job}
-use Rattle.zl_calls.proofs.Answered.{update_unseen}
+use Rattle.zl_calls.proofs.Updates.{update_unseen}
 use Rattle.zl_calls.proofs.MapsWithout.{any_without_at, count_without, without_seen}
 use Rattle.zl_calls.proofs.Quiet.{settles_without}
 use Rattle.zl_calls.proofs.SameBodies.{found_updated, named_updated, alone_updated, in_job_updated}

@@ -31,7 +31,7 @@ use Rattle.zl_calls.specs.declared.process.Process.{Process}
 use Rattle.zl_calls.specs.Registry.{Registry, has_place, stays_alone, lives_below, has_living_child}
 use Rattle.zl_calls.specs.World.{process_entry, process_value, state_value, object_entry, object_value, world_value}
 use Rattle.zl_calls.specs.Lab.{IsLab, IsNamed}
-use Rattle.zl_calls.proofs.Quiet.{Started, IsSettled, settles_itself, wakes_nothing}
+use Rattle.zl_calls.proofs.Quiet.{Started, IsSettled, wakes_nothing}
 use Rattle.zl_calls.proofs.Refused.{NoPolicy, empty_policies}
 use Rattle.zl_calls.proofs.Counting.{counted_in_table}
 
@@ -195,11 +195,3 @@ call_settles lib before after r acted r2 p call s ends there ready next calls se
   settles = settles;
   ends_awake = sym (wakes_nothing (map process_entry after) (map object_entry r2.objects) r2.next_koid);
 }
-
--- a call after which all is held
-pub call_steps : (lib : Library) (before after : List Process) (r r2 : Registry) (p : Process) (call : CallName) (s : Site) (ends : Outcome)
-    → get (map process_entry before) p.pid ≡ Some (process_value p) → state_value p.state ≡ Ready → next_for lib (process_value p) ≡ AtCall call s
-    → Calls lib (world_value before r) p.pid s ends (world_value after r2) → IsSettled (world_value after r2)
-    → Step lib (world_value before r) p.pid (item.Call p.pid call ends) (world_value after r2)
-call_steps lib before after r r2 p call s ends there ready next calls settled = call_settles lib before after r r2 r2 p call s ends there ready next calls
-    (settles_itself (map process_entry after) (map object_entry r2.objects) r2.next_koid (started after) settled)

@@ -5,6 +5,7 @@ pub mod Quiet
 pub mod Refused
 pub mod Positions
 pub mod Searching
+pub mod Updates
 pub mod Answered
 pub mod ByKoid
 pub mod Counting
@@ -17,16 +18,15 @@ pub mod Closed
 pub mod Stopped
 pub mod Ended
 pub mod SameBodies
-pub mod Kept
-pub mod KeptEvent
 pub mod Done
 pub mod Close
+pub mod Dup
+pub mod EventCreate
 pub mod Signal
-pub mod Exit
+pub mod ProcessExit
 pub mod Performed
 pub mod Performing
 pub mod Turns
-pub mod Wanting
 pub mod BootFaults
 pub mod BootMaking
 pub mod BootLab

@@ -1,6 +1,6 @@
 -- Where a process stands in the list, and what stands next for it.
 use Rattle.std.proofs.Common.{◌≡◌, ◌<◌, ℕ, List, length, map, get_or, Option, Some, None, refl, sym}
-use Rattle.std.specs.Prelude.{Bool, true, false, slice_get, is_some, if◌then◌else◌, IfSome, IfNone}
+use Rattle.std.specs.Prelude.{slice_get, IfSome, IfNone}
 use Rattle.std.proofs.lemmas.Option.{slice_get-map, slice_get_read, none-some}
 use Rattle.std.proofs.Common.{IsTrue}
 use Rattle.std.proofs.lemmas.Bool.{false≢true}
@@ -9,7 +9,6 @@ use Rattle.zl_rights.specs.World.{World, Cpu, Process as ProcessValue}
 use Rattle.zl_rights.specs.Signals.{is_process, is_ready}
 use Rattle.zl_code.specs.declared.instr.Instr.{Instr}
 use Rattle.zl_code.specs.declared.instr.Instr.TheVariants as instr
-use Rattle.zl_code.specs.declared.instr.CallInstr.{CallInstr}
 use Rattle.zl_code.specs.declared.history.CallName.{CallName}
 use Rattle.zl_code.specs.Image.{Library, Program, instr_at, call_at, call_in as call_found, local_at, local_in as local_found}
 use Rattle.zl_code.specs.Local.{local_effect}
@@ -29,44 +28,27 @@ moves_name_none : (o : Option Cpu) → call_in (moves o) ≡ None
 moves_name_none None = refl
 moves_name_none (Some c) = refl
 
-none_by_instr : (i : Option Instr) (c : Cpu) → call_found i ≡ None → call_in (next_of i c) ≡ None
-none_by_instr None c h = refl
-none_by_instr (Some (instr.Local x)) c h = moves_name_none (local_effect x c)
-none_by_instr (Some (instr.Call x)) c h = absurd cc
-none_by_instr (Some (instr.Unknown bytes)) c h = refl
+none_by_instr : (i : Option Instr) (c : Cpu) → IfNone (call_found i) (call_in (next_of i c) ≡ None)
+none_by_instr None c = refl
+none_by_instr (Some (instr.Local x)) c = moves_name_none (local_effect x c)
+none_by_instr (Some (instr.Call x)) c = tt
+none_by_instr (Some (instr.Unknown bytes)) c = refl
 
 -- where no call stands in the code, none stands next
-pub no_call_named : (lib : Library) (p : ProcessValue) (g : Program) → slice_get lib p.program ≡ Some g → call_at g.image p.cpu.counter ≡ None → call_in (next_for lib p) ≡ None
+pub no_call_next : (lib : Library) (p : ProcessValue) (g : Program) → slice_get lib p.program ≡ Some g → IfNone (call_at g.image p.cpu.counter) (call_in (next_for lib p) ≡ None)
 unfolding next_at
-no_call_named lib p g h none = rw h (none_by_instr (instr_at g.image p.cpu.counter) p.cpu none)
+no_call_next lib p g h = rw h (none_by_instr (instr_at g.image p.cpu.counter) p.cpu)
 
-name_by_site : (n : CallName) (s : Option Site) (built : Bool) → is_some s ≡ built → call_in (calls_at n s) ≡ (if built then Some n else None)
-name_by_site n None false h = refl
-name_by_site n None true h = absurd cc
-name_by_site n (Some s) true h = refl
-name_by_site n (Some s) false h = absurd cc
-
-name_by_instr : (i : Option Instr) (c : Cpu) (x : CallInstr) (built : Bool) → call_found i ≡ Some x → is_some (site_of x c) ≡ built → call_in (next_of i c) ≡ (if built then Some (name_of x) else None)
-name_by_instr None c x built found h = absurd cc
-name_by_instr (Some (instr.Local y)) c x built found h = absurd cc
-name_by_instr (Some (instr.Call y)) c x built found h = let same : x ≡ y = cc in rw same (name_by_site (name_of y) (site_of y c) built (rw same at h))
-name_by_instr (Some (instr.Unknown bytes)) c x built found h = absurd cc
+site_by_instr : (i : Option Instr) (c : Cpu) → IfSome (call_found i) (λ x. next_of i c ≡ calls_at (name_of x) (site_of x c))
+site_by_instr None c = tt
+site_by_instr (Some (instr.Local y)) c = tt
+site_by_instr (Some (instr.Call y)) c = refl
+site_by_instr (Some (instr.Unknown bytes)) c = tt
 
 -- a call that stands in the code stands next, if it is built
-pub call_named : (lib : Library) (p : ProcessValue) (g : Program) (x : CallInstr) (built : Bool) → slice_get lib p.program ≡ Some g → call_at g.image p.cpu.counter ≡ Some x → is_some (site_of x p.cpu) ≡ built
-    → call_in (next_for lib p) ≡ (if built then Some (name_of x) else None)
+pub calls_next : (lib : Library) (p : ProcessValue) (g : Program) → slice_get lib p.program ≡ Some g → IfSome (call_at g.image p.cpu.counter) (λ x. next_for lib p ≡ calls_at (name_of x) (site_of x p.cpu))
 unfolding next_at
-call_named lib p g x built h found is = rw h (name_by_instr (instr_at g.image p.cpu.counter) p.cpu x built found is)
-
-site_by_instr : (i : Option Instr) (c : Cpu) (x : CallInstr) → call_found i ≡ Some x → next_of i c ≡ calls_at (name_of x) (site_of x c)
-site_by_instr None c x found = absurd cc
-site_by_instr (Some (instr.Local y)) c x found = absurd cc
-site_by_instr (Some (instr.Call y)) c x found = let same : x ≡ y = cc in rw same refl
-site_by_instr (Some (instr.Unknown bytes)) c x found = absurd cc
-
-pub site_at : (lib : Library) (p : ProcessValue) (g : Program) (x : CallInstr) → slice_get lib p.program ≡ Some g → call_at g.image p.cpu.counter ≡ Some x → next_for lib p ≡ calls_at (name_of x) (site_of x p.cpu)
-unfolding next_at
-site_at lib p g x h found = rw h (site_by_instr (instr_at g.image p.cpu.counter) p.cpu x found)
+calls_next lib p g h = rw h (site_by_instr (instr_at g.image p.cpu.counter) p.cpu)
 
 local_by_instr : (i : Option Instr) (c : Cpu) → IfSome (local_found i) (λ x. next_of i c ≡ moves (local_effect x c))
 local_by_instr None c = tt

@@ -20,7 +20,8 @@ use Rattle.zl_calls.specs.declared.process.Process.{Process}
 use Rattle.zl_calls.specs.Registry.{Registry, stopped, stopped_body, stopping, is_job_at, is_job_in, is_job_body}
 use Rattle.zl_calls.specs.World.{process_entry, process_value, object_value, body_value, world_value}
 use Rattle.zl_calls.specs.Lab.{IsLab, IsNamed, AgreesOn, is_in_job}
-use Rattle.zl_calls.proofs.Answered.{IsWrite, update_unseen}
+use Rattle.zl_calls.proofs.Answered.{IsWrite}
+use Rattle.zl_calls.proofs.Updates.{update_unseen}
 use Rattle.zl_calls.proofs.Counting.{counts_fewer}
 use Rattle.zl_calls.proofs.SameBodies.{found_updated}
 use Rattle.zl_calls.proofs.Written.{after_is, get_after, found_after, same_runs}

@@ -1,6 +1,8 @@
--- Tables that handles leave, and empty ones.
-use Rattle.std.proofs.Common.{false, ◌^◌, bit_and, ◌≡◌, ◌<◌, ◌≤◌, ℕ, [], ◌∷◌, length, Some, None, Result, Err, refl, arith, inl, inr, ◌==◌}
+-- Tables that handles enter and leave, and empty ones.
+use Rattle.std.proofs.Common.{false, ◌^◌, bit_and, ◌≡◌, ◌<◌, ◌≤◌, ℕ, [], ◌∷◌, length, Some, None, Result, Err, refl, sym, ap, ◌∙◌, arith, inl, inr, ◌==◌}
+use Rattle.std.specs.Prelude.{if◌then◌else◌}
 use Rattle.std.proofs.lemmas.Bool.{cases_Bool, eqb-true}
+use Rattle.std.proofs.lemmas.Option.{same_Some}
 use Rattle.std.proofs.lemmas.Nat.{and_le_l}
 use Rattle.zl_rights.specs.declared.entry.Entry.{Entry}
 use Rattle.zl_rights.specs.declared.kind.Kind.{Kind}
@@ -10,9 +12,12 @@ use Rattle.zl_rights.specs.declared.status.Status.TheVariants as status
 use Rattle.zl_rights.specs.Map.{Map, get, without}
 use Rattle.zl_rights.specs.Numbers.{within}
 use Rattle.zl_rights.specs.LookUp.{looked_up}
-use Rattle.zl_table.specs.Table.{Handles, Drains}
+use Rattle.zl_rights.proofs.MapLaws.{get-put}
+use Rattle.zl_table.specs.Table.{Handles, IsTable, Inserts, Drains}
+use Rattle.zl_table.proofs.MapEdits.{sorted_put, length-put_new, put_key}
 use Rattle.zl_calls.specs.Registry.{Registry, Closes, none_left, one_more, released}
-use Rattle.zl_calls.specs.Parts.{without_handle, settable_at}
+use Rattle.zl_calls.specs.calls.Handle.{without_handle}
+use Rattle.zl_calls.specs.calls.Event.{settable_at}
 
 length-without : {X : Type 0} (m : Map X) (k : ℕ) → length (without m k) ≤ length m
 unfolding without
@@ -45,6 +50,27 @@ by_entries t value (e ∷ m) is none = absurd (omega (arith, none))
 
 pub empty_has_none : (t : Handles) (value n : ℕ) → n ≡ length t.entries → n ≡ 0 → (None ≡ get t.entries value) × (t ≡ without_handle t value)
 empty_has_none t value n count empty = by_entries t value t.entries refl (omega (arith, count, empty))
+
+-- ---- a table with one handle more
+
+pub inserted_table : (t : Handles) (e : Entry) (v : ℕ) (t2 : Handles) → IsTable t → length t.entries < 1024 → Inserts t e v t2 → IsTable t2
+inserted_table t e v t2 table room inserts = record {
+  sorted = rw inserts.entries (sorted_put t.entries v e table.sorted);
+  few = rw (inserts.entries, length-put_new t.entries v e inserts.unused) (omega (arith, room));
+  values = λ value there. elim (put_key t.entries v e value (rw inserts.entries at there)) as (λ _. (0 < value) × (value ≤ 65535)) [
+    | inl same ↦ rw same (inserts.above, inserts.below)
+    | inr old ↦ table.values value old
+  ];
+}
+
+-- what is in the new table is the new entry, or was there before
+pub found_inserted : (A : Type 0) (t : Handles) (e : Entry) (v : ℕ) (t2 : Handles) → Inserts t e v t2 → (value : ℕ) (q : Entry) → get t2.entries value ≡ Some q → (e ≡ q → A) → (get t.entries value ≡ Some q → A) → A
+found_inserted A t e v t2 inserts value q at new old =
+    let read : (if v == value then Some e else get t.entries value) ≡ Some q = sym (get-put t.entries v e value) ∙ (ap (λ (m : Map Entry). get m value) (sym inserts.entries) ∙ at) in
+    elim (cases_Bool (v == value)) as (λ _. A) [
+      | inl here ↦ new (same_Some e q (rw here at read))
+      | inr apart ↦ old (rw apart at read)
+    ]
 
 -- ---- the handles of a table close
 

@@ -16,11 +16,11 @@ use Rattle.zl_code.specs.Steps.{Moves, IsStuck, calls_at, next_for}
 use Rattle.zl_calls.specs.declared.process.Process.{Process}
 use Rattle.zl_calls.specs.Acted.{Acted}
 use Rattle.zl_calls.specs.Lab.{IsLab}
-use Rattle.zl_calls.specs.Parts.{Ends}
+use Rattle.zl_calls.specs.calls.Process.{Ends}
 use Rattle.zl_calls.specs.Registry.{Registry}
 use Rattle.zl_calls.specs.Steps.{StepsTo, Performs, TakesStep}
 use Rattle.zl_calls.specs.World.{Lab, process_entry, process_value, state_value, call_in, call_for, is_ready_in}
-use Rattle.zl_calls.proofs.Performing.{IsStepped, lab_value, performs, call_is, moves_on, is_stuck}
+use Rattle.zl_calls.proofs.Performing.{IsStepped, lab_value, performs, moves_on, is_stuck}
 use Rattle.zl_calls.proofs.Written.{write_at, pid_read}
 
 -- a number that no process has isn't that of a ready one
@@ -43,29 +43,23 @@ module _ (lib : Library) (ps : List Process) (r : Registry) (lab : IsLab ps r) (
     unfolding is_process
     ready_there = rw there ready
 
-    called : (name : CallName) → Some name ≡ call_in (next_for lib (process_value p)) → IsSome (call_for (lab_value lib ps r) pid)
-    called name named = rw (there, ready, ← named) refl
-
-    pub takes_call : (i : CallInstr) (o : Outcome) (p2 : Process) (r2 : Registry) → Some (name_of i) ≡ call_in (next_for lib (process_value p))
-        → next_for lib (process_value p) ≡ calls_at (name_of i) (site_of i p.cpu) → Acted i p r o p2 r2
-        → IsStepped (set ps place p2) r2 (TakesStep (lab_value lib ps r) pid (lab_value lib (set ps place p2) r2) (item.Call pid (name_of i) o))
-    takes_call i o p2 r2 named next acts = record {
+    pub takes_call : (i : CallInstr) (name : CallName) (o : Outcome) (p2 : Process) (r2 : Registry) → next_for lib (process_value p) ≡ calls_at (name_of i) (site_of i p.cpu)
+        → call_in (next_for lib (process_value p)) ≡ Some name → Acted (site_of i p.cpu) p r o p2 r2
+        → IsStepped (set ps place p2) r2 (TakesStep (lab_value lib ps r) pid (lab_value lib (set ps place p2) r2) (item.Call pid name o))
+    takes_call i name o p2 r2 next named acts = record {
       lab = performed.lab;
       done = record {
         pid_is = refl;
         ready = ready_there;
-        steps = subst (λ name. StepsTo (lab_value lib ps r) (item.Call pid name o) (lab_value lib (set ps place p2) r2)) (same_Some _ _ (sym performed.done.at_call ∙ is)) performed.done.steps;
+        steps = subst (λ call. StepsTo (lab_value lib ps r) (item.Call pid call o) (lab_value lib (set ps place p2) r2)) (same_Some _ _ (sym performed.done.at_call ∙ called)) performed.done.steps;
       };
     }
       where
-        is_called : IsSome (call_for (lab_value lib ps r) pid)
-        is_called = called (name_of i) named
-
-        is : call_for (lab_value lib ps r) pid ≡ Some (name_of i)
-        is = call_is lib ps r lab pid place p found read i o p2 r2 named next is_called acts
+        called : call_for (lab_value lib ps r) pid ≡ Some name
+        called = rw (there, ready) named
 
         performed : IsStepped (set ps place p2) r2 (Performs (lab_value lib ps r) pid o (lab_value lib (set ps place p2) r2))
-        performed = performs lib ps r lab pid place p found read i o p2 r2 named next is_called acts
+        performed = performs lib ps r lab pid place p found read i o p2 r2 next (rw called refl) acts
 
     pub takes_local : (p2 : Process) → next_for lib (process_value p) ≡ Moves p2.cpu → p2 ≡ record p { cpu = p2.cpu }
         → IsStepped (set ps place p2) r (TakesStep (lab_value lib ps r) pid (lab_value lib (set ps place p2) r) (item.Run pid 1))
@@ -73,9 +67,9 @@ module _ (lib : Library) (ps : List Process) (r : Registry) (lab : IsLab ps r) (
         let moved = moves_on lib ps r lab pid place p found read ready_there p2 next cpu in
         record { lab = moved.lab; done = record { pid_is = refl; ready = ready_there; steps = moved.done } }
 
-    pub takes_end : None ≡ call_in (next_for lib (process_value p)) → (call_in (next_for lib (process_value p)) ≡ None → next_for lib (process_value p) ≡ IsStuck)
+    pub takes_end : call_in (next_for lib (process_value p)) ≡ None → (call_in (next_for lib (process_value p)) ≡ None → next_for lib (process_value p) ≡ IsStuck)
         → (p2 : Process) (r2 : Registry) → Ends STUCK p r p2 r2
         → IsStepped (set ps place p2) r2 (TakesStep (lab_value lib ps r) pid (lab_value lib (set ps place p2) r2) (item.Stuck pid))
     takes_end none missing p2 r2 ends =
-        let stuck = is_stuck lib ps r lab pid place p found read ready_there (rw (there, ready) (sym none)) missing p2 r2 ends in
+        let stuck = is_stuck lib ps r lab pid place p found read ready_there (rw (there, ready) none) missing p2 r2 ends in
         record { lab = stuck.lab; done = record { pid_is = refl; ready = ready_there; steps = stuck.done } }

@@ -1,5 +1,5 @@
 -- A process of the list is written: the map by pids, and what the invariant says of processes.
-use Rattle.std.proofs.Common.{Option, None, ◌≡◌, ◌<◌, ◌≤◌, ◌+◌, ℕ, false, ◌==◌, List, map, get_or, set, refl, sym, ap, ◌∙◌, cond, Some, inl, inr, ◌⊎◌, ◌^◌, subst, IsTrue, arith, [], ◌∷◌}
+use Rattle.std.proofs.Common.{Option, None, ◌≡◌, ◌<◌, ◌≤◌, ◌+◌, ℕ, false, ◌==◌, List, map, length, get_or, set, refl, sym, ap, ◌∙◌, cond, Some, inl, inr, ◌⊎◌, ◌^◌, subst, IsTrue, arith, [], ◌∷◌}
 use Rattle.std.specs.Prelude.{MatchOption}
 use Rattle.std.specs.List.{position, count_by}
 use Rattle.std.specs.Option.{option_map}
@@ -13,7 +13,7 @@ use Rattle.zl_rights.specs.World.{Process as ProcessValue}
 use Rattle.zl_rights.specs.Signals.{is_process, runs, state_passes}
 use Rattle.zl_rights.proofs.MapLaws.{get-update}
 use Rattle.zl_code.specs.Tests.{handles_to}
-use Rattle.zl_table.specs.Table.{IsTable}
+use Rattle.zl_table.specs.Table.{IsTable, Inserts}
 use Rattle.zl_table.proofs.MapEdits.{is_sorted-update, has_key-update}
 use Rattle.zl_calls.specs.declared.objects.Object.{Object}
 use Rattle.zl_calls.specs.declared.process.Process.{Process}
@@ -21,8 +21,10 @@ use Rattle.zl_calls.specs.Registry.{Registry, is_kept}
 use Rattle.zl_calls.specs.World.{process_entry, process_value, world_value, IsPlaceOf}
 use Rattle.zl_calls.specs.Lab.{IsLab, IsNamed, AgreesOn, is_in_job}
 use Rattle.zl_calls.proofs.Answered.{IsWrite}
-use Rattle.zl_calls.proofs.Counting.{counts_written}
+use Rattle.zl_calls.proofs.Counting.{count_put, counts_written}
 use Rattle.zl_calls.proofs.Positions.{IsFirst, first_at, get_first, get_missing, update_first}
+use Rattle.zl_calls.proofs.SameBodies.{found_updated, named_updated, alone_updated, in_job_updated}
+use Rattle.zl_calls.proofs.Tables.{inserted_table, found_inserted}
 
 pub write_at : (ps : List Process) (pid place : ℕ) (p p2 : Process) → Some place ≡ position (λ q. q.pid == pid) ps → p ≡ get_or ps place p → p2.pid ≡ p.pid → IsWrite ps (set ps place p2) p p2
 write_at ps pid place p p2 found read same =
@@ -111,26 +113,74 @@ module _ (before after : List Process) (p p2 : Process) (write : IsWrite before 
     kept = next.kept;
   }
 
--- ---- a refusal keeps the invariant
+  -- the same where the table stays
+  pub keeps_table : (r r2 : Registry) → IsLab before r → p2.state ≡ p.state → p2.table ≡ p.table → IsNext before after r r2 → IsLab after r2
+  keeps_table r r2 lab state table next = keeps r r2 lab state
+      (rw table (lab.tables p.pid (process_value p) write.there))
+      (λ v e at. next.named e (lab.named p.pid (process_value p) v e write.there (rw table at at)))
+      next
 
-pub same_counts : (before after : List Process) (p p2 : Process) (r r2 : Registry) (k : ℕ) → IsWrite before after p p2 → p2.table ≡ p.table → handles_to (world_value after r2) k ≡ handles_to (world_value before r) k
-same_counts before after p p2 r r2 k write table =
-    let none : count_by (λ h. h.1.koid == k) p2.table.entries ≡ count_by (λ h. h.1.koid == k) p.table.entries + 0 = rw table (omega arith) in
-    counts_written before after p p2 r r2 k 0 write none ∙ omega arith
+  pub same_counts : (r r2 : Registry) (k : ℕ) → p2.table ≡ p.table → handles_to (world_value after r2) k ≡ handles_to (world_value before r) k
+  same_counts r r2 k table =
+      let none : count_by (λ h. h.1.koid == k) p2.table.entries ≡ count_by (λ h. h.1.koid == k) p.table.entries + 0 = rw table (omega arith) in
+      counts_written before after p p2 r r2 k 0 write none ∙ omega arith
 
-pub refusal_keeps : (before after : List Process) (p p2 : Process) (r : Registry) → IsWrite before after p p2 → IsLab before r → p2.table ≡ p.table → p2.state ≡ p.state → IsLab after r
-refusal_keeps before after p p2 r write lab table state = keeps before after p p2 write r r lab state
-    (rw table (lab.tables p.pid (process_value p) write.there))
-    (λ v e at. lab.named p.pid (process_value p) v e write.there (rw table at at))
-    (record {
-      objects_in_order = lab.objects_in_order;
-      next_koid = omega arith;
-      given_objects = lab.given_objects;
-      koids = lab.koids;
-      no_zero = lab.no_zero;
-      named = λ e named. named;
-      counted = λ k o at. lab.counted k o at ∙ sym (same_counts before after p p2 r r k write table);
-      agrees = lab.agrees;
-      in_jobs = lab.in_jobs;
-      kept = lab.kept;
-    })
+  -- the same where nothing but registers and the counter changes
+  pub refusal_keeps : (r : Registry) → IsLab before r → p2.table ≡ p.table → p2.state ≡ p.state → IsLab after r
+  refusal_keeps r lab table state = keeps_table r r lab state table (record {
+    objects_in_order = lab.objects_in_order;
+    next_koid = omega arith;
+    given_objects = lab.given_objects;
+    koids = lab.koids;
+    no_zero = lab.no_zero;
+    named = λ e named. named;
+    counted = λ k o at. lab.counted k o at ∙ sym (same_counts r r k table);
+    agrees = lab.agrees;
+    in_jobs = lab.in_jobs;
+    kept = lab.kept;
+  })
+
+  -- the same where a handle enters the table
+  module _ (e : Entry) (made : ℕ) (inserts : Inserts p.table e made p2.table) where
+    pub keeps_inserted : (r r2 : Registry) → IsLab before r → p2.state ≡ p.state → length p.table.entries < 1024 → IsNamed r2.objects e → IsNext before after r r2 → IsLab after r2
+    keeps_inserted r r2 lab state room named next = keeps r r2 lab state
+        (inserted_table p.table e made p2.table (lab.tables p.pid (process_value p) write.there) room inserts)
+        (λ v x at. found_inserted (IsNamed r2.objects x) p.table e made p2.table inserts v x at
+        (λ is. subst (λ (y : Entry). IsNamed r2.objects y) is named)
+        (λ old. next.named x (lab.named p.pid (process_value p) v x write.there old)))
+        next
+
+    pub inserted_counts : (r r2 : Registry) (j : ℕ) → handles_to (world_value after r2) j ≡ handles_to (world_value before r) j + cond (e.koid == j) 1 0
+    inserted_counts r r2 j = counts_written before after p p2 r r2 j (cond (e.koid == j) 1 0) write
+        (ap (λ (m : Map Entry). count_by (λ x. x.1.koid == j) m) inserts.entries ∙ count_put (λ x. x.1.koid == j) p.table.entries made e inserts.unused)
+
+-- ---- one object changes, but not what it is
+
+module _ (before after : List Process) (r : Registry) (lab : IsLab before r) (k : ℕ) (f : Object → Object) (same : (o : Object) → (f o).body ≡ o.body) where
+  abbrev updated : Registry
+  updated = record r { objects = update r.objects k f }
+
+  pub updated_next : ((j : ℕ) (o : Object) → get r.objects j ≡ Some o → IsTrue (k == j) → (f o).handles ≡ handles_to (world_value after updated) j)
+      → ((j : ℕ) (o : Object) → get r.objects j ≡ Some o → (k == j) ≡ false → o.handles ≡ handles_to (world_value after updated) j)
+      → ((j : ℕ) (o : Object) → get r.objects j ≡ Some o → IsTrue (k == j) → IsTrue (is_kept updated.objects j (f o)))
+      → IsNext before after r updated
+  updated_next counted others kept = record {
+    objects_in_order = rw (is_sorted-update r.objects k f) lab.objects_in_order;
+    next_koid = omega arith;
+    given_objects = λ j there. lab.given_objects j (sym (has_key-update r.objects k f j) ∙ there);
+    koids = lab.koids;
+    no_zero = λ j there. lab.no_zero j (sym (has_key-update r.objects k f j) ∙ there);
+    named = named_updated f same r.objects k;
+    counted = λ j q at. found_updated f r.objects k (q.handles ≡ handles_to (world_value after updated) j) j q at
+        (λ o old here is. ap (λ (x : Object). x.handles) (sym is) ∙ counted j o old here)
+        (λ apart old. others j q old apart);
+    agrees = λ j q at. found_updated f r.objects k (AgreesOn q.body (is_process (world_value before r) runs j)) j q at
+        (λ o old here is. subst (λ (x : Object). AgreesOn x.body (is_process (world_value before r) runs j)) is (rw (same o) (lab.agrees j o old)))
+        (λ apart old. lab.agrees j q old);
+    in_jobs = λ j q at. found_updated f r.objects k (IsTrue (is_in_job updated.objects q.body)) j q at
+        (λ o old here is. subst (λ (x : Object). IsTrue (is_in_job updated.objects x.body)) is (rw (same o, in_job_updated f same r.objects k o.body) (lab.in_jobs j o old)))
+        (λ apart old. rw (in_job_updated f same r.objects k q.body) (lab.in_jobs j q old));
+    kept = λ j q at. found_updated f r.objects k (IsTrue (is_kept updated.objects j q)) j q at
+        (λ o old here is. subst (λ (x : Object). IsTrue (is_kept updated.objects j x)) is (kept j o old here))
+        (λ apart old. rw (alone_updated f same r.objects k j q.body) (lab.kept j q old));
+  }

@@ -2,7 +2,7 @@ pub mod Program
 pub mod Cpu
 pub mod World
 pub mod Registry
-pub mod Parts
+pub mod calls
 pub mod Acted
 pub mod Lab
 pub mod Making

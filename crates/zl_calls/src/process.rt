@@ -3,11 +3,11 @@ ghost use Rattle.zl_rights.specs.Numbers.{status_magnitude};
 ghost use Rattle.zl_rights.specs.World.{answered};
 ghost use Rattle.zl_rights.specs.Signals.{is_ready};
 ghost use Rattle.zl_calls.specs.World.{state_value, seen_in};
-ghost use Rattle.zl_calls.specs.Parts.{values_of};
+ghost use Rattle.zl_calls.specs.calls.Answer.{status_of, values_of};
 
 use crate::cpu::Cpu;
 use std::alloc::Global;
-use zl_code::{ProcState, Register};
+use zl_code::{Outcome, ProcState, Register};
 use zl_rights::{HValue, Pid, Status};
 use zl_table::Table;
 
@@ -48,12 +48,18 @@ impl Process {
 
     /// The call is answered: its status register holds the answer, and the next instruction stands next.
     #[tactic(auto, unfolding(zl_rights::specs::World::answered))]
-    pub fn answer(&mut self, status: Register, answer: Status)
+    pub fn answer(&mut self, status: Register, answer: Result<(), Status>) -> Outcome
         requires { self.old.cpu.counter < 2 ^ 32 }
-        ensures { self.new ≡ record self.old { cpu = answered self.old.cpu (status ∷ []) (status_magnitude answer ∷ []) } }
+        ensures ends { result ≡ Outcome.Answered (status_of answer) }
+        ensures process { self.new ≡ record self.old { cpu = answered self.old.cpu (status ∷ []) (status_magnitude (status_of answer) ∷ []) } }
     {
+        let answer = match answer {
+            Ok(()) => Status::Ok,
+            Err(refused) => refused,
+        };
         self.cpu.set(status, u64::from(answer.magnitude()));
         self.cpu.advance();
+        Outcome::Answered(answer)
     }
 
     /// The call that makes a handle is answered: after the status its register gets the handle's
@@ -64,17 +70,20 @@ impl Process {
         status: Register,
         destination: Register,
         answer: Result<HValue, Status>,
-    )
+    ) -> Outcome
         requires { self.old.cpu.counter < 2 ^ 32 }
-        ensures { self.new ≡ record self.old { cpu = answered self.old.cpu (status ∷ destination ∷ []) (values_of answer) } }
+        ensures ends { result ≡ Outcome.Answered (status_of answer) }
+        ensures process { self.new ≡ record self.old { cpu = answered self.old.cpu (status ∷ destination ∷ []) (status_magnitude (status_of answer) ∷ values_of (λ made. made ∷ []) answer) } }
     {
-        let (number, made) = match answer {
-            Ok(made) => (Status::Ok.magnitude(), u64::from(made)),
-            Err(refused) => (refused.magnitude(), 0),
+        let (answer, made) = match answer {
+            Ok(made) => (Status::Ok, u64::from(made)),
+            Err(refused) => (refused, 0),
         };
-        self.cpu.set(status, u64::from(number));
+        let number = u64::from(answer.magnitude());
+        self.cpu.set(status, number);
         self.cpu.set(destination, made);
         self.cpu.advance();
+        Outcome::Answered(answer)
     }
 
     /// The process ends with the code, with an empty table; the old one is the result.

@@ -8,11 +8,11 @@ ghost use Rattle.zl_calls.specs.Makes.{IsReached};
 ghost use Rattle.zl_calls.specs.Steps.{Performs, StepsTo, TakesStep, local_item, takes_memory};
 
 use crate::booting::{Made, booted};
-use crate::calls::end;
+use crate::calls::process::end;
 use crate::objects::Objects;
 use crate::process::Process;
 use crate::program::Library;
-use crate::stepping::{act, name_of, next_call, place_of, run_next};
+use crate::stepping::{act, built_call, next_call, place_of, run_next};
 use std::alloc::Global;
 use std::marker::Model;
 use zl_code::{Boot, BootFault, CallName, Outcome, ProcState, TraceItem};
@@ -111,8 +111,8 @@ impl World {
         let place = place_of(&self.processes, pid)?;
         let process = &self.processes[place];
         if process.is_ready() {
-            let call = next_call(&self.library, process)?;
-            Some(name_of(&call))
+            let (_, name) = built_call(&self.library, process)?;
+            Some(name)
         } else {
             None
         }
@@ -133,8 +133,7 @@ impl World {
         if !process.is_ready() {
             return None;
         }
-        if let Some(call) = next_call(&self.library, process) {
-            let name = name_of(&call);
+        if let Some((call, name)) = built_call(&self.library, process) {
             let outcome = act(self.alloc, process, &mut self.objects, call);
             return Some(TraceItem::Call {
                 pid,

@@ -1,5 +1,5 @@
 use Rattle.zl_calls.proofs.Performing.{performs, call_is}
-use Rattle.zl_calls.proofs.Wanting.{takes_where_wanting}
+use Rattle.zl_calls.proofs.Performed.{takes_where_wanting}
 use Rattle.zl_calls.proofs.world.World.perform.Goals as goal
 
 pub invariant_of-self : goal.invariant_of-self
@@ -7,7 +7,7 @@ invariant_of-self c =
     let next = c.in-Some-next_call.ensures {u = tt} in
     (performs c.self.inside.library c.self.inside.processes.items c.self.inside.objects c.self.invariant c.args.pid c.in-Some.place c.index_mut-process.result.now
     (rw c.deref.ensures.value at (c.in-Some.ensures {u = tt}).first) c.index_mut-process.ensures.value
-    c.in-Some-next_call.call c.act.result c.act.new.process c.act.new.objects next.named next.site (rw (← c.self.view_is) at c.requires) c.act.ensures).lab
+    c.in-Some-next_call.call c.act.result c.act.new.process c.act.new.objects next.found (rw (← c.self.view_is) at c.requires) c.act.ensures).lab
 
 pub returns-clause-steps : goal.returns-clause-steps
 returns-clause-steps c =
@@ -15,12 +15,12 @@ returns-clause-steps c =
     rw (← c.self.view_is)
     ((performs c.self.inside.library c.self.inside.processes.items c.self.inside.objects c.self.invariant c.args.pid c.in-Some.place c.index_mut-process.result.now
     (rw c.deref.ensures.value at (c.in-Some.ensures {u = tt}).first) c.index_mut-process.ensures.value
-    c.in-Some-next_call.call c.act.result c.act.new.process c.act.new.objects next.named next.site (rw (← c.self.view_is) at c.requires) c.act.ensures).done)
+    c.in-Some-next_call.call c.act.result c.act.new.process c.act.new.objects next.found (rw (← c.self.view_is) at c.requires) c.act.ensures).done)
 
 pub returns-clause-no_memory : goal.returns-clause-no_memory
 returns-clause-no_memory c =
     let next = c.in-Some-next_call.ensures {u = tt} in
     let called = call_is c.self.inside.library c.self.inside.processes.items c.self.inside.objects c.self.invariant c.args.pid c.in-Some.place c.index_mut-process.result.now
     (rw c.deref.ensures.value at (c.in-Some.ensures {u = tt}).first) c.index_mut-process.ensures.value
-    c.in-Some-next_call.call c.act.result c.act.new.process c.act.new.objects next.named next.site (rw (← c.self.view_is) at c.requires) c.act.ensures in
-    λ wants. rw (← c.self.view_is, called) (takes_where_wanting c.in-Some-next_call.call c.index_mut-process.result.now c.self.inside.objects c.act.result c.act.new.process c.act.new.objects c.act.ensures wants)
+    c.in-Some-next_call.call c.act.result c.act.new.process c.act.new.objects next.found (rw (← c.self.view_is) at c.requires) c.act.ensures in
+    λ wants. rw (← c.self.view_is, called) (takes_where_wanting c.index_mut-process.result.now c.act.new.process c.self.inside.objects c.act.new.objects c.act.result c.in-Some-next_call.call c.index_mut-process.result.now.cpu c.act.ensures wants)

@@ -20,14 +20,14 @@ pub invariant_of-self-in-Some : goal.invariant_of-self-in-Some
 invariant_of-self-in-Some c =
     (takes_call c.self.inside.library c.self.inside.processes.items c.self.inside.objects c.self.invariant c.args.pid c.in_ok-place.place c.index_mut-process.result.now
     (rw c.deref.ensures.value at c.in_ok-place.ensures.first) c.index_mut-process.ensures.value (sym c.is_ready.ensures ∙ c.if-not-is_ready.false)
-    c.in-Some.call c.act-outcome.result c.act-outcome.new.process c.act-outcome.new.objects c.in-Some.ensures.named c.in-Some.ensures.site c.act-outcome.ensures).lab
+    c.in-Some.call c.in-Some.name c.act-outcome.result c.act-outcome.new.process c.act-outcome.new.objects c.in-Some.ensures.found c.in-Some.ensures.named c.act-outcome.ensures).lab
 
 pub returns-in-Some-clause-ran : goal.returns-in-Some-clause-ran
 returns-in-Some-clause-ran c =
-    rw (← c.self.view_is, c.name_of-name.ensures)
+    rw (← c.self.view_is)
     ((takes_call c.self.inside.library c.self.inside.processes.items c.self.inside.objects c.self.invariant c.args.pid c.in_ok-place.place c.index_mut-process.result.now
     (rw c.deref.ensures.value at c.in_ok-place.ensures.first) c.index_mut-process.ensures.value (sym c.is_ready.ensures ∙ c.if-not-is_ready.false)
-    c.in-Some.call c.act-outcome.result c.act-outcome.new.process c.act-outcome.new.objects c.in-Some.ensures.named c.in-Some.ensures.site c.act-outcome.ensures).done)
+    c.in-Some.call c.in-Some.name c.act-outcome.result c.act-outcome.new.process c.act-outcome.new.objects c.in-Some.ensures.found c.in-Some.ensures.named c.act-outcome.ensures).done)
 
 pub invariant_of-self-in-Some-run_next : goal.invariant_of-self-in-Some-run_next
 invariant_of-self-in-Some-run_next c =
@@ -46,11 +46,11 @@ pub invariant_of-self-in-None : goal.invariant_of-self-in-None
 invariant_of-self-in-None c =
     (takes_end c.self.inside.library c.self.inside.processes.items c.self.inside.objects c.self.invariant c.args.pid c.in_ok-place.place c.index_mut-process.result.now
     (rw c.deref.ensures.value at c.in_ok-place.ensures.first) c.index_mut-process.ensures.value (sym c.is_ready.ensures ∙ c.if-not-is_ready.false)
-    (rw c.in_default.is at c.next_call.ensures.named) c.in-None.ensures.stuck c.end.new.process c.end.new.objects (rw c.in-None.ensures.unchanged at c.end.ensures)).lab
+    c.in_default.ensures.missing c.in-None.ensures.stuck c.end.new.process c.end.new.objects (rw c.in-None.ensures.unchanged at c.end.ensures)).lab
 
 pub returns-in-None-clause-ran : goal.returns-in-None-clause-ran
 returns-in-None-clause-ran c =
     rw (← c.self.view_is)
     ((takes_end c.self.inside.library c.self.inside.processes.items c.self.inside.objects c.self.invariant c.args.pid c.in_ok-place.place c.index_mut-process.result.now
     (rw c.deref.ensures.value at c.in_ok-place.ensures.first) c.index_mut-process.ensures.value (sym c.is_ready.ensures ∙ c.if-not-is_ready.false)
-    (rw c.in_default.is at c.next_call.ensures.named) c.in-None.ensures.stuck c.end.new.process c.end.new.objects (rw c.in-None.ensures.unchanged at c.end.ensures)).done)
+    c.in_default.ensures.missing c.in-None.ensures.stuck c.end.new.process c.end.new.objects (rw c.in-None.ensures.unchanged at c.end.ensures)).done)

@@ -2,7 +2,7 @@ use Rattle.std.proofs.Common.{◌≡◌, ap, ◌∙◌, rules}
 use Rattle.zl_calls.specs.declared.process.Process.{Process}
 use Rattle.zl_calls.specs.Registry.{process_ended, Closes}
 use Rattle.zl_calls.proofs.Tables.{drained_is_shorter, drained_closes, all_closed}
-use Rattle.zl_calls.proofs.calls.end.Goals as goal
+use Rattle.zl_calls.proofs.calls.process.end.Goals as goal
 
 pub loop-entry-smaller : goal.loop-entry-smaller
 loop-entry-smaller c = drained_is_shorter _ _ _ c.in-Some.ensures.some

@@ -1,6 +1,6 @@
 use Rattle.std.proofs.Common.{length}
 use Rattle.zl_calls.specs.Registry.{Registry, Closes}
-use Rattle.zl_calls.proofs.calls.end.Given as goal
+use Rattle.zl_calls.proofs.calls.process.end.Given as goal
 
 abbrev pub invariant-loop-entry : goal.invariant-loop-entry
 invariant-loop-entry l = record {

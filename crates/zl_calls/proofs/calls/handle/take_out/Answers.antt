@@ -1,5 +1,5 @@
 use Rattle.zl_calls.proofs.Tables.{empty_has_none}
-use Rattle.zl_calls.proofs.calls.take_out.Goals as goal
+use Rattle.zl_calls.proofs.calls.handle.take_out.Goals as goal
 
 pub returns-then-len-eq0-clause-entry : goal.returns-then-len-eq0-clause-entry
 returns-then-len-eq0-clause-entry c = (empty_has_none c.args.table.now c.args.value c.len.result c.len.ensures.count c.if-len-eq0.true).0

@@ -1,0 +1,53 @@
+-- Changes of one value of a map: two after another, none, at the end, and as they are seen from outside.
+use Rattle.std.proofs.Common.{◌≡◌, ◌<◌, ℕ, true, false, ◌==◌, [], ◌∷◌, ◌++◌, refl, sym, ap, ◌∙◌, cond, Some, inl, inr, IsTrue, map, eq-eqb, arith}
+use Rattle.std.specs.Prelude.{is_some}
+use Rattle.std.proofs.lemmas.Bool.{cases_Bool, eqb-true}
+use Rattle.std.proofs.lemmas.Bool.Decides.{nat_tests}
+use Rattle.zl_rights.specs.Map.{Map, get, put, update, has_key}
+
+pub update_twice : {X : Type 0} (m : Map X) (k : ℕ) (f g : X → X) → update (update m k f) k g ≡ update m k (λ x. g (f x))
+unfolding update
+update_twice [] k f g = refl
+update_twice {X = X} (e ∷ m) k f g = elim (cases_Bool (e.0 == k)) as (λ _. update (update (e ∷ m) k f) k g ≡ update (e ∷ m) k (λ x. g (f x))) [
+  | inl here ↦ let same : (k == k) ≡ true = eq-eqb k k refl in rw (here, same) refl
+  | inr apart ↦ rw (apart, apart) (ap (λ (rest : Map X). e ∷ rest) (update_twice m k f g))
+]
+
+pub update_itself : {X : Type 0} (m : Map X) (k : ℕ) → update m k (λ x. x) ≡ m
+unfolding update
+update_itself [] k = refl
+update_itself {X} (e ∷ m) k = elim (cases_Bool (e.0 == k)) as (λ _. update (e ∷ m) k (λ x. x) ≡ e ∷ m) [
+  | inl here ↦ rw here (λ i. (sym (eqb-true e.0 k here) i, e.1) ∷ m)
+  | inr apart ↦ rw apart (ap (λ (rest : Map X). e ∷ rest) (update_itself m k))
+]
+
+module _ {X Y : Type 0} (seen : X → Y) where
+  abbrev pub seen_entry : ℕ × X → ℕ × Y
+  seen_entry e = (e.0, seen e.1)
+
+  pub update_seen : (m : Map X) (k : ℕ) (f : X → X) (g : Y → Y) → ((x : X) → seen (f x) ≡ g (seen x)) → map seen_entry (update m k f) ≡ update (map seen_entry m) k g
+  unfolding update
+  update_seen [] k f g same = refl
+  update_seen (e ∷ m) k f g same = elim (cases_Bool (e.0 == k)) as (λ _. map seen_entry (update (e ∷ m) k f) ≡ update (map seen_entry (e ∷ m)) k g) [
+    | inl here ↦ rw here (λ i. (k, same e.1 i) ∷ map seen_entry m)
+    | inr apart ↦ rw apart (ap (λ (rest : Map Y). seen_entry e ∷ rest) (update_seen m k f g same))
+  ]
+
+  -- a change that what is seen doesn't tell
+  pub update_unseen : (m : Map X) (k : ℕ) (f : X → X) → ((x : X) → seen (f x) ≡ seen x) → map seen_entry (update m k f) ≡ map seen_entry m
+  update_unseen m k f same = update_seen m k f (λ y. y) same ∙ update_itself (map seen_entry m) k
+
+-- a key above all others goes to the end
+pub put_last : {X : Type 0} (m : Map X) (k : ℕ) (v : X) → ((j : ℕ) → IsTrue (has_key m j) → j < k) → put m k v ≡ m ++ (k, v) ∷ []
+unfolding put get
+put_last [] k v below = refl
+put_last {X} (e ∷ m) k v below =
+    let first : e.0 < k = below e.0 (rw (same e.0) refl) in
+    let rest : put m k v ≡ m ++ (k, v) ∷ [] = put_last m k v (λ j there. below j (later j there)) in
+    grind (arith, nat_tests)
+  where
+    same : (j : ℕ) → (j == j) ≡ true
+    same j = eq-eqb j j refl
+
+    later : (j : ℕ) → IsTrue (has_key m j) → IsTrue (has_key (e ∷ m) j)
+    later j there = elim (e.0 == j) as (λ b. IsTrue (is_some (cond b (Some e.1) (get m j)))) [ true ↦ refl | false ↦ there ]

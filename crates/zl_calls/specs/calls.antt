@@ -1,0 +1,5 @@
+-- What system calls do, in a file for each kind of object.
+pub mod Answer
+pub mod Handle
+pub mod Event
+pub mod Process

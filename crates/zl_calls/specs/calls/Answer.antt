@@ -1,0 +1,72 @@
+-- How a call is refused and answered, which is alike for all calls. No public clause cites this module.
+use Rattle.std.specs.Prelude.{ℕ, ℤ, ◌≡◌, ◌+◌, Bool, true, false, nat_le, List, [], ◌∷◌, length, Option, Some, None, Result, Ok, Err, ⊤, IfOk, IfErr, OnErr}
+use Rattle.zl_rights.specs.declared.status.Status.{Status}
+use Rattle.zl_rights.specs.declared.status.Status.TheVariants as status
+use Rattle.zl_rights.specs.declared.entry.Entry.{Entry}
+use Rattle.zl_rights.specs.Map.{Map}
+use Rattle.zl_code.specs.declared.history.Outcome.{Outcome}
+use Rattle.zl_code.specs.declared.history.Outcome.TheVariants as outcome
+use Rattle.zl_code.specs.Request.{Site}
+use Rattle.zl_code.specs.Calls.{cpu_answered}
+use Rattle.zl_table.specs.Table.{Handles}
+use Rattle.zl_calls.specs.declared.process.Process.{Process}
+use Rattle.zl_calls.specs.Registry.{Registry}
+
+-- ---- refusals
+
+-- the status is the refusal; where nothing refuses the call, it is the want of memory, if the call can want it
+abbrev pub IsRefusedBy : Bool → Option Status → Status → Type 0
+IsRefusedBy wants (Some refusal) s = s ≡ refusal
+IsRefusedBy true None s = s ≡ status.NoMemory
+IsRefusedBy false None s = ⊥
+
+-- the table has place for one handle more
+abbrev pub has_room_in : Map Entry → Bool
+has_room_in entries = nat_le (length entries + 1) 1024
+
+-- a call was done, or else it was refused and changed nothing
+pub record Does {A : Type 0} (Done : A → Handles → Registry → Type 0) (wants : Bool) (refusal : Option Status) (t : Handles) (r : Registry) (answer : Result A Status) (t2 : Handles) (r2 : Registry) : Type 0 where
+  pub ok : IfOk answer (λ x. Done x t2 r2)
+  pub err : IfErr answer (IsRefusedBy wants refusal)
+  pub same_table : OnErr answer (t2 ≡ t)
+  pub same_objects : OnErr answer (r2 ≡ r)
+
+-- ---- answers
+
+-- the status that the caller gets
+abbrev pub status_of : {A : Type 0} → Result A Status → Status
+status_of (Ok x) = status.Ok
+status_of (Err s) = s
+
+-- the values behind the status; there are none where the call is refused
+abbrev pub values_of : {A : Type 0} → (A → List ℕ) → Result A Status → List ℕ
+values_of values (Ok x) = values x
+values_of values (Err s) = []
+
+-- the process has the answer in the registers of the site; its table is that of new
+abbrev pub Replies : Site → Status → List ℕ → Process → Process → Type 0
+Replies s answer values old new = new ≡ record old { cpu = cpu_answered s answer values old.cpu; table = new.table }
+
+-- a call is answered: so it changes the table of its caller and the objects, and replies
+pub record IsAnswered {A : Type 0} (values : A → List ℕ) (Acts : Handles → Registry → Result A Status → Handles → Registry → Type 0) (s : Site) (p : Process) (r : Registry) (o : Outcome) (p2 : Process) (r2 : Registry) : Type 0 where
+  pub answer : Result A Status
+  pub acts : Acts p.table r answer p2.table r2
+  pub ends : o ≡ outcome.Answered (status_of answer)
+  pub replied : Replies s (status_of answer) (values_of values answer) p p2
+
+-- ---- what a call does
+
+-- what a call does to the table of its caller and to the objects, and how it ends
+pub data Action : Type 1 where
+  -- it is answered, with these values
+  answers : (A : Type 0) (values : A → List ℕ) (Acts : Handles → Registry → Result A Status → Handles → Registry → Type 0) → Action
+  -- its caller ends with the code, and gets no answer
+  exits : (code : ℤ) → Action
+
+-- the answer is a status alone
+abbrev pub gives_none : (Handles → Registry → Result ⊤ Status → Handles → Registry → Type 0) → Action
+gives_none = answers ⊤ (λ _. [])
+
+-- the answer gives the value of a new handle too
+abbrev pub gives_one : (Handles → Registry → Result ℕ Status → Handles → Registry → Type 0) → Action
+gives_one = answers ℕ (λ made. made ∷ [])

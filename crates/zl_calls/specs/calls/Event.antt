@@ -1,0 +1,68 @@
+-- What calls on events do: event_create and signal. No public clause cites this module.
+use Rattle.std.specs.Prelude.{ℕ, ◌≡◌, ◌<◌, ◌+◌, ◌^◌, Bool, true, false, ◌&&◌, not, nat_le, bit_or, length, Option, Some, None, Result, ⊤}
+use Rattle.std.specs.Bool.{then_some}
+use Rattle.std.specs.Option.{option_or}
+use Rattle.zl_rights.specs.declared.kind.Kind.{Kind}
+use Rattle.zl_rights.specs.declared.kind.Kind.TheVariants as kind
+use Rattle.zl_rights.specs.declared.status.Status.{Status}
+use Rattle.zl_rights.specs.declared.status.Status.TheVariants as status
+use Rattle.zl_rights.specs.declared.entry.Entry.{Entry}
+use Rattle.zl_rights.specs.Numbers.{bits, within, SIGNAL, SIGNALED, USER_SIGNALS}
+use Rattle.zl_rights.specs.Map.{Map, get}
+use Rattle.zl_code.specs.Effects.{new_entry}
+use Rattle.zl_table.specs.Table.{Handles, Inserts}
+use Rattle.zl_calls.specs.declared.objects.Body.TheVariants as body
+use Rattle.zl_calls.specs.Registry.{Registry, with_new, changing}
+use Rattle.zl_calls.specs.calls.Answer.{Does, has_room_in}
+
+-- ---- event_create
+
+-- the answer of event_create other than OK
+abbrev pub event_refusal : Map Entry → ℕ → Option Status
+event_refusal entries next_koid = then_some (not (has_room_in entries && nat_le (next_koid + 1) (2 ^ 62))) status.NoResources
+
+-- a handle to a new event gets the value made
+pub record CreatesEvent (t : Handles) (r : Registry) (made : ℕ) (t2 : Handles) (r2 : Registry) : Type 0 where
+  pub unrefused : event_refusal t.entries r.next_koid ≡ None
+  pub room : length t.entries < 1024
+  pub koid : r.next_koid < 2 ^ 62
+  pub inserts : Inserts t (new_entry r.next_koid kind.Event) made t2
+  pub objects : r2 ≡ with_new r body.Event 1
+
+-- event_create, over the table of its caller
+abbrev pub EventCreateDoes : Handles → Registry → Result ℕ Status → Handles → Registry → Type 0
+EventCreateDoes t r = Does (CreatesEvent t r) true (event_refusal t.entries r.next_koid) t r
+
+-- ---- signal
+
+-- the signals that calls may set and clear at an object of the kind
+abbrev pub settable_at : Kind → ℕ
+settable_at kind.Event = bit_or SIGNALED USER_SIGNALS
+settable_at _ = USER_SIGNALS
+
+-- both masks keep to the signals that calls may change
+abbrev pub may_change_at : Kind → ℕ → ℕ → Bool
+may_change_at k clear set = within clear (settable_at k) && within set (settable_at k)
+
+-- why no signal changes, with the caller's handle looked up: rights come before masks
+abbrev pub signal_refusal_of : ℕ → ℕ → Option Entry → Option Status
+signal_refusal_of clear set None = Some status.BadHandle
+signal_refusal_of clear set (Some e) =
+    option_or (then_some (not (within SIGNAL (bits e.rights))) status.AccessDenied)
+    (then_some (not (may_change_at e.kind clear set)) status.InvalidArgs)
+
+-- the answer of signal other than OK
+abbrev pub signal_refusal : Map Entry → ℕ → ℕ → ℕ → Option Status
+signal_refusal entries value clear set = signal_refusal_of clear set (get entries value)
+
+-- the signals of the object that the handle names change, and no handle does
+pub record SignalsObject (t : Handles) (r : Registry) (value clear set : ℕ) (t2 : Handles) (r2 : Registry) : Type 0 where
+  pub unrefused : signal_refusal t.entries value clear set ≡ None
+  pub original : Entry
+  pub was : get t.entries value ≡ Some original
+  pub table : t2 ≡ t
+  pub objects : r2 ≡ changing r original.koid clear set
+
+-- signal by the handle at the value, with these masks; it never wants memory
+abbrev pub SignalDoes : (value clear set : ℕ) → Handles → Registry → Result ⊤ Status → Handles → Registry → Type 0
+SignalDoes value clear set t r = Does (λ _. SignalsObject t r value clear set) false (signal_refusal t.entries value clear set) t r

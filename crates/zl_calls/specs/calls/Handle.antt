@@ -1,0 +1,67 @@
+-- What calls on handles do: close and dup. No public clause cites this module.
+use Rattle.std.specs.Prelude.{ℕ, ◌≡◌, ◌<◌, IsTrue, true, ◌||◌, not, length, Option, Some, None, Result, ⊤, ◌==◌, if◌then◌else◌}
+use Rattle.std.specs.Bool.{then_some}
+use Rattle.std.specs.Option.{option_or}
+use Rattle.zl_rights.specs.declared.status.Status.{Status}
+use Rattle.zl_rights.specs.declared.status.Status.TheVariants as status
+use Rattle.zl_rights.specs.declared.entry.Entry.{Entry}
+use Rattle.zl_rights.specs.declared.rights.Rights.{Rights}
+use Rattle.zl_rights.specs.Numbers.{bits, within, narrowed, DUPLICATE}
+use Rattle.zl_rights.specs.Map.{Map, get, has_key, without}
+use Rattle.zl_rights.specs.Signals.{is_empty}
+use Rattle.zl_code.specs.Tests.{with_rights}
+use Rattle.zl_table.specs.Table.{Handles, Inserts}
+use Rattle.zl_calls.specs.declared.objects.Object.{Object}
+use Rattle.zl_calls.specs.Registry.{Registry, has_place, holding, released}
+use Rattle.zl_calls.specs.calls.Answer.{Does, has_room_in, status_of}
+
+-- ---- close
+
+-- the answer of close; 0 passes
+abbrev pub close_answer : Map Entry → ℕ → Status
+close_answer entries value = if has_key entries value || value == 0 then status.Ok else status.BadHandle
+
+-- the table without the handle
+abbrev pub without_handle : Handles → ℕ → Handles
+without_handle t value = if has_key t.entries value then record { entries = without t.entries value; last = Some value } else t
+
+-- the objects after the handle, if there is one, has closed
+abbrev pub closing : Registry → Option Entry → Registry
+closing r None = r
+closing r (Some e) = released r e.koid
+
+-- the handle at the value closes, if there is one
+pub record CloseDoes (value : ℕ) (t : Handles) (r : Registry) (answer : Result ⊤ Status) (t2 : Handles) (r2 : Registry) : Type 0 where
+  pub answered : status_of answer ≡ close_answer t.entries value
+  pub table : t2 ≡ without_handle t value
+  pub objects : r2 ≡ closing r (get t.entries value)
+
+-- ---- dup
+
+-- why no second handle is made, with the caller's handle looked up: rights come before room
+abbrev pub dup_refusal_of : Map Entry → Map Object → ℕ → Option Entry → Option Status
+dup_refusal_of entries objects asked None = Some status.BadHandle
+dup_refusal_of entries objects asked (Some e) =
+    option_or (then_some (not (within DUPLICATE (bits e.rights))) status.AccessDenied)
+    (option_or (then_some (is_empty (with_rights e (narrowed e.rights asked))) status.InvalidArgs)
+    (then_some (not (has_room_in entries) || not (has_place (get objects e.koid))) status.NoResources))
+
+-- the answer of dup other than OK
+abbrev pub dup_refusal : Map Entry → Map Object → ℕ → ℕ → Option Status
+dup_refusal entries objects value asked = dup_refusal_of entries objects asked (get entries value)
+
+-- a copy of the handle, with the rights that were granted, gets the value made
+pub record Dups (t : Handles) (r : Registry) (value asked made : ℕ) (t2 : Handles) (r2 : Registry) : Type 0 where
+  pub unrefused : dup_refusal t.entries r.objects value asked ≡ None
+  pub original : Entry
+  pub was : get t.entries value ≡ Some original
+  pub granted : Rights
+  pub allowed : narrowed original.rights asked ≡ Some granted
+  pub room : length t.entries < 1024
+  pub place : IsTrue (has_place (get r.objects original.koid))
+  pub inserts : Inserts t (record original { rights = granted }) made t2
+  pub objects : r2 ≡ holding r original.koid
+
+-- dup of the handle at the value, with these rights asked for
+abbrev pub DupDoes : ℕ → ℕ → Handles → Registry → Result ℕ Status → Handles → Registry → Type 0
+DupDoes value asked t r = Does (Dups t r value asked) true (dup_refusal t.entries r.objects value asked) t r

@@ -1,0 +1,96 @@
+//! Calls on events.
+
+ghost use Rattle.std.specs.Prelude.{◌≡◌, Some, None, if◌then◌else◌};
+ghost use Rattle.zl_rights.specs.Numbers.{within};
+ghost use Rattle.zl_calls.specs.calls.Event.{EventCreateDoes, SignalDoes, settable_at};
+
+use crate::calls::{insert, look_up};
+use crate::objects::{Body, Objects};
+use bitflags::Flags;
+use zl_rights::{Entry, HValue, Kind, Rights, Signals, Status};
+use zl_table::Table;
+
+/// Makes an event, with a handle that has the default rights.
+///
+/// `NoResources` where the table is full or no koid is left, `NoMemory`.
+/// Source: the page "zx_event_create" of the Fuchsia documentation.
+pub fn event_create(table: &mut Table, objects: &mut Objects) -> Result<HValue, Status>
+    ensures { EventCreateDoes table.old objects.old result table.new objects.new }
+{
+    if table.len() >= Table::CAPACITY || !objects.has_koid() {
+        return Err(Status::NoResources);
+    }
+    let Ok(koid) = objects.create(Body::Event, 1) else {
+        return Err(Status::NoMemory);
+    };
+    let entry = Entry {
+        koid,
+        kind: Kind::Event,
+        rights: Kind::Event.default_rights(),
+    };
+    match insert(table, entry) {
+        Ok(made) => Ok(made),
+        Err(refused) => {
+            objects.take_back(koid);
+            Err(refused)
+        }
+    }
+}
+
+/// Takes the signals `clear` from the object, and then gives it the signals `set`.
+///
+/// `BadHandle`, `AccessDenied` without the right to signal, `InvalidArgs` for a bit that calls may
+/// not change at an object of its kind.
+/// Source: the page "zx_object_signal" of the Fuchsia documentation.
+pub fn signal(
+    table: &Table,
+    objects: &mut Objects,
+    value: u64,
+    clear: u64,
+    set: u64,
+) -> Result<(), Status>
+    ensures { SignalDoes value clear set table.now objects.old result table.now objects.new }
+{
+    let entry = look_up(table, value, Rights::SIGNAL)?;
+    let (Some(clear), Some(set)) = (
+        signals_within(clear, entry.kind),
+        signals_within(set, entry.kind),
+    ) else {
+        return Err(Status::InvalidArgs);
+    };
+    objects.change(entry.koid, clear, set);
+    Ok(())
+}
+
+/// The signals with these bits, if calls may set and clear each of them at an object of this kind.
+fn signals_within(bits: u64, kind: Kind) -> Option<Signals>
+    ensures { result ≡ (if within bits (settable_at kind) then Some (record { 0 = bits }) else None) }
+{
+    let Ok(bits) = u32::try_from(bits) else {
+        return None;
+    };
+    let signals = Signals::from_bits_retain(bits);
+    if settable(kind).contains(signals) {
+        Some(signals)
+    } else {
+        None
+    }
+}
+
+/// The signals that calls may set and clear at an object of this kind.
+fn settable(kind: Kind) -> Signals
+    ensures { result.0 ≡ settable_at kind }
+{
+    let user = Signals::USER_0
+        .union(Signals::USER_1)
+        .union(Signals::USER_2)
+        .union(Signals::USER_3)
+        .union(Signals::USER_4)
+        .union(Signals::USER_5)
+        .union(Signals::USER_6)
+        .union(Signals::USER_7);
+    match kind {
+        Kind::Event => Signals::SIGNALED.union(user),
+        _ => user,
+    }
+}

@@ -1,0 +1,77 @@
+//! Calls on handles.
+
+ghost use Rattle.std.specs.Prelude.{◌≡◌, ◌==◌, if◌then◌else◌};
+ghost use Rattle.zl_rights.specs.Map.{get};
+ghost use Rattle.zl_calls.specs.calls.Answer.{status_of};
+ghost use Rattle.zl_calls.specs.calls.Handle.{CloseDoes, DupDoes, without_handle};
+
+use crate::calls::{insert, look_up};
+use crate::objects::Objects;
+use zl_rights::{Entry, HValue, Rights, Status, narrow};
+use zl_table::Table;
+
+/// Closes the handle; 0 is answered OK.
+///
+/// `BadHandle` unless the value is live or 0.
+/// Source: the page "zx_handle_close" of the Fuchsia documentation.
+pub fn close(table: &mut Table, objects: &mut Objects, value: u64) -> Result<(), Status>
+    ensures { CloseDoes value table.old objects.old result table.new objects.new }
+{
+    match take_out(table, value) {
+        Some(entry) => {
+            objects.release(entry.koid);
+            Ok(())
+        }
+        None => unless_zero(value),
+    }
+}
+
+/// The answer to closing a value that isn't live.
+fn unless_zero(value: u64) -> Result<(), Status>
+    ensures { status_of result ≡ (if value == 0 then Status.Ok else Status.BadHandle) }
+{
+    if value == 0 {
+        Ok(())
+    } else {
+        Err(Status::BadHandle)
+    }
+}
+
+/// The handle at the value leaves the table, if it is live.
+fn take_out(table: &mut Table, value: u64) -> Option<Entry>
+    ensures entry { result ≡ get table.old.entries value }
+    ensures table { table.new ≡ without_handle table.old value }
+{
+    // A quick answer, and a fact that the prover needs below, as in `look_up`.
+    if table.len() == 0 {
+        return None;
+    }
+    match HValue::try_from(value) {
+        Ok(value) => table.remove(value),
+        Err(_) => None,
+    }
+}
+
+/// Makes a second handle to the object, with the rights asked for.
+///
+/// `BadHandle`, `AccessDenied` without the right to duplicate, `InvalidArgs` where `asked` is
+/// neither `Rights::SAME_RIGHTS` alone nor a subset of the handle's rights, `NoResources` where the
+/// table is full or the object has too many handles, `NoMemory`.
+/// Source: the page "zx_handle_duplicate" of the Fuchsia documentation.
+pub fn dup(
+    table: &mut Table,
+    objects: &mut Objects,
+    value: u64,
+    asked: u32,
+) -> Result<HValue, Status>
+    ensures { DupDoes value asked table.old objects.old result table.new objects.new }
+{
+    let entry = look_up(table, value, Rights::DUPLICATE)?;
+    let rights = narrow(entry.rights, asked)?;
+    if table.len() >= Table::CAPACITY || !objects.may_hold(entry.koid) {
+        return Err(Status::NoResources);
+    }
+    let made = insert(table, Entry { rights, ..entry })?;
+    objects.hold(entry.koid);
+    Ok(made)
+}

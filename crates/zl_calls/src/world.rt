@@ -69,8 +69,10 @@ impl World {
         ensures programs { IfOk result (λ world. world.programs ≡ library) }
         ensures limit { OnOk result (boot.now.limit ≤ MOST_ITEMS) }
         ensures err { IfErr result (λ fault. fault.cause ≢ NoMemory
-            → FirstFault library boot.now.statements.items boot.now.limit fault.statement fault.cause) }
-        ensures reached { IfErr result (λ fault. IsReached library boot.now.statements.items fault.statement) }
+            → FirstFault library boot.now.statements.items boot.now.limit
+            fault.statement fault.cause) }
+        ensures reached { IfErr result (λ fault.
+            IsReached library boot.now.statements.items fault.statement) }
     {
         let Made { processes, objects } = booted(alloc, &library, boot)?;
         Ok(World {
@@ -123,7 +125,8 @@ impl World {
     pub fn perform(&mut self, pid: Pid) -> Outcome
         requires { IsSome (call_for self.old pid) }
         ensures steps { Performs self.old pid result self.new }
-        ensures no_memory { result ≡ Outcome.Answered Status.NoMemory → IfSome (call_for self.old pid) (λ call. IsTrue (takes_memory call)) }
+        ensures no_memory { result ≡ Outcome.Answered Status.NoMemory
+            → IfSome (call_for self.old pid) (λ call. IsTrue (takes_memory call)) }
     {
         let Some(place) = place_of(&self.processes, pid) else {
             unreachable!()

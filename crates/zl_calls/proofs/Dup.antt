@@ -28,7 +28,7 @@ use Rattle.zl_code.specs.Calls.{Values, replied, taken}
 use Rattle.zl_calls.specs.declared.objects.Object.{Object}
 use Rattle.zl_calls.specs.declared.process.Process.{Process}
 use Rattle.zl_calls.specs.Registry.{Registry, has_place, held_once_more, holding}
-use Rattle.zl_calls.specs.calls.Answer.{IsAnswered, Replies, has_room_in}
+use Rattle.zl_calls.specs.calls.Answer.{IsAnswered, one_value, Replies, has_room_in}
 use Rattle.zl_calls.specs.calls.Handle.{Dups, DupDoes, dup_refusal, dup_refusal_of}
 use Rattle.zl_calls.specs.World.{process_entry, process_value, object_value, state_value, world_value}
 use Rattle.zl_calls.specs.Lab.{IsLab, IsNamed}
@@ -145,7 +145,7 @@ module _ (lib : Library) (before after : List Process) (r r2 : Registry) (p p2 :
 
   -- ---- the step
 
-  pub dup_done : state_value p.state ≡ Ready → (call : CallName) → next_for lib (process_value p) ≡ AtCall call s → (o : Outcome) → IsAnswered (λ made. made ∷ []) (DupDoes h asked) s p r o p2 r2 → IsDone lib before after r r2 p.pid call o
+  pub dup_done : state_value p.state ≡ Ready → (call : CallName) → next_for lib (process_value p) ≡ AtCall call s → (o : Outcome) → IsAnswered one_value (DupDoes h asked) s p r o p2 r2 → IsDone lib before after r r2 p.pid call o
   unfolding row_of taken_handles handle_operands remove_all
-  dup_done ready call next o acts = answered_done lib before after r r2 p p2 lab write ready call s next (λ made. made ∷ []) (Dups p.table r h asked) true (dup_refusal p.table.entries r.objects h asked)
+  dup_done ready call next o acts = answered_done lib before after r r2 p p2 lab write ready call s next one_value (Dups p.table r h asked) true (dup_refusal p.table.entries r.objects h asked)
       refused refl refl dup_called o acts.answer acts.acts acts.replied acts.ends

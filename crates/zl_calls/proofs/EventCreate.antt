@@ -34,7 +34,7 @@ use Rattle.zl_calls.specs.declared.objects.Body.TheVariants as body
 use Rattle.zl_calls.specs.declared.objects.Object.{Object}
 use Rattle.zl_calls.specs.declared.process.Process.{Process}
 use Rattle.zl_calls.specs.Registry.{Registry, new_object, with_new, is_kept, stays_alone, lives_below, has_living_child, is_job_at, is_job_in}
-use Rattle.zl_calls.specs.calls.Answer.{IsAnswered, Replies, has_room_in}
+use Rattle.zl_calls.specs.calls.Answer.{IsAnswered, one_value, Replies, has_room_in}
 use Rattle.zl_calls.specs.calls.Event.{CreatesEvent, EventCreateDoes, event_refusal}
 use Rattle.zl_calls.specs.World.{process_entry, process_value, object_entry, state_value, world_value}
 use Rattle.zl_calls.specs.Lab.{IsLab, IsNamed, AgreesOn, is_in_job}
@@ -235,7 +235,7 @@ module _ (lib : Library) (before after : List Process) (r r2 : Registry) (p p2 :
 
   -- ---- the step
 
-  pub event_create_done : state_value p.state ≡ Ready → (call : CallName) → next_for lib (process_value p) ≡ AtCall call s → (o : Outcome) → IsAnswered (λ made. made ∷ []) EventCreateDoes s p r o p2 r2 → IsDone lib before after r r2 p.pid call o
+  pub event_create_done : state_value p.state ≡ Ready → (call : CallName) → next_for lib (process_value p) ≡ AtCall call s → (o : Outcome) → IsAnswered one_value EventCreateDoes s p r o p2 r2 → IsDone lib before after r r2 p.pid call o
   unfolding row_of taken_handles handle_operands remove_all
-  event_create_done ready call next o acts = answered_done lib before after r r2 p p2 lab write ready call s next (λ made. made ∷ []) (CreatesEvent p.table r) true (event_refusal p.table.entries r.next_koid)
+  event_create_done ready call next o acts = answered_done lib before after r r2 p p2 lab write ready call s next one_value (CreatesEvent p.table r) true (event_refusal p.table.entries r.next_koid)
       refused refl refl event_create_called o acts.answer acts.acts acts.replied acts.ends

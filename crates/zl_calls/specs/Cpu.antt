@@ -1,14 +1,33 @@
 -- The Cpu of a process that starts, its slots, and instructions that are never stuck. No public clause cites this module.
-use Rattle.std.specs.Prelude.{ℕ, Bool, true, false, List, [], Option, Some, None, slice_get, slice_set}
+use Rattle.std.specs.Prelude.{ℕ, Bool, true, false, List, [], Option, Some, None, slice_get, slice_set, replicate}
 use Rattle.zl_rights.specs.World.{Cpu}
 use Rattle.zl_code.specs.declared.instr.LocalInstr.{LocalInstr}
 use Rattle.zl_code.specs.declared.instr.LocalInstr.TheVariants as local
+use Rattle.zl_code.specs.declared.image.SlotArray.{SlotArray}
 use Rattle.zl_code.specs.Image.{Image}
+use Rattle.zl_code.specs.Local.{reg, sets, overwritten}
+use Rattle.zl_code.specs.Spells.{bytes_of}
 use Rattle.zl_code.specs.Starting.{blank_cpu, cpu_given}
 
 -- all is 0 but the word in register 1
 abbrev pub started_cpu : Image → ℕ → Cpu
 started_cpu image word = cpu_given [] word (blank_cpu (Some (record { checked = false; image = image })))
+
+-- the register holds the value
+abbrev pub register_set : Cpu → ℕ → ℕ → Cpu
+register_set c register value = record c { registers = slice_set c.registers register value }
+
+-- the n bytes of the value stand in memory from the address on
+abbrev pub memory_set : Cpu → ℕ → ℕ → ℕ → Cpu
+memory_set c n address value = record c { memory = overwritten c.memory address (bytes_of n value) }
+
+-- the register holds what was in the other, which holds 0, and the next instruction stands next
+abbrev pub moved : Cpu → ℕ → ℕ → Cpu
+moved c destination source = register_set (sets c destination (reg c source)) source 0
+
+-- the places of a slot array that starts: each holds 0
+abbrev pub empty_places : SlotArray → List ℕ
+empty_places array = replicate array.length 0
 
 -- whether the instruction asks for neither data memory nor slot arrays
 abbrev pub is_free : LocalInstr → Bool

@@ -1,5 +1,5 @@
 -- What the definitions of calls see of the objects: each with its count of handles, by koid. No public clause cites this module.
-use Rattle.std.specs.Prelude.{ℕ, ◌≡◌, ◌+◌, ◌-◌, ◌^◌, ◌<◌, IsTrue, Bool, true, false, ◌&&◌, ◌||◌, ◌==◌, nat_lt, [], ◌∷◌, ◌++◌, Option, Some, None, if◌then◌else◌}
+use Rattle.std.specs.Prelude.{ℕ, ◌≡◌, ◌+◌, ◌-◌, ◌^◌, ◌<◌, IsTrue, Bool, true, false, ◌&&◌, ◌||◌, ◌==◌, nat_lt, [], ◌∷◌, ◌++◌, Option, Some, None, length, take, if◌then◌else◌}
 use Rattle.std.specs.List.{list_any}
 use Rattle.zl_rights.specs.declared.entry.Entry.{Entry}
 use Rattle.zl_rights.specs.Numbers.{changed}
@@ -100,6 +100,10 @@ with_new r body handles = record {
   objects = r.objects ++ (r.next_koid, new_object body handles) ∷ [];
   next_koid = r.next_koid + 1;
 }
+
+-- the objects without the newest, which had the koid k
+abbrev pub without_newest : Registry → ℕ → Registry
+without_newest r k = record { objects = take (length r.objects - 1) r.objects; next_koid = k }
 
 -- the objects, where one handle more names the object k
 abbrev pub holding : Registry → ℕ → Registry

@@ -8,7 +8,11 @@ use Rattle.zl_code.specs.declared.history.CallName.{CallName}
 use Rattle.zl_code.specs.declared.history.ProcState.{ProcState}
 use Rattle.zl_code.specs.declared.history.ProcState.TheVariants as seen
 use Rattle.zl_code.specs.Image.{Library}
-use Rattle.zl_code.specs.Steps.{Next, AtCall, Moves, IsStuck, next_for}
+use Rattle.zl_code.specs.declared.instr.CallInstr.{CallInstr}
+use Rattle.zl_code.specs.declared.instr.LocalInstr.{LocalInstr}
+use Rattle.zl_code.specs.Local.{local_effect}
+use Rattle.zl_code.specs.Request.{name_of, site_of}
+use Rattle.zl_code.specs.Steps.{Next, AtCall, Moves, IsStuck, moves, calls_at, next_for}
 use Rattle.zl_calls.specs.declared.objects.Body.{Body}
 use Rattle.zl_calls.specs.declared.objects.Body.TheVariants as body
 use Rattle.zl_calls.specs.declared.objects.Object.{Object}
@@ -97,6 +101,22 @@ abbrev pub call_in : Next → Option CallName
 call_in (AtCall call site) = Some call
 call_in (Moves to) = None
 call_in IsStuck = None
+
+-- what stands next for the process
+abbrev pub stands_next : Library → Process → Next
+stands_next lib p = next_for lib (process_value p)
+
+-- the call stands next for the process, built or not
+abbrev pub CallsNext : Library → Process → CallInstr → Type 0
+CallsNext lib p call = stands_next lib p ≡ calls_at (name_of call) (site_of call p.cpu)
+
+-- the local instruction stands next for the process
+abbrev pub MovesNext : Library → Process → LocalInstr → Type 0
+MovesNext lib p local = stands_next lib p ≡ moves (local_effect local p.cpu)
+
+-- where no call stands next, the process is stuck
+abbrev pub IsStuckOrCalls : Next → Type 0
+IsStuckOrCalls next = call_in next ≡ None → next ≡ IsStuck
 
 -- the call at which the process that was looked up is; just a ready one is at a call
 abbrev pub call_of : Library → Option ProcessValue → Option CallName

@@ -1,6 +1,6 @@
-ghost use Rattle.std.specs.Prelude.{◌≡◌, ◌+◌, ◌<◌, ◌^◌, IfOk, map, replicate, slice_set};
+ghost use Rattle.std.specs.Prelude.{◌≡◌, ◌+◌, ◌<◌, ◌^◌, IfOk, map};
 ghost use Rattle.zl_code.specs.Local.{reg, sets, goes_to, goes_if};
-ghost use Rattle.zl_calls.specs.Cpu.{started_cpu};
+ghost use Rattle.zl_calls.specs.Cpu.{started_cpu, register_set, empty_places};
 
 use std::alloc::{AllocError, Global};
 use std::marker::Model;
@@ -57,7 +57,7 @@ impl Cpu {
 
     /// The register becomes the value.
     pub fn set(&mut self, register: Register, value: u64)
-        ensures { self.new ≡ record self.old { registers = slice_set self.old.registers register value } }
+        ensures { self.new ≡ register_set self.old register value }
     {
         self.registers[register.number() as usize] = value;
     }
@@ -101,7 +101,8 @@ impl Cpu {
 
 /// Slot arrays with 0 in each place.
 fn empty_slots(alloc: Global, arrays: &[SlotArray]) -> Result<Vec<Vec<u64>>, AllocError>
-    ensures { IfOk result (λ slots. map (λ places. places.items) slots.items ≡ map (λ array. replicate array.length 0) arrays.now) }
+    ensures { IfOk result (λ slots. map (λ places. places.items) slots.items
+        ≡ map empty_places arrays.now) }
 {
     let mut slots = Vec::with_capacity(alloc, arrays.len())?;
     for array in arrays {

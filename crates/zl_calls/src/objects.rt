@@ -1,6 +1,6 @@
-ghost use Rattle.std.specs.Prelude.{[], ◌≡◌, ◌+◌, ◌-◌, ◌<◌, ◌^◌, length, nat_lt, take, IfOk, OnErr};
+ghost use Rattle.std.specs.Prelude.{[], ◌≡◌, ◌+◌, ◌<◌, ◌^◌, nat_lt, IfOk, OnErr};
 ghost use Rattle.zl_rights.specs.Map.{get};
-ghost use Rattle.zl_calls.specs.Registry.{has_place, held_once_more, held_once_less, raised_changed, stopped, job_of, job_in, lives_below, has_living_child, is_kept, is_job_at, with_new, holding, changing, letting_go, stopping, without_unheld, released, process_ended};
+ghost use Rattle.zl_calls.specs.Registry.{has_place, held_once_more, held_once_less, raised_changed, stopped, job_of, job_in, lives_below, has_living_child, is_kept, is_job_at, with_new, without_newest, holding, changing, letting_go, stopping, without_unheld, released, process_ended};
 ghost use Rattle.zl_calls.specs.Making.{root_alone};
 
 use bitflags::Flags;
@@ -171,7 +171,7 @@ impl Objects {
     /// the one given last.
     pub fn take_back(&mut self, koid: Koid)
         requires { self.old.next_koid ≡ koid + 1 }
-        ensures { self.new ≡ record { objects = take (length self.old.objects - 1) self.old.objects; next_koid = koid } }
+        ensures { self.new ≡ without_newest self.old koid }
     {
         self.by_koid.pop_last();
         self.next_koid = koid;

@@ -1,9 +1,7 @@
 ghost use Rattle.std.specs.Prelude.{◌≡◌, ◌<◌, ◌^◌, [], ◌∷◌, None};
-ghost use Rattle.zl_rights.specs.Numbers.{status_magnitude};
-ghost use Rattle.zl_rights.specs.World.{answered};
 ghost use Rattle.zl_rights.specs.Signals.{is_ready};
 ghost use Rattle.zl_calls.specs.World.{state_value, seen_in};
-ghost use Rattle.zl_calls.specs.calls.Answer.{status_of, values_of};
+ghost use Rattle.zl_calls.specs.calls.Answer.{status_of, no_value, one_value, answered_in};
 
 use crate::cpu::Cpu;
 use std::alloc::Global;
@@ -46,12 +44,13 @@ impl Process {
         matches!(self.state, State::Ready)
     }
 
-    /// The call is answered: its status register holds the answer, and the next instruction stands next.
+    /// The call is answered: its status register holds the answer, and the next instruction stands
+    /// next.
     #[tactic(auto, unfolding(zl_rights::specs::World::answered))]
     pub fn answer(&mut self, status: Register, answer: Result<(), Status>) -> Outcome
         requires { self.old.cpu.counter < 2 ^ 32 }
         ensures ends { result ≡ Outcome.Answered (status_of answer) }
-        ensures process { self.new ≡ record self.old { cpu = answered self.old.cpu (status ∷ []) (status_magnitude (status_of answer) ∷ []) } }
+        ensures process { self.new ≡ answered_in self.old (status ∷ []) no_value answer }
     {
         let answer = match answer {
             Ok(()) => Status::Ok,
@@ -73,7 +72,8 @@ impl Process {
     ) -> Outcome
         requires { self.old.cpu.counter < 2 ^ 32 }
         ensures ends { result ≡ Outcome.Answered (status_of answer) }
-        ensures process { self.new ≡ record self.old { cpu = answered self.old.cpu (status ∷ destination ∷ []) (status_magnitude (status_of answer) ∷ values_of (λ made. made ∷ []) answer) } }
+        ensures process { self.new
+            ≡ answered_in self.old (status ∷ destination ∷ []) one_value answer }
     {
         let (answer, made) = match answer {
             Ok(made) => (Status::Ok, u64::from(made)),
@@ -89,7 +89,10 @@ impl Process {
     /// The process ends with the code, with an empty table; the old one is the result.
     pub fn end(&mut self, alloc: Global, code: i32) -> Table
         ensures table { result ≡ self.old.table }
-        ensures ended { self.new ≡ record self.old { state = State.Ended code; table = self.new.table } }
+        ensures ended { self.new ≡ record self.old {
+          state = State.Ended code;
+          table = self.new.table;
+        } }
         ensures no_handle { self.new.table.entries ≡ [] }
         ensures no_last { self.new.table.last ≡ None }
     {

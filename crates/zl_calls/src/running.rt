@@ -4,7 +4,7 @@ ghost use Rattle.std.specs.Prelude.{◌≡◌, ◌+◌, ◌-◌, ◌*◌, ◌/�
 ghost use Rattle.zl_rights.specs.Numbers.{within};
 ghost use Rattle.zl_code.specs.Local.{local_effect, reg, sets, wrapped, is_in_memory, loads, stores, swaps, overwritten};
 ghost use Rattle.zl_code.specs.Spells.{number_of, bytes_of};
-ghost use Rattle.zl_calls.specs.Cpu.{is_free, slot_in, slot_set};
+ghost use Rattle.zl_calls.specs.Cpu.{is_free, slot_in, slot_set, memory_set, moved};
 
 use crate::cpu::Cpu;
 use zl_code::{LocalInstr, Register};
@@ -49,7 +49,7 @@ impl Cpu {
 
     fn write_byte(&mut self, place: usize, value: u64)
         requires { place + 1 ≤ length self.old.memory }
-        ensures { self.new ≡ record self.old { memory = overwritten self.old.memory place (bytes_of 1 value) } }
+        ensures { self.new ≡ memory_set self.old 1 place value }
     {
         let [low, ..] = value.to_le_bytes();
         self.memory[place..place + 1].copy_from_slice(&[low]);
@@ -57,7 +57,7 @@ impl Cpu {
 
     fn write_word(&mut self, place: usize, value: u64)
         requires { place + 8 ≤ length self.old.memory }
-        ensures { self.new ≡ record self.old { memory = overwritten self.old.memory place (bytes_of 8 value) } }
+        ensures { self.new ≡ memory_set self.old 8 place value }
     {
         self.memory[place..place + 8].copy_from_slice(&value.to_le_bytes());
     }
@@ -66,7 +66,8 @@ impl Cpu {
     fn load_byte(&mut self, register: Register, base: u64, offset: u32) -> Option<()>
         requires { self.old.counter < 2 ^ 32 }
         ensures some { OnSome result (loads self.old 1 register (base + offset) ≡ Some self.new) }
-        ensures none { IfNone result ((loads self.old 1 register (base + offset) ≡ None) × (self.new ≡ self.old)) }
+        ensures none { IfNone result ((loads self.old 1 register (base + offset) ≡ None)
+            × (self.new ≡ self.old)) }
     {
         let place = self.place(base, offset, 1)?;
         let byte = self.byte_at(place);
@@ -78,7 +79,8 @@ impl Cpu {
     fn load_word(&mut self, register: Register, base: u64, offset: u32) -> Option<()>
         requires { self.old.counter < 2 ^ 32 }
         ensures some { OnSome result (loads self.old 8 register (base + offset) ≡ Some self.new) }
-        ensures none { IfNone result ((loads self.old 8 register (base + offset) ≡ None) × (self.new ≡ self.old)) }
+        ensures none { IfNone result ((loads self.old 8 register (base + offset) ≡ None)
+            × (self.new ≡ self.old)) }
     {
         let place = self.place(base, offset, 8)?;
         let word = self.word_at(place);
@@ -90,7 +92,8 @@ impl Cpu {
     fn store_byte(&mut self, base: u64, offset: u32, value: u64) -> Option<()>
         requires { self.old.counter < 2 ^ 32 }
         ensures some { OnSome result (stores self.old 1 (base + offset) value ≡ Some self.new) }
-        ensures none { IfNone result ((stores self.old 1 (base + offset) value ≡ None) × (self.new ≡ self.old)) }
+        ensures none { IfNone result ((stores self.old 1 (base + offset) value ≡ None)
+            × (self.new ≡ self.old)) }
     {
         let place = self.place(base, offset, 1)?;
         self.write_byte(place, value);
@@ -102,7 +105,8 @@ impl Cpu {
     fn store_word(&mut self, base: u64, offset: u32, value: u64) -> Option<()>
         requires { self.old.counter < 2 ^ 32 }
         ensures some { OnSome result (stores self.old 8 (base + offset) value ≡ Some self.new) }
-        ensures none { IfNone result ((stores self.old 8 (base + offset) value ≡ None) × (self.new ≡ self.old)) }
+        ensures none { IfNone result ((stores self.old 8 (base + offset) value ≡ None)
+            × (self.new ≡ self.old)) }
     {
         let place = self.place(base, offset, 8)?;
         self.write_word(place, value);
@@ -129,7 +133,8 @@ impl Cpu {
     fn swap(&mut self, register: Register, place: u64, array: u32) -> Option<()>
         requires { self.old.counter < 2 ^ 32 }
         ensures some { OnSome result (swaps self.old register place array ≡ Some self.new) }
-        ensures none { IfNone result ((swaps self.old register place array ≡ None) × (self.new ≡ self.old)) }
+        ensures none { IfNone result ((swaps self.old register place array ≡ None)
+            × (self.new ≡ self.old)) }
     {
         let value = self.slot(array as usize, place as usize)?;
         self.set_slot(array as usize, place as usize, self.register(register));
@@ -140,7 +145,7 @@ impl Cpu {
     /// The register becomes the other, which becomes 0.
     fn take(&mut self, destination: Register, source: Register)
         requires { self.old.counter < 2 ^ 32 }
-        ensures { self.new ≡ record (sets self.old destination (reg self.old source)) { registers = slice_set (slice_set self.old.registers destination (reg self.old source)) source 0 } }
+        ensures { self.new ≡ moved self.old destination source }
     {
         let value = self.register(source);
         self.set(destination, value);

@@ -159,7 +159,8 @@ impl World {
     pub fn perform(&mut self, pid: Pid) -> Outcome
         requires { IsSome (call_for self.old pid) }
         ensures steps { Performs self.old pid result self.new }
-        ensures no_memory { result ≡ Outcome.Answered Status.NoMemory → IfSome (call_for self.old pid) (λ call. IsTrue (takes_memory call)) }
+        ensures no_memory { result ≡ Outcome.Answered Status.NoMemory
+            → IfSome (call_for self.old pid) (λ call. IsTrue (takes_memory call)) }
     {
         let Some(place) = place_of(&self.processes, pid) else {
             unreachable!()

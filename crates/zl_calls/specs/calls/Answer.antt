@@ -4,6 +4,8 @@ use Rattle.zl_rights.specs.declared.status.Status.{Status}
 use Rattle.zl_rights.specs.declared.status.Status.TheVariants as status
 use Rattle.zl_rights.specs.declared.entry.Entry.{Entry}
 use Rattle.zl_rights.specs.Map.{Map}
+use Rattle.zl_rights.specs.Numbers.{status_magnitude}
+use Rattle.zl_rights.specs.World.{answered}
 use Rattle.zl_code.specs.declared.history.Outcome.{Outcome}
 use Rattle.zl_code.specs.declared.history.Outcome.TheVariants as outcome
 use Rattle.zl_code.specs.Request.{Site}
@@ -54,6 +56,18 @@ pub record IsAnswered {A : Type 0} (values : A → List ℕ) (Acts : Handles →
   pub ends : o ≡ outcome.Answered (status_of answer)
   pub replied : Replies s (status_of answer) (values_of values answer) p p2
 
+-- the answer is a status alone
+abbrev pub no_value : ⊤ → List ℕ
+no_value done = []
+
+-- the answer gives the value of a new handle too
+abbrev pub one_value : ℕ → List ℕ
+one_value made = made ∷ []
+
+-- the process, with the answer in these registers
+abbrev pub answered_in : {A : Type 0} → Process → List ℕ → (A → List ℕ) → Result A Status → Process
+answered_in p destinations values answer = record p { cpu = answered p.cpu destinations (status_magnitude (status_of answer) ∷ values_of values answer) }
+
 -- ---- what a call does
 
 -- what a call does to the table of its caller and to the objects, and how it ends
@@ -63,10 +77,10 @@ pub data Action : Type 1 where
   -- its caller ends with the code, and gets no answer
   exits : (code : ℤ) → Action
 
--- the answer is a status alone
+-- its answer gives no value
 abbrev pub gives_none : (Handles → Registry → Result ⊤ Status → Handles → Registry → Type 0) → Action
-gives_none = answers ⊤ (λ _. [])
+gives_none = answers ⊤ no_value
 
--- the answer gives the value of a new handle too
+-- its answer gives the value of a new handle
 abbrev pub gives_one : (Handles → Registry → Result ℕ Status → Handles → Registry → Type 0) → Action
-gives_one = answers ℕ (λ made. made ∷ [])
+gives_one = answers ℕ one_value

@@ -1,5 +1,5 @@
 -- What calls on events do: event_create and signal. No public clause cites this module.
-use Rattle.std.specs.Prelude.{ℕ, ◌≡◌, ◌<◌, ◌+◌, ◌^◌, Bool, true, false, ◌&&◌, not, nat_le, bit_or, length, Option, Some, None, Result, ⊤}
+use Rattle.std.specs.Prelude.{ℕ, ◌≡◌, ◌<◌, ◌+◌, ◌^◌, Bool, true, false, ◌&&◌, not, nat_le, bit_or, length, Option, Some, None, Result, ⊤, if◌then◌else◌}
 use Rattle.std.specs.Bool.{then_some}
 use Rattle.std.specs.Option.{option_or}
 use Rattle.zl_rights.specs.declared.kind.Kind.{Kind}
@@ -7,6 +7,7 @@ use Rattle.zl_rights.specs.declared.kind.Kind.TheVariants as kind
 use Rattle.zl_rights.specs.declared.status.Status.{Status}
 use Rattle.zl_rights.specs.declared.status.Status.TheVariants as status
 use Rattle.zl_rights.specs.declared.entry.Entry.{Entry}
+use Rattle.zl_rights.specs.declared.signals.Signals.{Signals}
 use Rattle.zl_rights.specs.Numbers.{bits, within, SIGNAL, SIGNALED, USER_SIGNALS}
 use Rattle.zl_rights.specs.Map.{Map, get}
 use Rattle.zl_code.specs.Effects.{new_entry}
@@ -39,6 +40,10 @@ EventCreateDoes t r = Does (CreatesEvent t r) true (event_refusal t.entries r.ne
 abbrev pub settable_at : Kind → ℕ
 settable_at kind.Event = bit_or SIGNALED USER_SIGNALS
 settable_at _ = USER_SIGNALS
+
+-- the signals with these bits, if the test passes
+abbrev pub signals_if : Bool → ℕ → Option Signals
+signals_if passes bits = if passes then Some (record { 0 = bits }) else None
 
 -- both masks keep to the signals that calls may change
 abbrev pub may_change_at : Kind → ℕ → ℕ → Bool

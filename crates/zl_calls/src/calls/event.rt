@@ -1,8 +1,8 @@
 //! Calls on events.
 
-ghost use Rattle.std.specs.Prelude.{◌≡◌, Some, None, if◌then◌else◌};
+ghost use Rattle.std.specs.Prelude.{◌≡◌};
 ghost use Rattle.zl_rights.specs.Numbers.{within};
-ghost use Rattle.zl_calls.specs.calls.Event.{EventCreateDoes, SignalDoes, settable_at};
+ghost use Rattle.zl_calls.specs.calls.Event.{EventCreateDoes, SignalDoes, settable_at, signals_if};
 
 use crate::calls::{insert, look_up};
 use crate::objects::{Body, Objects};
@@ -64,7 +64,7 @@ pub fn signal(
 
 /// The signals with these bits, if calls may set and clear each of them at an object of this kind.
 fn signals_within(bits: u64, kind: Kind) -> Option<Signals>
-    ensures { result ≡ (if within bits (settable_at kind) then Some (record { 0 = bits }) else None) }
+    ensures { result ≡ signals_if (within bits (settable_at kind)) bits }
 {
     let Ok(bits) = u32::try_from(bits) else {
         return None;

@@ -1,5 +1,4 @@
-use Rattle.zl_calls.proofs.Performing.{performs, call_is}
-use Rattle.zl_calls.proofs.Performed.{takes_where_wanting}
+use Rattle.zl_calls.proofs.Performing.{performs, call_is, no_memory}
 use Rattle.zl_calls.proofs.world.World.perform.Goals as goal
 
 pub invariant_of-self : goal.invariant_of-self
@@ -23,4 +22,6 @@ returns-clause-no_memory c =
     let called = call_is c.self.inside.library c.self.inside.processes.items c.self.inside.objects c.self.invariant c.args.pid c.in-Some.place c.index_mut-process.result.now
     (rw c.deref.ensures.value at (c.in-Some.ensures {u = tt}).first) c.index_mut-process.ensures.value
     c.in-Some-next_call.call c.act.result c.act.new.process c.act.new.objects next.found (rw (← c.self.view_is) at c.requires) c.act.ensures in
-    λ wants. rw (← c.self.view_is, called) (takes_where_wanting c.index_mut-process.result.now c.act.new.process c.self.inside.objects c.act.new.objects c.act.result c.in-Some-next_call.call c.index_mut-process.result.now.cpu c.act.ensures wants)
+    λ wants. rw (← c.self.view_is, called) (no_memory c.self.inside.library c.self.inside.processes.items c.self.inside.objects c.self.invariant c.args.pid c.in-Some.place c.index_mut-process.result.now
+    (rw c.deref.ensures.value at (c.in-Some.ensures {u = tt}).first) c.index_mut-process.ensures.value
+    c.in-Some-next_call.call c.act.result c.act.new.process c.act.new.objects next.found (rw (← c.self.view_is) at c.requires) c.act.ensures wants)

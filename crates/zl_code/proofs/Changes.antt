@@ -28,11 +28,17 @@ pub record MayEnter (start after : World) (x : Process) (v : ℕ) (e : Entry) : 
   pub rights : HandlesAreSound start → IsTrue (has_default_rights e)
   pub names : HandlesAreNamed start → names_its_object after.objects e
 
+-- x becomes y
 pub data ProcessChange (start after : World) (x y : Process) : Type 0 where
+  -- a handle enters its table
   handle_enters : (v : ℕ) (e : Entry) → y ≡ process_with v e x → MayEnter start after x v e → ProcessChange start after x y
+  -- a handle leaves it
   handle_leaves : (v : ℕ) → y ≡ record x { handles = without x.handles v; last = Some v } → has_key x.handles v ≡ true → ProcessChange start after x y
+  -- it goes on, by itself or with an answer
   computes : (c : Cpu) → y ≡ record x { cpu = c } → ProcessChange start after x y
+  -- it is over, and its handles are closed
   ends : (code : ℤ) → y ≡ record x { state = Ended code; handles = []; last = None } → ProcessChange start after x y
+  -- it was blocked, and is ready
   wakes : (c : Cpu) → y ≡ record x { state = Ready; cpu = c } → IsTrue (runs x.state) → ProcessChange start after x y
 
 -- a process that is made between w and after
@@ -43,8 +49,11 @@ pub record IsNewProcess (start w after : World) (k : ℕ) (y : Process) : Type 0
   pub nothing_last : y.last ≡ None
   pub object : IsSound start → HasItsObject after.objects k
 
+-- x becomes y
 pub data ObjectChange (start : World) (x y : Object) : Type 0 where
+  -- a call cleared and raised signals
   signals_change : (clear set : ℕ) → y ≡ object_changed clear set x → (HandlesAreSound start → HandlesAreNamed start → IsTrue (within set (raisable x.body))) → ObjectChange start x y
+  -- packets came to a port, or left it
   packets_change : (old packets : List Packet) → x.body ≡ PortBody old → y ≡ record x { body = PortBody packets } → ObjectChange start x y
 
 -- an object that is made between w and after

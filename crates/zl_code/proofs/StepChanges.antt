@@ -73,8 +73,8 @@ all_enter start u p q (e ∷ es) (v ∷ vs) there running gets room fine =
     (process_changes start u p (process_with v e) (λ x at. changed x _ refl refl (handle_enters v e refl (subst (λ (y : Process). MayEnter start (on_process u p (process_with v e)) y v e) (same_Some q x (sym there ∙ at)) enters))) (λ x. refl))
     (all_enter start (on_process u p (process_with v e)) p (process_with v e q) es vs (changed_table u p q (process_with v e) there) running both.1 (omega arith) (All-tail (IsFine start u.objects) e es fine))
 
-state_without : (v : ℕ) (q : Process) → (process_without v q).state ≡ q.state
-state_without v q = elim (cases_Bool (has_key q.handles v)) as (λ _. (process_without v q).state ≡ q.state) [ inl there ↦ rw there refl | inr gone ↦ rw gone refl ]
+same_state : (v : ℕ) (q : Process) → (process_without v q).state ≡ q.state
+same_state v q = elim (cases_Bool (has_key q.handles v)) as (λ _. (process_without v q).state ≡ q.state) [ inl there ↦ rw there refl | inr gone ↦ rw gone refl ]
 
 all_leave : (start u : World) (p : ℕ) (hs : List ℕ) → Changes start u (remove_all u p hs)
 unfolding remove_all
@@ -101,7 +101,7 @@ left_behind w p q [] there = (q, record { objects = refl; next_koid = refl; is_t
 left_behind w p q (h ∷ hs) there =
     let rest = left_behind (on_process w p (process_without h)) p (process_without h q) hs (changed_table w p q (process_without h) there) in
     let shorter : length (process_without h q).handles ≤ length q.handles = shorter_without h q in
-    (rest.0, record { objects = rest.1.objects; next_koid = rest.1.next_koid; is_there = rest.1.is_there; state = rest.1.state ∙ state_without h q; shorter = omega (arith, rest.1.shorter) })
+    (rest.0, record { objects = rest.1.objects; next_koid = rest.1.next_koid; is_there = rest.1.is_there; state = rest.1.state ∙ same_state h q; shorter = omega (arith, rest.1.shorter) })
 
 -- ---- new handles
 

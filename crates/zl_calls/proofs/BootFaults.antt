@@ -15,7 +15,7 @@ use Rattle.zl_code.specs.declared.boot.BootCause.TheVariants as cause
 use Rattle.zl_code.specs.declared.boot.Statement.TheVariants as statement
 use Rattle.zl_code.specs.Image.{Library, Program}
 use Rattle.zl_code.specs.Tests.{body_in}
-use Rattle.zl_code.specs.Boot.{boot_fault, is_job_body, is_job}
+use Rattle.zl_code.specs.Boot.{boot_fault, is_job_body, is_job, MOST_PROCESSES, MOST_KOIDS}
 use Rattle.zl_calls.specs.declared.objects.Body.TheVariants as body
 use Rattle.zl_calls.specs.declared.objects.Object.{Object}
 use Rattle.zl_calls.specs.declared.process.Process.{Process}
@@ -47,31 +47,31 @@ module _ (lib : Library) (ps : List Process) (r : Registry) (job program word : 
 
   pub fault_no_program : length lib ≤ program → fault ≡ Some cause.Unknown
   unfolding boot_fault
-  fault_no_program past = rw (slice_get_past lib program past) (elim (is_job (world_value ps r) job) as (λ b. first_some (then_some (not b || true) cause.Unknown ∷ then_some (nat_le 64 (length (map process_entry ps)) || nat_lt 1024 r.next_koid) cause.Limit ∷ []) ≡ Some cause.Unknown) [ true ↦ refl | false ↦ refl ])
+  fault_no_program past = rw (slice_get_past lib program past) (elim (is_job (world_value ps r) job) as (λ b. first_some (then_some (not b || true) cause.Unknown ∷ then_some (nat_le MOST_PROCESSES (length (map process_entry ps)) || nat_lt MOST_KOIDS r.next_koid) cause.Limit ∷ []) ≡ Some cause.Unknown) [ true ↦ refl | false ↦ refl ])
 
   pub fault_no_job : is_job_object (get r.objects job) ≡ false → fault ≡ Some cause.Unknown
   unfolding boot_fault
   fault_no_job none = rw (job_seen ps r job, none) refl
 
-  pub fault_limit : (g : Program) → slice_get lib program ≡ Some g → is_job_object (get r.objects job) ≡ true → (64 ≤ length ps) ⊎ (1024 < r.next_koid) → fault ≡ Some cause.Limit
+  pub fault_limit : (g : Program) → slice_get lib program ≡ Some g → is_job_object (get r.objects job) ≡ true → (MOST_PROCESSES ≤ length ps) ⊎ (MOST_KOIDS < r.next_koid) → fault ≡ Some cause.Limit
   unfolding boot_fault
   fault_limit g there job_there past = rw (job_seen ps r job, job_there, there, above) refl
     where
-      above : (nat_le 64 (length (map process_entry ps)) || nat_lt 1024 r.next_koid) ≡ true
-      above = elim past as (λ _. (nat_le 64 (length (map process_entry ps)) || nat_lt 1024 r.next_koid) ≡ true) [
-        | inl many ↦ or_left (nat_le 64 (length (map process_entry ps))) (nat_lt 1024 r.next_koid) (rw (length-map) (grind (arith, nat_tests, many)))
-        | inr given ↦ or_right (nat_le 64 (length (map process_entry ps))) (nat_lt 1024 r.next_koid) (grind (arith, nat_tests, given))
+      above : (nat_le MOST_PROCESSES (length (map process_entry ps)) || nat_lt MOST_KOIDS r.next_koid) ≡ true
+      above = elim past as (λ _. (nat_le MOST_PROCESSES (length (map process_entry ps)) || nat_lt MOST_KOIDS r.next_koid) ≡ true) [
+        | inl many ↦ or_left (nat_le MOST_PROCESSES (length (map process_entry ps))) (nat_lt MOST_KOIDS r.next_koid) (rw (length-map) (grind (arith, nat_tests, many)))
+        | inr given ↦ or_right (nat_le MOST_PROCESSES (length (map process_entry ps))) (nat_lt MOST_KOIDS r.next_koid) (grind (arith, nat_tests, given))
       ]
 
-  pub no_fault : (g : Program) → slice_get lib program ≡ Some g → is_job_object (get r.objects job) ≡ true → length ps < 64 → r.next_koid ≤ 1024 → fault ≡ None
+  pub no_fault : (g : Program) → slice_get lib program ≡ Some g → is_job_object (get r.objects job) ≡ true → length ps < MOST_PROCESSES → r.next_koid ≤ MOST_KOIDS → fault ≡ None
   unfolding boot_fault
   no_fault g there job_there few left = rw (job_seen ps r job, job_there, there, room, koid) refl
     where
-      room : nat_le 64 (length (map process_entry ps)) ≡ false
+      room : nat_le MOST_PROCESSES (length (map process_entry ps)) ≡ false
       room = rw (length-map) (grind (arith, nat_tests, few))
 
-      koid : nat_lt 1024 r.next_koid ≡ false
+      koid : nat_lt MOST_KOIDS r.next_koid ≡ false
       koid = grind (arith, nat_tests, left)
 
-  pub wants_memory : (g : Program) → slice_get lib program ≡ Some g → is_job_object (get r.objects job) ≡ true → length ps < 64 → r.next_koid ≤ 1024 → IsCauseOf fault cause.NoMemory
+  pub wants_memory : (g : Program) → slice_get lib program ≡ Some g → is_job_object (get r.objects job) ≡ true → length ps < MOST_PROCESSES → r.next_koid ≤ MOST_KOIDS → IsCauseOf fault cause.NoMemory
   wants_memory g there job_there few left = rw (no_fault g there job_there few left) refl

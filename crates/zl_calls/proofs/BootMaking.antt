@@ -9,7 +9,8 @@ use Rattle.zl_rights.specs.World.{Process as ProcessValue}
 use Rattle.zl_code.specs.declared.boot.Statement.TheVariants as statement
 use Rattle.zl_code.specs.Image.{Image, Library, Program}
 use Rattle.zl_code.specs.Effects.{with_object}
-use Rattle.zl_code.specs.Boot.{boot_effect, started_process, cpu_given, blank_cpu}
+use Rattle.zl_code.specs.Boot.{boot_effect, started_process, MOST_PROCESSES, MOST_KOIDS}
+use Rattle.zl_code.specs.Starting.{cpu_given, blank_cpu}
 use Rattle.zl_table.proofs.MapEdits.{sorted_put, put_key}
 use Rattle.zl_calls.specs.declared.objects.Body.TheVariants as body
 use Rattle.zl_calls.specs.declared.objects.Object.{Object}
@@ -62,7 +63,7 @@ module _ (ps : List Process) (r : Registry) (making : IsMaking ps r) (p : Proces
   objects_are : grown.objects ≡ put r.objects n living
   objects_are = sym (put_last r.objects n living making.given_objects)
 
-  pub still_making : n ≤ 1024 → IsMaking (ps ++ p ∷ []) grown
+  pub still_making : n ≤ MOST_KOIDS → IsMaking (ps ++ p ∷ []) grown
   still_making left = record {
     fresh = All-push IsFresh ps p making.fresh new.fresh;
     objects = ap (λ (m : Map Object). m ++ (n, living) ∷ []) making.objects
@@ -79,7 +80,7 @@ module _ (ps : List Process) (r : Registry) (making : IsMaking ps r) (p : Proces
       below (inr there) old = omega (arith, old there)
 
   pub as_defined : (lib : Library) (g : Program) → slice_get lib program ≡ Some g → image ≡ g.image
-      → world_value (ps ++ p ∷ []) grown ≡ boot_effect lib (world_value ps r) (statement.Process 1 program word)
+      → world_value (ps ++ p ∷ []) grown ≡ boot_effect lib (world_value ps r) (statement.Process 1 program word) []
   unfolding boot_effect with_object
   as_defined lib g there same = λ i. record {
     processes = (processes_are ∙ ap (λ (q : ProcessValue). put (map process_entry ps) n q) process_is) i;
@@ -90,10 +91,10 @@ module _ (ps : List Process) (r : Registry) (making : IsMaking ps r) (p : Proces
     waits_made = 0;
   }
     where
-      cpu_is : p.cpu ≡ cpu_given word (blank_cpu (slice_get lib program))
+      cpu_is : p.cpu ≡ cpu_given [] word (blank_cpu (slice_get lib program))
       cpu_is = new.cpu ∙ ap (λ (k : Image). started_cpu k word) same ∙ rw there refl
 
-      process_is : process_value p ≡ started_process lib program word
+      process_is : process_value p ≡ started_process lib program [] [] word
       process_is = λ i. record {
         program = new.program_is i;
         cpu = cpu_is i;
@@ -110,7 +111,7 @@ module _ (ps : List Process) (r : Registry) (making : IsMaking ps r) (p : Proces
 -- ---- the statement
 
 pub makes : (lib : Library) (before after : Made) (job program word : ℕ) (g : Program) (p : Process) → IsMaking before.processes.items before.objects
-    → slice_get lib program ≡ Some g → is_job_in (get before.objects.objects job) ≡ true → length before.processes.items < 64 → before.objects.next_koid ≤ 1024
+    → slice_get lib program ≡ Some g → is_job_in (get before.objects.objects job) ≡ true → length before.processes.items < MOST_PROCESSES → before.objects.next_koid ≤ MOST_KOIDS
     → IsNew p before.objects program word g.image
     → after.processes.items ≡ before.processes.items ++ p ∷ [] → after.objects ≡ with_new before.objects (body.Process job true) 0
     → Makes lib (statement.Process job program word) before after
@@ -120,6 +121,8 @@ makes lib before after job program word g p making there job_there few left new 
     let grown : after.objects ≡ with_new before.objects (body.Process 1 true) 0 = objects ∙ ap (λ (k : ℕ). with_new before.objects (body.Process k true) 0) root in
     record {
       no_fault = no_fault lib ps before.objects job program word g there job_there few left;
+      values = [];
+      chosen = refl;
       effect = rw (processes, grown, root) (as_defined ps before.objects making p program word g.image new lib g there refl);
       making = rw (processes, grown) (still_making ps before.objects making p program word g.image new left);
     }

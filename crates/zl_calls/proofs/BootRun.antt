@@ -1,5 +1,5 @@
 -- One statement after another: what was made is what the definitions make, up to the first fault.
-use Rattle.std.proofs.Common.{◌≢◌, ◌≡◌, ◌<◌, ◌≤◌, ◌+◌, ℕ, List, [], ◌∷◌, ◌++◌, take, length, refl, sym, ap, ◌∙◌, Option, Some, None, get_or}
+use Rattle.std.proofs.Common.{◌≢◌, ◌≡◌, ◌<◌, ◌≤◌, ◌+◌, ℕ, List, [], ◌∷◌, ◌++◌, take, length, refl, sym, ap, ◌∙◌, Option, Some, None, get_or, max, IsTrue, arith}
 use Rattle.std.proofs.lemmas.List.{take_more, take_all}
 use Rattle.std.proofs.lemmas.Option.{slice_get-get_or}
 use Rattle.zl_rights.specs.World.{World}
@@ -7,7 +7,7 @@ use Rattle.zl_code.specs.declared.boot.Statement.{Statement}
 use Rattle.zl_code.specs.declared.boot.BootCause.{BootCause}
 use Rattle.zl_code.specs.declared.boot.BootCause.TheVariants as cause
 use Rattle.zl_code.specs.Image.{Library}
-use Rattle.zl_code.specs.Boot.{boot_effect, boot_fault, Boots, FirstFault, at_statement, at_limit, MOST_ITEMS, origin}
+use Rattle.zl_code.specs.Boot.{boot_effect, boot_fault, may_boot, Boots, FirstFault, at_statement, at_limit, MOST_ITEMS, origin}
 use Rattle.zl_calls.specs.declared.booting.Made.{Made}
 use Rattle.zl_calls.specs.Making.{IsMaking, root_alone}
 use Rattle.zl_calls.specs.Makes.{Makes, IsCauseOf, IsReached, seen}
@@ -18,9 +18,11 @@ pub record IsMadeBy (lib : Library) (done : List Statement) (made : Made) : Type
   pub boots : Boots lib origin done (seen made)
   pub making : IsMaking made.processes.items made.objects
 
-boots_more : (lib : Library) (w w2 w3 : World) (ss : List Statement) (s : Statement) → Boots lib w ss w2 → boot_fault lib w2 s ≡ None → w3 ≡ boot_effect lib w2 s → Boots lib w (ss ++ s ∷ []) w3
-boots_more lib w w2 w3 [] s so_far no_fault effect = (rw so_far at no_fault, rw so_far at effect)
-boots_more lib w w2 w3 (t ∷ ss) s so_far no_fault effect = (so_far.0, boots_more lib (boot_effect lib w t) w2 w3 ss s so_far.1 no_fault effect)
+boots_more : (lib : Library) (w w2 w3 : World) (ss : List Statement) (s : Statement) (vs : List ℕ) → Boots lib w ss w2
+    → boot_fault lib w2 s ≡ None → IsTrue (may_boot lib w2 s vs) → w3 ≡ boot_effect lib w2 s vs → Boots lib w (ss ++ s ∷ []) w3
+boots_more lib w w2 w3 [] s vs so_far no_fault chosen effect = (vs, rw so_far at no_fault, rw so_far at chosen, rw so_far at effect)
+boots_more lib w w2 w3 (t ∷ ss) s vs (xs, fine, may, rest) no_fault chosen effect =
+    (xs, fine, may, boots_more lib (boot_effect lib w t xs) w2 w3 ss s vs rest no_fault chosen effect)
 
 pub none_made : (lib : Library) (made : Made) → made.processes.items ≡ [] → made.objects ≡ root_alone → IsMadeBy lib [] made
 none_made lib made none root = record {
@@ -31,7 +33,7 @@ none_made lib made none root = record {
 pub one_more : (lib : Library) (ss : List Statement) (i : ℕ) (d : Statement) (before after : Made) → i < length ss → IsMadeBy lib (take i ss) before → Makes lib (get_or ss i d) before after
     → IsMadeBy lib (take (i + 1) ss) after
 one_more lib ss i d before after lt so_far makes = record {
-  boots = rw (take_more ss i d lt) (boots_more lib origin (seen before) (seen after) (take i ss) (get_or ss i d) so_far.boots makes.no_fault makes.effect);
+  boots = rw (take_more ss i d lt) (boots_more lib origin (seen before) (seen after) (take i ss) (get_or ss i d) makes.values so_far.boots makes.no_fault makes.chosen makes.effect);
   making = makes.making;
 }
 
@@ -51,4 +53,7 @@ limit_fault lib ss limit i made all so_far above = at_limit (seen made) (rw take
 -- ---- the statements before a fault
 
 pub none_reached : (lib : Library) (ss : List Statement) → IsReached lib ss 0
-none_reached lib ss = record { made = origin; boots = refl }
+none_reached lib ss = record { made = origin; boots = refl; place = omega arith }
+
+pub some_reached : (lib : Library) (ss : List Statement) (i : ℕ) (made : Made) → i < length ss → IsMadeBy lib (take i ss) made → IsReached lib ss i
+some_reached lib ss i made lt so_far = record { made = seen made; boots = so_far.boots; place = omega arith }

@@ -25,6 +25,7 @@ pub mod Signal
 pub mod Exit
 pub mod Performed
 pub mod Performing
+pub mod Turns
 pub mod Wanting
 pub mod BootFaults
 pub mod BootMaking

@@ -1,14 +1,14 @@
 -- The Cpu of a process that starts, its slots, and instructions that are never stuck. No public clause cites this module.
-use Rattle.std.specs.Prelude.{ℕ, Bool, true, false, List, Option, Some, None, slice_get, slice_set}
+use Rattle.std.specs.Prelude.{ℕ, Bool, true, false, List, [], Option, Some, None, slice_get, slice_set}
 use Rattle.zl_rights.specs.World.{Cpu}
 use Rattle.zl_code.specs.declared.instr.LocalInstr.{LocalInstr}
 use Rattle.zl_code.specs.declared.instr.LocalInstr.TheVariants as local
 use Rattle.zl_code.specs.Image.{Image}
-use Rattle.zl_code.specs.Boot.{blank_cpu, cpu_given}
+use Rattle.zl_code.specs.Starting.{blank_cpu, cpu_given}
 
 -- all is 0 but the word in register 1
 abbrev pub started_cpu : Image → ℕ → Cpu
-started_cpu image word = cpu_given word (blank_cpu (Some (record { checked = false; image = image })))
+started_cpu image word = cpu_given [] word (blank_cpu (Some (record { checked = false; image = image })))
 
 -- whether the instruction asks for neither data memory nor slot arrays
 abbrev pub is_free : LocalInstr → Bool

@@ -1,11 +1,11 @@
 -- What one statement of a boot does to the processes and objects made so far.
-use Rattle.std.specs.Prelude.{ℕ, ◌≡◌, List, take, Option, Some, None}
+use Rattle.std.specs.Prelude.{ℕ, ◌≡◌, ◌<◌, List, length, take, max, Option, Some, None, IsTrue}
 use Rattle.zl_rights.specs.World.{World}
 use Rattle.zl_code.specs.declared.boot.BootCause.{BootCause}
 use Rattle.zl_code.specs.declared.boot.BootCause.TheVariants as cause
 use Rattle.zl_code.specs.declared.boot.Statement.{Statement}
 use Rattle.zl_code.specs.Image.{Library}
-use Rattle.zl_code.specs.Boot.{boot_fault, boot_effect, Boots, origin}
+use Rattle.zl_code.specs.Boot.{boot_fault, boot_effect, may_boot, Boots, origin}
 use Rattle.zl_calls.specs.declared.booting.Made.{Made}
 use Rattle.zl_calls.specs.World.{world_value}
 use Rattle.zl_calls.specs.Making.{IsMaking}
@@ -14,10 +14,12 @@ use Rattle.zl_calls.specs.Making.{IsMaking}
 abbrev pub seen : Made → World
 seen made = world_value made.processes.items made.objects
 
--- the statement leads from one world to the other
+-- the statement leads from one world to the other, by a choice of values
 pub record Makes (lib : Library) (s : Statement) (old new : Made) : Type 0 where
   pub no_fault : boot_fault lib (seen old) s ≡ None
-  pub effect : seen new ≡ boot_effect lib (seen old) s
+  pub values : List ℕ
+  pub chosen : IsTrue (may_boot lib (seen old) s values)
+  pub effect : seen new ≡ boot_effect lib (seen old) s values
   pub making : IsMaking new.processes.items new.objects
 
 -- the cause is that of the statement; where it has none it is the want of memory
@@ -25,7 +27,8 @@ abbrev pub IsCauseOf : Option BootCause → BootCause → Type 0
 IsCauseOf None c = c ≡ cause.NoMemory
 IsCauseOf (Some found) c = c ≡ found
 
--- the statements before number n can be done
+-- number n is that of a statement, or 0 where there is none, and the statements before it can be done
 pub record IsReached (lib : Library) (statements : List Statement) (n : ℕ) : Type 0 where
   pub made : World
   pub boots : Boots lib origin (take n statements) made
+  pub place : n < max 1 (length statements)

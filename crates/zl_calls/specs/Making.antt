@@ -1,9 +1,10 @@
 -- What the statements of a boot make, before what isn't held is gone. No public clause cites this module.
-use Rattle.std.specs.Prelude.{ℕ, ◌≡◌, ◌<◌, ◌≤◌, true, IsTrue, List, [], ◌∷◌, map, None}
+use Rattle.std.specs.Prelude.{ℕ, ◌≡◌, ◌+◌, ◌<◌, ◌≤◌, true, IsTrue, List, [], ◌∷◌, map, None}
 use Rattle.std.specs.List.{All}
 use Rattle.std.specs.Ordering.{nat_cmp}
 use Rattle.std.specs.FinMap.Entries.{is_sorted}
 use Rattle.zl_rights.specs.Map.{has_key}
+use Rattle.zl_code.specs.Boot.{MOST_KOIDS}
 use Rattle.zl_calls.specs.declared.objects.Body.TheVariants as body
 use Rattle.zl_calls.specs.declared.objects.Object.{Object}
 use Rattle.zl_calls.specs.declared.process.State.TheVariants as state
@@ -47,4 +48,4 @@ pub record IsMaking (processes : List Process) (r : Registry) : Type 0 where
   pub objects_in_order : IsTrue (is_sorted nat_cmp r.objects)
   pub given_processes : (k : ℕ) → IsTrue (has_key (map process_entry processes) k) → k < r.next_koid
   pub given_objects : (k : ℕ) → IsTrue (has_key r.objects k) → k < r.next_koid
-  pub koids : r.next_koid ≤ 1025
+  pub koids : r.next_koid ≤ MOST_KOIDS + 1

@@ -35,8 +35,10 @@ pub fn booted(alloc: Global, library: &Library, boot: &Boot) -> Result<Made, Boo
     ensures lab { IfOk result (λ made. IsLab made.processes.items made.objects) }
     ensures limit { OnOk result (boot.now.limit ≤ MOST_ITEMS) }
     ensures err { IfErr result (λ fault. fault.cause ≢ BootCause.NoMemory
-        → FirstFault library.now boot.now.statements.items boot.now.limit fault.statement fault.cause) }
-    ensures reached { IfErr result (λ fault. IsReached library.now boot.now.statements.items fault.statement) }
+        → FirstFault library.now boot.now.statements.items boot.now.limit
+        fault.statement fault.cause) }
+    ensures reached { IfErr result (λ fault. fault.cause ≡ BootCause.NoMemory
+        → IsReached library.now boot.now.statements.items fault.statement) }
 {
     let Ok(mut made) = Made::new(alloc) else {
         return Err(fault_at(0, BootCause::NoMemory));
@@ -93,8 +95,10 @@ impl Made {
         word: u64,
     ) -> Result<(), BootCause>
         requires { IsMaking self.old.processes.items self.old.objects }
-        ensures ok { OnOk result (Makes library.now (Statement.Process job program word) self.old self.new) }
-        ensures err { IfErr result (IsCauseOf (boot_fault library.now (seen self.old) (Statement.Process job program word))) }
+        ensures ok { OnOk result
+            (Makes library.now (Statement.Process job program word) self.old self.new) }
+        ensures err { IfErr result (IsCauseOf
+            (boot_fault library.now (seen self.old) (Statement.Process job program word))) }
     {
         let Some(listed) = library.get(program as usize) else {
             return Err(BootCause::Unknown);

@@ -81,7 +81,8 @@ impl Library {
 
     /// The program of this number, if there is one.
     pub fn get(&self, number: usize) -> Option<&Program>
-        ensures found { IfSome result (λ program. slice_get self.now number ≡ Some (program_value program.now)) }
+        ensures found { IfSome result
+            (λ program. slice_get self.now number ≡ Some (program_value program.now)) }
         ensures missing { IfNone result (length self.now ≤ number) }
     {
         self.programs.get(number)

@@ -1,11 +1,11 @@
-ghost use Rattle.std.specs.Prelude.{length, ◌<◌, ◌^◌, ◌≡◌, ◌≢◌, ◌≤◌, IsSome, IsTrue, IfSome, IfOk, OnOk, IfErr, None, slice_get, map};
+ghost use Rattle.std.specs.Prelude.{length, ◌<◌, ◌^◌, ◌≡◌, ◌≢◌, ◌≤◌, false, IsSome, IsTrue, IfSome, IfNone, IfOk, OnOk, IfErr, None, slice_get, map};
 ghost use Rattle.std.specs.Ordering.{nat_cmp};
 ghost use Rattle.std.specs.FinMap.Entries.{is_sorted};
 ghost use Rattle.zl_code.specs.declared.boot.BootCause.TheVariants.{NoMemory};
 ghost use Rattle.zl_code.specs.Boot.{IsBoot, FirstFault, MOST_ITEMS};
 ghost use Rattle.zl_calls.specs.World.{call_for, state_in, is_ready_in};
 ghost use Rattle.zl_calls.specs.Makes.{IsReached};
-ghost use Rattle.zl_calls.specs.Steps.{Performs, StepsTo, local_item, takes_memory};
+ghost use Rattle.zl_calls.specs.Steps.{Performs, StepsTo, TakesStep, local_item, takes_memory};
 
 use crate::booting::{Made, booted};
 use crate::calls::end;
@@ -15,7 +15,7 @@ use crate::program::Library;
 use crate::stepping::{act, name_of, next_call, place_of, run_next};
 use std::alloc::Global;
 use std::marker::Model;
-use zl_code::{Boot, BootFault, CallName, Outcome, ProcState};
+use zl_code::{Boot, BootFault, CallName, Outcome, ProcState, TraceItem};
 use zl_rights::{Pid, Status};
 
 /// The code with which a stuck process ends (own profile).
@@ -63,14 +63,17 @@ impl World {
     /// The fault names the first statement that can't be done: `Unknown` where it names no job or no
     /// program, `Limit` for the 65th process or where no koid up to 1,024 is left. A limit of the
     /// trace above `Boot::MOST_ITEMS` is `Limit` of a statement one past the last. `NoMemory` may
-    /// come at any statement, and for the root job, which is made before all, as of statement 0.
+    /// come at any statement, and for the root job, which is made before all, as of statement 0, which
+    /// need not be there.
     pub fn boot(alloc: Global, library: Library, boot: &Boot) -> Result<World, BootFault>
         ensures ok { IfOk result (λ world. IsBoot library boot.now.statements.items world.world) }
         ensures programs { IfOk result (λ world. world.programs ≡ library) }
         ensures limit { OnOk result (boot.now.limit ≤ MOST_ITEMS) }
         ensures err { IfErr result (λ fault. fault.cause ≢ NoMemory
-            → FirstFault library boot.now.statements.items boot.now.limit fault.statement fault.cause) }
-        ensures reached { IfErr result (λ fault. IsReached library boot.now.statements.items fault.statement) }
+            → FirstFault library boot.now.statements.items boot.now.limit
+            fault.statement fault.cause) }
+        ensures reached { IfErr result (λ fault. fault.cause ≡ NoMemory
+            → IsReached library boot.now.statements.items fault.statement) }
     {
         let Made { processes, objects } = booted(alloc, &library, boot)?;
         Ok(World {
@@ -107,11 +110,45 @@ impl World {
     {
         let place = place_of(&self.processes, pid)?;
         let process = &self.processes[place];
+        if process.is_ready() {
+            let call = next_call(&self.library, process)?;
+            Some(name_of(&call))
+        } else {
+            None
+        }
+    }
+
+    /// Does the next instruction of the process, if the process is ready: the system call at which it
+    /// is, as `perform` does, or a local one, as `local` does. It looks the process up once.
+    ///
+    /// Nothing where the process isn't ready, or there is none of this koid.
+    /// Source: that of `perform` and `local`.
+    pub fn step(&mut self, pid: Pid) -> Option<TraceItem>
+        ensures ran { IfSome result (TakesStep self.old pid self.new) }
+        ensures not_ready { IfNone result (is_ready_in self.old pid ≡ false) }
+        ensures unchanged { IfNone result (self.new ≡ self.old) }
+    {
+        let place = place_of(&self.processes, pid)?;
+        let process = &mut self.processes[place];
         if !process.is_ready() {
             return None;
         }
-        let call = next_call(&self.library, process)?;
-        Some(name_of(call))
+        if let Some(call) = next_call(&self.library, process) {
+            let name = name_of(&call);
+            let outcome = act(self.alloc, process, &mut self.objects, call);
+            return Some(TraceItem::Call {
+                pid,
+                call: name,
+                outcome,
+            });
+        }
+        match run_next(&self.library, process) {
+            Some(()) => Some(TraceItem::Run { pid, count: 1 }),
+            None => {
+                end(self.alloc, process, &mut self.objects, STUCK);
+                Some(TraceItem::Stuck { pid })
+            }
+        }
     }
 
     /// Does the system call at which the process is, with all that follows from it.

@@ -1,5 +1,5 @@
 -- Boot, its faults, and the run of a program that ends stuck, by computation.
-use Rattle.std.proofs.Common.{◌≡◌, ℕ, arith, Bool, true, ◌&&◌, IsTrue, List, [], ◌∷◌, refl, replicate, Option, Some, None}
+use Rattle.std.proofs.Common.{◌≡◌, ℕ, arith, Bool, true, ◌&&◌, IsTrue, List, [], ◌∷◌, refl, replicate, map, take, Option, Some, None}
 use Rattle.std.specs.Prelude.{not, is_some, negsuc}
 use Rattle.std.proofs.lemmas.Bool.{and_parts}
 use Rattle.zl_rights.specs.World.{World, Ready, Ended}
@@ -14,21 +14,21 @@ use Rattle.zl_code.specs.declared.history.TraceItem.TheVariants as item
 use Rattle.zl_code.specs.Image.{Library}
 use Rattle.zl_code.specs.Calls.{Choice, Refused}
 use Rattle.zl_code.specs.Steps.{IsLegalHistory}
-use Rattle.zl_code.specs.Boot.{IsBoot, Boots, FirstFault, at_statement, at_limit, boot_fault, boot_effect, origin}
+use Rattle.zl_code.specs.Boot.{IsBoot, Boots, FirstFault, at_statement, at_limit, boot_fault, boot_effect, may_boot, origin, started_process}
 use Rattle.zl_code.proofs.Running.{run_by, IsLegalHistory-by, computing, world_after}
-use Rattle.zl_code.proofs.RowsWords.{program_of, state_of, registers_of}
+use Rattle.zl_code.proofs.RowsWords.{program_of, state_of, registers_of, event_with, FIRST_RIGHTS}
 
 -- ---- what computes boot
 
--- the world after the statements
+-- the world after statements that give no handles
 abbrev booted : Library → World → List Statement → World
 booted lib w [] = w
-booted lib w (s ∷ ss) = booted lib (boot_effect lib w s) ss
+booted lib w (s ∷ ss) = booted lib (boot_effect lib w s []) ss
 
 -- no statement has a fault
 abbrev all_boot : Library → World → List Statement → Bool
 all_boot lib w [] = true
-all_boot lib w (s ∷ ss) = not (is_some (boot_fault lib w s)) && all_boot lib (boot_effect lib w s) ss
+all_boot lib w (s ∷ ss) = not (is_some (boot_fault lib w s)) && (may_boot lib w s [] && all_boot lib (boot_effect lib w s []) ss)
 
 is_none : {A : Type 0} (o : Option A) → IsTrue (not (is_some o)) → o ≡ None
 is_none None h = refl
@@ -38,7 +38,8 @@ Boots-by : (lib : Library) (w : World) (ss : List Statement) → IsTrue (all_boo
 Boots-by lib w [] h = refl
 Boots-by lib w (s ∷ ss) h =
     let both = and_parts (not (is_some (boot_fault lib w s))) _ h in
-    (is_none (boot_fault lib w s) both.0, Boots-by lib (boot_effect lib w s) ss both.1)
+    let rest = and_parts (may_boot lib w s []) _ both.1 in
+    ([], is_none (boot_fault lib w s) both.0, rest.0, Boots-by lib (boot_effect lib w s []) ss rest.1)
 
 -- ---- boot
 
@@ -75,6 +76,15 @@ one_has_its_word : registers_of boot 2 ≡ 0 ∷ 6 ∷ 0 ∷ 0 ∷ 0 ∷ 0 ∷ [
 unfolding computing boot_fault boot_effect
 one_has_its_word = refl
 
+-- The first of four handles is in register 0, the others from register 2 on, beside the word.
+four_handles : take 7 (started_process library 0 (replicate 4 (event_with FIRST_RIGHTS)) (5 ∷ 7 ∷ 8 ∷ 9 ∷ []) 6).cpu.registers ≡ 5 ∷ 6 ∷ 7 ∷ 8 ∷ 9 ∷ 0 ∷ 0 ∷ []
+four_handles = refl
+
+-- They are in its table at these values.
+in_its_table : map (λ h. h.0) (started_process library 0 (replicate 4 (event_with FIRST_RIGHTS)) (5 ∷ 7 ∷ 8 ∷ 9 ∷ []) 6).handles ≡ 5 ∷ 7 ∷ 8 ∷ 9 ∷ []
+unfolding computing
+in_its_table = refl
+
 -- ---- faults of boot
 
 -- The library has no program 0.
@@ -88,7 +98,7 @@ unfolding computing boot_fault
 no_job = refl
 
 -- Koid 2 is a process, and no job.
-process_is_no_job : boot_fault library (boot_effect library origin one) (statement.Process 2 0 0) ≡ Some cause.Unknown
+process_is_no_job : boot_fault library (boot_effect library origin one []) (statement.Process 2 0 0) ≡ Some cause.Unknown
 unfolding computing boot_fault boot_effect
 process_is_no_job = refl
 

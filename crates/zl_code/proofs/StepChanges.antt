@@ -295,9 +295,9 @@ pub job_is_there : (o : Option Object) → is_job_body (body_in o) ≡ true → 
 job_is_there None h = absurd (true≢false (sym h))
 job_is_there (Some o) h = refl
 
-pub boot_changes : (lib : Library) (w : World) (s : Statement) → boot_fault lib w s ≡ None → Changes w w (boot_effect lib w s)
+pub boot_changes : (lib : Library) (w : World) (s : Statement) (vs : List ℕ) → boot_fault lib w s ≡ None → Changes w w (boot_effect lib w s vs)
 unfolding boot_fault boot_effect with_object
-boot_changes lib w (statement.Process job program word) fine =
+boot_changes lib w (statement.Process job program word) vs fine =
     changes w made _ (object_is_made w w (ProcessBody job) refl)
     (one w made _ (process_is_made w made w.next_koid _ (record {
       free = λ s. no_process s (get w.processes w.next_koid) refl;

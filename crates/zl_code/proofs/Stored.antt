@@ -69,7 +69,7 @@ abbrev pub statements : List Statement
 statements = statement.Process 1 0 0 ∷ []
 
 abbrev pub made : World
-made = boot_effect library origin (statement.Process 1 0 0)
+made = boot_effect library origin (statement.Process 1 0 0) []
 
 abbrev pub boot : World
 boot = settled_in made 1
@@ -77,7 +77,7 @@ boot = settled_in made 1
 -- The world with one ready process, and the root job that it keeps, is a boot world of the one statement.
 is_boot : IsBoot library statements boot
 unfolding computing boot_fault boot_effect
-is_boot = record { made = made; boots = (refl, refl); settles = Settles-by made 1 refl }
+is_boot = record { made = made; boots = ([], refl, refl, refl); settles = Settles-by made 1 refl }
 
 abbrev pub history : List TraceItem
 history =

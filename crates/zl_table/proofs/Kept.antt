@@ -9,6 +9,7 @@ use Rattle.zl_rights.specs.declared.entry.Entry.{Entry}
 use Rattle.zl_rights.specs.Map.{Map, get, put, without, update, has_key}
 use Rattle.zl_table.proofs.MapEdits.{none_not_some, none_unless_some, sorted_put, length-put_new, put_key, get-put_none, get-without, get-without_none, sorted_without, length-without, is_sorted-update, length-update, has_key-update, get-update_none}
 use Rattle.zl_table.specs.Places.{IsKept, next_value}
+use Rattle.zl_table.specs.Table.{CAPACITY}
 
 -- a fact on the Ok side, where the result is Ok
 pub from_ok : {A E P : Type 0} (r : Result A E) → is_ok r ≡ true → OnOk r P → P
@@ -83,7 +84,7 @@ module _ (places : Map Entry) (freed : List ℕ) (room : ℕ) (last : Option ℕ
   rest_at : (i : ℕ) → i < length rest → (i < length freed - 1) × (get_or rest i 0 ≡ get_or freed i 0)
   rest_at i lt = let below : i < length freed - 1 = omega (arith, length-rest) in (below, get_or-take (length freed - 1) freed i 0 below)
 
-  pub kept_inserted : (e : Entry) (new_room : ℕ) → length places < 1024 → length freed + (length places + 1) ≤ new_room → IsKept (put places value e) rest new_room None
+  pub kept_inserted : (e : Entry) (new_room : ℕ) → length places < CAPACITY → length freed + (length places + 1) ≤ new_room → IsKept (put places value e) rest new_room None
   kept_inserted e new_room free has_room = record {
     sorted = sorted_put places value e kept.sorted;
     few = omega (arith, total, kept.few);

@@ -134,13 +134,3 @@ module _ {X : Type 0} where
     in_range = slice_get_within m (length m - 1) x read;
     has_key = λ d. ap (λ (e : ℕ × X). e.0) (get_or_from_slice_get m (length m - 1) x d read);
   }
-
-  -- no key is above the last
-  pub last_greatest : (m : Map X) → IsTrue (is_sorted nat_cmp m) → (k : ℕ) → IsAt m k (length m - 1) → (other : ℕ) → k < other → get m other ≡ None
-  last_greatest m sorted k at other above = get_gap m other (length m) (record {
-    in_range = omega arith;
-    between = (
-      λ j d le lt. omega (arith, keys_rise m sorted j (length m - 1) d (omega arith) at.in_range, at.has_key d),
-      λ j d le lt. absurd (omega arith),
-    );
-  })

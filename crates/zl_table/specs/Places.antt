@@ -6,6 +6,7 @@ use Rattle.std.specs.Ordering.{nat_cmp}
 use Rattle.std.specs.FinMap.Entries.{is_sorted}
 use Rattle.zl_rights.specs.declared.entry.Entry.{Entry}
 use Rattle.zl_rights.specs.Map.{Map, get, has_key}
+use Rattle.zl_table.specs.Table.{CAPACITY}
 
 -- the value is that of the entry at place i
 pub record IsAt {X : Type 0} (places : Map X) (value i : ℕ) : Type 0 where
@@ -20,7 +21,7 @@ pub record IsGapFor {X : Type 0} (places : Map X) (value i : ℕ) : Type 0 where
 -- values are 1 to the number of live and freed ones, and room is the capacity of freed
 pub record IsKept (places : Map Entry) (freed : List ℕ) (room : ℕ) (last : Option ℕ) : Type 0 where
   pub sorted : IsTrue (is_sorted nat_cmp places)
-  pub few : length places + length freed ≤ 1024
+  pub few : length places + length freed ≤ CAPACITY
   pub has_room : length places + length freed ≤ room
   pub values : (value : ℕ) → IsTrue (has_key places value) → (0 < value) × (value ≤ length places + length freed)
   pub freed_values : (i : ℕ) → i < length freed → (0 < slice_index freed i) × (slice_index freed i ≤ length places + length freed)

@@ -7,6 +7,14 @@ use Rattle.zl_rights.specs.Map.{Map, get, put, without, has_key}
 use Rattle.zl_table.specs.declared.table.InsertFault.{InsertFault}
 use Rattle.zl_table.specs.declared.table.InsertFault.TheVariants as fault
 
+-- the most handles of a table
+abbrev pub CAPACITY : ℕ
+CAPACITY = 1024
+
+-- the greatest value of a handle
+abbrev pub MOST_VALUE : ℕ
+MOST_VALUE = 65535
+
 -- a table: its handles by their values, and the value removed last, until the next insertion
 pub record Handles : Type 0 where
   pub entries : Map Entry
@@ -15,14 +23,14 @@ pub record Handles : Type 0 where
 -- what is true of every table
 pub record IsTable (t : Handles) : Type 0 where
   pub sorted : IsTrue (is_sorted nat_cmp t.entries)
-  pub few : length t.entries ≤ 1024
-  pub values : (value : ℕ) → IsTrue (has_key t.entries value) → (0 < value) × (value ≤ 65535)
+  pub few : length t.entries ≤ CAPACITY
+  pub values : (value : ℕ) → IsTrue (has_key t.entries value) → (0 < value) × (value ≤ MOST_VALUE)
 
 -- the entry goes into the table at an unused value: the value removed last, if there is one
 pub record Inserts (old : Handles) (entry : Entry) (value : ℕ) (new : Handles) : Type 0 where
   pub unused : get old.entries value ≡ None
   pub above : 0 < value
-  pub below : value ≤ 65535
+  pub below : value ≤ MOST_VALUE
   pub again : IfSome old.last (λ last. value ≡ last)
   pub entries : new.entries ≡ put old.entries value entry
   pub last : new.last ≡ None
@@ -33,10 +41,9 @@ pub record Removes (old : Handles) (value : ℕ) (entry : Entry) (new : Handles)
   pub entries : new.entries ≡ without old.entries value
   pub last : new.last ≡ Some value
 
--- the entry with the greatest value leaves the table
+-- the entry leaves the table, at whichever value it had
 pub record Drains (old : Handles) (entry : Entry) (new : Handles) : Type 0 where
   pub value : ℕ
-  pub greatest : (other : ℕ) → value < other → get old.entries other ≡ None
   pub removes : Removes old value entry new
 
 -- the entry that a refused insertion hands back

@@ -5,7 +5,7 @@ ghost use Rattle.std.specs.FinMap.Entries.{is_sorted};
 ghost use Rattle.zl_rights.specs.Numbers.{bits, takes};
 ghost use Rattle.zl_rights.specs.Map.{get, has_key, update};
 ghost use Rattle.zl_rights.specs.LookUp.{looked_up};
-ghost use Rattle.zl_table.specs.Table.{IsTable, Inserts, Removes, Drains, refused_entry};
+ghost use Rattle.zl_table.specs.Table.{CAPACITY, IsTable, Inserts, Removes, Drains, refused_entry};
 ghost use Rattle.zl_table.specs.Places.{IsAt, IsGapFor, next_value};
 
 use std::alloc::Global;
@@ -114,13 +114,18 @@ impl Table {
     /// Gives the entry a value that isn't live: the value removed last, if nothing was inserted
     /// since, and else the one freed most recently, or a fresh one.
     ///
-    /// `Full` just where the table holds `CAPACITY` handles; `NoMemory` where there is no memory.
+    /// `Full` where the table holds `CAPACITY` handles, and `NoMemory` where there is no memory.
+    /// `Full` comes at no other time (`full_only`), which is true of this representation alone: callers
+    /// use only that it comes at `CAPACITY` handles (`full`).
+    ///
     /// Source: own profile.
     pub fn insert(&mut self, entry: Entry) -> Result<HValue, InsertFault>
         ensures ok { IfOk result (λ value. Inserts self.old entry value self.new) }
         ensures unchanged { OnErr result (self.new ≡ self.old) }
         ensures handed_back { IfErr result (λ fault. refused_entry fault ≡ entry) }
-        ensures full { (result ≡ Err (InsertFault.Full entry)) ↔ (length self.old.entries ≡ 1024) }
+        ensures full { length self.old.entries ≡ CAPACITY → result ≡ Err (InsertFault.Full entry) }
+        ensures full_only { result ≡ Err (InsertFault.Full entry)
+            → length self.old.entries ≡ CAPACITY }
     {
         let live = self.places.len();
         if live == Table::CAPACITY {
@@ -180,8 +185,10 @@ impl Table {
         true
     }
 
-    /// Takes the entry with the greatest value out, or nothing where the table is empty. It takes no
-    /// memory. The order is own profile.
+    /// Takes one entry out, whichever it is, or nothing where the table is empty. No memory is
+    /// taken.
+    ///
+    /// Source: own profile.
     pub fn drain(&mut self) -> Option<Entry>
         ensures some { IfSome result (λ entry. Drains self.old entry self.new) }
         ensures empty { IfNone result (self.old.entries ≡ []) }
@@ -201,7 +208,7 @@ fn is_asked_for(kinds: &[Kind], kind: Kind) -> bool
 
 /// The value that the next insertion gets.
 fn value_to_give(live: usize, freed: &[HValue]) -> HValue
-    requires { live < 1024 }
+    requires { live < CAPACITY }
     ensures { result ≡ next_value live freed.now }
 {
     let fresh = live as u32 + 1;

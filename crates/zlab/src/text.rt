@@ -1,8 +1,10 @@
 //! The text of a trace: a line for each item, for the state of each process, and for the end.
 ghost use Rattle.std.specs.Prelude.{◌≡◌, ◌++◌, OnOk, string_bytes};
+ghost use Rattle.std.specs.Fmt.{decimal};
 ghost use Rattle.zlab.specs.Text.{call_line, item_line, state_line, end_line, refused_line};
 
 use crate::system::End;
+use itoa::Buffer;
 use std::alloc::AllocError;
 use zl_code::{CallName, Outcome, ProcState, TraceItem};
 use zl_rights::Pid;
@@ -26,15 +28,25 @@ fn push_call(
 ) -> Result<(), AllocError>
     ensures { OnOk result (string_bytes text.new ≡ string_bytes text.old ++ call_line pid call outcome) }
 {
-    let name = call.name();
+    push_number(text, pid)?;
+    text.push_str(" ")?;
+    text.push_str(call.name())?;
     match outcome {
         Outcome::Answered(status) => {
-            let answer = status.name();
-            write!(text, "{pid} {name} {answer}\n")
+            text.push_str(" ")?;
+            text.push_str(status.name())?;
+            text.push_str("\n")
         }
-        Outcome::Blocked => write!(text, "{pid} {name} blocked\n"),
-        Outcome::Ended(code) => write!(text, "{pid} {name} ended {code}\n"),
+        Outcome::Blocked => text.push_str(" blocked\n"),
+        Outcome::Ended(code) => write!(text, " ended {code}\n"),
     }
+}
+
+fn push_number(text: &mut String, number: u64) -> Result<(), AllocError>
+    ensures { OnOk result (string_bytes text.new ≡ string_bytes text.old ++ decimal number) }
+{
+    let mut digits = Buffer::new();
+    text.push_str(digits.format(number))
 }
 
 /// Adds the line that says what a process is in. Where memory is refused, a beginning of the line may

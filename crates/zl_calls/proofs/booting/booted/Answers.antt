@@ -1,9 +1,15 @@
 use Rattle.zl_code.specs.declared.boot.Statement.TheVariants as statement
-use Rattle.zl_calls.proofs.BootRun.{none_made, one_more, first_fault, limit_fault, none_reached}
+use Rattle.zl_calls.proofs.BootRun.{none_made, one_more, first_fault, limit_fault, none_reached, some_reached}
 use Rattle.zl_calls.proofs.booting.booted.Goals as goal
 
 pub returns-in_default-clause-reached : goal.returns-in_default-clause-reached
-returns-in_default-clause-reached c = rw c.fault_at.ensures (none_reached c.args.library.now c.args.boot.now.statements.items)
+returns-in_default-clause-reached c = rw c.fault_at.ensures (λ wants. none_reached c.args.library.now c.args.boot.now.statements.items)
+
+pub returns-in-Err-clause-reached : goal.returns-in-Err-clause-reached
+returns-in-Err-clause-reached c =
+    let statements = c.deref-statement-items.ensures.value in
+    rw c.fault_at-in-Err.ensures (λ wants. some_reached c.args.library.now c.args.boot.now.statements.items c.loop-number.number c.loop-number.made
+    (rw statements at c.loop-number-test.true) c.loop-number.invariant)
 
 pub loop-number-init : goal.loop-number-init
 loop-number-init c = none_made c.args.library.now c.in-Ok.made (c.in-Ok.ensures {u = tt}).no_process (c.in-Ok.ensures {u = tt}).root

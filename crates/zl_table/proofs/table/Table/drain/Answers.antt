@@ -1,6 +1,6 @@
 use Rattle.std.proofs.Common.{◌≡◌, ◌-◌, Option, Some, None, IfNone, length, slice_get, sym}
 use Rattle.std.proofs.lemmas.Option.{IfSome_then}
-use Rattle.zl_table.proofs.Search.{last_at, last_greatest, at_none}
+use Rattle.zl_table.proofs.Search.{last_at, at_none}
 use Rattle.zl_table.proofs.table.Table.drain.Goals as goal
 
 -- a removal of what is there gives it
@@ -10,14 +10,7 @@ given (Some x) there missing Q = tt
 
 pub returns-clause-some : goal.returns-clause-some
 returns-clause-some c =
-    let places = c.self.inside.places.items in
-    let read : slice_get places (length places - 1) ≡ Some c.in_ok-value.field-0.now = rw c.deref.ensures.value at (sym c.in_ok-value.ensures.value) in
-    let at = last_at places _ read in
-    IfSome_then c.remove.result c.remove.ensures.found (λ entry removes. record {
-      value = c.in_ok-value.field-0.now.0;
-      greatest = rw (← c.self.view_is) (last_greatest places c.self.invariant.sorted _ at);
-      removes = removes;
-    })
+    IfSome_then c.remove.result c.remove.ensures.found (λ entry removes. record { value = c.in_ok-value.field-0.now.0; removes = removes })
 
 pub returns-clause-empty : goal.returns-clause-empty
 returns-clause-empty c =

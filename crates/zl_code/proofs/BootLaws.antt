@@ -1,0 +1,195 @@
+-- A boot makes a world or comes to a first fault, never both, whichever values new handles get.
+use Rattle.std.proofs.Common.{◌≡◌, ◌<◌, ◌≤◌, ◌+◌, ◌⊎◌, ◌==◌, ℕ, zero, suc, true, false, cond, List, [], ◌∷◌, map, take, length, refl, sym, ap, ◌∙◌, Option, Some, None, inl, inr, IsTrue, arith}
+use Rattle.std.specs.Prelude.{slice_get, nat_lt}
+use Rattle.std.proofs.lemmas.Bool.{cases_Bool, cases_lt}
+use Rattle.std.proofs.lemmas.List.{length-map}
+use Rattle.std.proofs.lemmas.Option.{none-some, same_Some}
+use Rattle.zl_rights.specs.Map.{Map, put}
+use Rattle.zl_rights.specs.World.{World, ProcessBody}
+use Rattle.zl_rights.proofs.Settling.{settled_in, keys_of, Settles-exists, Settles-unique}
+use Rattle.zl_code.specs.declared.boot.Statement.{Statement}
+use Rattle.zl_code.specs.declared.boot.Statement.TheVariants as statement
+use Rattle.zl_code.specs.declared.boot.BootCause.{BootCause}
+use Rattle.zl_code.specs.declared.boot.BootCause.TheVariants as cause
+use Rattle.zl_code.specs.Image.{Library}
+use Rattle.zl_code.specs.Effects.{with_object}
+use Rattle.zl_code.specs.Boot.{boot_fault, boot_effect, may_boot, Boots, IsBoot, IsBooted, FirstFault, at_statement, at_limit, MOST_ITEMS, origin}
+
+-- ---- worlds that differ by handles alone
+
+-- no fault of a statement tells the worlds apart
+record IsAlike (u v : World) : Type 0 where
+  objects : u.objects ≡ v.objects
+  next : u.next_koid ≡ v.next_koid
+  pids : keys_of u.processes ≡ keys_of v.processes
+
+length-keys : {X : Type 0} (m : Map X) → length (keys_of m) ≡ length m
+length-keys m = length-map m (λ e. e.0)
+
+-- the keys after a put
+keys_with : List ℕ → ℕ → List ℕ
+keys_with [] k = k ∷ []
+keys_with (j ∷ js) k = cond (j == k) (k ∷ js) (cond (nat_lt k j) (k ∷ j ∷ js) (j ∷ keys_with js k))
+
+keys_of-put : {X : Type 0} (m : Map X) (k : ℕ) (x : X) → keys_of (put m k x) ≡ keys_with (keys_of m) k
+unfolding put keys_with
+keys_of-put [] k x = refl
+keys_of-put (e ∷ m) k x = elim (e.0 == k) as (λ b. keys_of (cond b ((k, x) ∷ m) (cond (nat_lt k e.0) ((k, x) ∷ e ∷ m) (e ∷ put m k x))) ≡ cond b (k ∷ keys_of m) (cond (nat_lt k e.0) (k ∷ e.0 ∷ keys_of m) (e.0 ∷ keys_with (keys_of m) k))) [
+  | true ↦ refl
+  | false ↦ elim (nat_lt k e.0) as (λ b. keys_of (cond b ((k, x) ∷ e ∷ m) (e ∷ put m k x)) ≡ cond b (k ∷ e.0 ∷ keys_of m) (e.0 ∷ keys_with (keys_of m) k)) [
+    | true ↦ refl
+    | false ↦ ap (λ (js : List ℕ). e.0 ∷ js) (keys_of-put m k x)
+  ]
+]
+
+module _ (lib : Library) where
+  same_fault : (u v : World) → IsAlike u v → (s : Statement) → boot_fault lib u s ≡ boot_fault lib v s
+  unfolding boot_fault
+  same_fault u v a (statement.Process job program word) = rw (a.objects, a.next, count) refl
+    where
+      count : length u.processes ≡ length v.processes
+      count = sym (length-keys u.processes) ∙ ap length a.pids ∙ length-keys v.processes
+
+  -- whichever values the handles of the statement get
+  alike_after : (u v : World) → IsAlike u v → (s : Statement) (vs xs : List ℕ) → IsAlike (boot_effect lib u s vs) (boot_effect lib v s xs)
+  unfolding boot_effect with_object
+  alike_after u v a (statement.Process job program word) vs xs = record {
+    objects = λ i. put (a.objects i) (a.next i) (record { body = ProcessBody job; raised = 0 });
+    next = ap (λ (k : ℕ). k + 1) a.next;
+    pids = keys_of-put u.processes u.next_koid _ ∙ (λ i. keys_with (a.pids i) (a.next i)) ∙ sym (keys_of-put v.processes v.next_koid _);
+  }
+
+  -- ---- statements one after another
+
+  -- the statements before number n lead from w to made, and number n has this fault there
+  record FaultAt (w : World) (ss : List Statement) (n : ℕ) (c : BootCause) : Type 0 where
+    made : World
+    at : Statement
+    before : Boots lib w (take n ss) made
+    stands : slice_get ss n ≡ Some at
+    faulty : boot_fault lib made at ≡ Some c
+
+  -- the first statement has the fault
+  at_first : (w : World) (s : Statement) (ss : List Statement) (c : BootCause) → FaultAt w (s ∷ ss) 0 c → boot_fault lib w s ≡ Some c
+  at_first w s ss c f = rw (← f.before, same_Some s f.at f.stands) f.faulty
+
+  -- a later one has it: the first can be done
+  record FaultLater (w : World) (s : Statement) (ss : List Statement) (n : ℕ) (c : BootCause) : Type 0 where
+    fine : boot_fault lib w s ≡ None
+    values : List ℕ
+    rest : FaultAt (boot_effect lib w s values) ss n c
+
+  at_later : (w : World) (s : Statement) (ss : List Statement) (n : ℕ) (c : BootCause) → FaultAt w (s ∷ ss) (suc n) c → FaultLater w s ss n c
+  at_later w s ss n c f = record {
+    fine = f.before.1;
+    values = f.before.0;
+    rest = record { made = f.made; at = f.at; before = f.before.3; stands = f.stands; faulty = f.faulty };
+  }
+
+  none_at_all : (w : World) (n : ℕ) (c : BootCause) → FaultAt w [] n c → ⊥
+  none_at_all w n c f = none-some f.at f.stands
+
+  -- two of them are one
+  same_place : (u v : World) → IsAlike u v → (ss : List Statement) (n m : ℕ) (c d : BootCause) → FaultAt u ss n c → FaultAt v ss m d → (n ≡ m) × (c ≡ d)
+  same_place u v a [] n m c d f g = absurd (none_at_all u n c f)
+  same_place u v a (s ∷ ss) zero zero c d f g = (refl, same_Some c d (sym (at_first u s ss c f) ∙ same_fault u v a s ∙ at_first v s ss d g))
+  same_place u v a (s ∷ ss) zero (suc m) c d f g = absurd (none-some c (sym (at_later v s ss m d g).fine ∙ sym (same_fault u v a s) ∙ at_first u s ss c f))
+  same_place u v a (s ∷ ss) (suc n) zero c d f g = absurd (none-some d (sym (at_later u s ss n c f).fine ∙ same_fault u v a s ∙ at_first v s ss d g))
+  same_place u v a (s ∷ ss) (suc n) (suc m) c d f g =
+      let x = at_later u s ss n c f in
+      let y = at_later v s ss m d g in
+      let rest = same_place (boot_effect lib u s x.values) (boot_effect lib v s y.values) (alike_after u v a s x.values y.values) ss n m c d x.rest y.rest in
+      (ap suc rest.0, rest.1)
+
+  -- where all can be done, there is none
+  all_done : (u v w : World) → IsAlike u v → (ss : List Statement) (n : ℕ) (c : BootCause) → Boots lib u ss w → FaultAt v ss n c → ⊥
+  all_done u v w a [] n c done f = none_at_all v n c f
+  all_done u v w a (s ∷ ss) zero c (vs, fine, may, rest) f = none-some c (sym fine ∙ same_fault u v a s ∙ at_first v s ss c f)
+  all_done u v w a (s ∷ ss) (suc n) c (vs, fine, may, rest) f =
+      let y = at_later v s ss n c f in
+      all_done (boot_effect lib u s vs) (boot_effect lib v s y.values) w (alike_after u v a s vs y.values) ss n c rest y.rest
+
+  -- the worlds that they lead to are alike
+  alike_made : (u v : World) → IsAlike u v → (ss : List Statement) (u2 v2 : World) → Boots lib u ss u2 → Boots lib v ss v2 → IsAlike u2 v2
+  alike_made u v a [] u2 v2 e f = rw (e, f) a
+  alike_made u v a (s ∷ ss) u2 v2 (vs, fine, may, rest) (xs, fine2, may2, rest2) =
+      alike_made (boot_effect lib u s vs) (boot_effect lib v s xs) (alike_after u v a s vs xs) ss u2 v2 rest rest2
+
+  -- ---- there is a world, or a fault
+
+  -- values can be chosen for the handles of each statement
+  chosen : (w : World) (s : Statement) → (vs : List ℕ) × IsTrue (may_boot lib w s vs)
+  chosen w (statement.Process job program word) = ([], refl)
+
+  abbrev Ends : World → List Statement → Type 0
+  Ends w ss = ((made : World) × Boots lib w ss made) ⊎ ((n : ℕ) × (c : BootCause) × FaultAt w ss n c)
+
+  ends : (w : World) (ss : List Statement) → Ends w ss
+  ends w [] = inl (w, refl)
+  ends w (s ∷ ss) = by_fault (boot_fault lib w s) refl (ends (boot_effect lib w s (chosen w s).0) ss)
+    where
+      by_rest : boot_fault lib w s ≡ None → Ends (boot_effect lib w s (chosen w s).0) ss → Ends w (s ∷ ss)
+      by_rest fine (inl (made, rest)) = inl (made, ((chosen w s).0, fine, (chosen w s).1, rest))
+      by_rest fine (inr (n, c, f)) = inr (suc n, c, record { made = f.made; at = f.at; before = ((chosen w s).0, fine, (chosen w s).1, f.before); stands = f.stands; faulty = f.faulty })
+
+      by_fault : (o : Option BootCause) → boot_fault lib w s ≡ o → Ends (boot_effect lib w s (chosen w s).0) ss → Ends w (s ∷ ss)
+      by_fault None fine rest = by_rest fine rest
+      by_fault (Some c) is rest = inr (0, c, record { made = w; at = s; before = refl; stands = refl; faulty = is })
+
+-- ---- the laws
+
+same : (w : World) → IsAlike w w
+same w = record { objects = refl; next = refl; pids = refl }
+
+pub same_fault_after : (lib : Library) (before : List Statement) (u v : World) (s : Statement) → Boots lib origin before u → Boots lib origin before v → boot_fault lib u s ≡ boot_fault lib v s
+same_fault_after lib before u v s x y = same_fault lib u v (alike_made lib origin origin (same origin) before u v x y) s
+
+-- a first fault is that of a statement, or that of the limit
+data Parts (lib : Library) (ss : List Statement) (limit n : ℕ) (c : BootCause) : Type 0 where
+  of_statement : FaultAt lib origin ss n c → Parts lib ss limit n c
+  of_limit : (made : World) → Boots lib origin ss made → MOST_ITEMS < limit → length ss ≡ n → cause.Limit ≡ c → Parts lib ss limit n c
+
+parts : (lib : Library) (ss : List Statement) (limit n : ℕ) (c : BootCause) → FirstFault lib ss limit n c → Parts lib ss limit n c
+parts lib ss limit _ _ (at_statement made n s c boots stands faulty) = of_statement (record { made = made; at = s; before = boots; stands = stands; faulty = faulty })
+parts lib ss limit _ _ (at_limit made boots above) = of_limit made boots above refl refl
+
+pub excluded : (lib : Library) (ss : List Statement) (limit : ℕ) (w : World) (n : ℕ) (c : BootCause) → IsBooted lib ss limit w → FirstFault lib ss limit n c → ⊥
+excluded lib ss limit w n c booted first = by_parts (parts lib ss limit n c first)
+  where
+    by_parts : Parts lib ss limit n c → ⊥
+    by_parts (of_statement f) = all_done lib origin origin booted.boots.made (same origin) ss n c booted.boots.boots f
+    by_parts (of_limit made boots above is of) = omega (arith, booted.within, above)
+
+pub one_fault : (lib : Library) (ss : List Statement) (limit n m : ℕ) (c d : BootCause) → FirstFault lib ss limit n c → FirstFault lib ss limit m d → (n ≡ m) × (c ≡ d)
+one_fault lib ss limit n m c d first second = by_parts (parts lib ss limit n c first) (parts lib ss limit m d second)
+  where
+    by_parts : Parts lib ss limit n c → Parts lib ss limit m d → (n ≡ m) × (c ≡ d)
+    by_parts (of_statement f) (of_statement g) = same_place lib origin origin (same origin) ss n m c d f g
+    by_parts (of_statement f) (of_limit made boots above is of) = absurd (all_done lib origin origin made (same origin) ss n c boots f)
+    by_parts (of_limit made boots above is of) (of_statement g) = absurd (all_done lib origin origin made (same origin) ss m d boots g)
+    by_parts (of_limit made boots above is of) (of_limit made2 boots2 above2 is2 of2) = (sym is ∙ is2, sym of ∙ of2)
+
+pub one_or_other : (lib : Library) (ss : List Statement) (limit : ℕ) → ((w : World) × IsBooted lib ss limit w) ⊎ ((n : ℕ) × (c : BootCause) × FirstFault lib ss limit n c)
+one_or_other lib ss limit = by_end (ends lib origin ss)
+  where
+    by_limit : (made : World) → Boots lib origin ss made → (limit ≤ MOST_ITEMS) ⊎ (MOST_ITEMS < limit) → ((w : World) × IsBooted lib ss limit w) ⊎ ((n : ℕ) × (c : BootCause) × FirstFault lib ss limit n c)
+    by_limit made boots (inl within) = inl (settled_in made (length (keys_of made.objects)), record { boots = record { made = made; boots = boots; settles = Settles-exists made }; within = within })
+    by_limit made boots (inr above) = inr (length ss, cause.Limit, at_limit made boots above)
+
+    by_end : Ends lib origin ss → ((w : World) × IsBooted lib ss limit w) ⊎ ((n : ℕ) × (c : BootCause) × FirstFault lib ss limit n c)
+    by_end (inl (made, boots)) = by_limit made boots (elim (cases_lt MOST_ITEMS limit) [ inl above ↦ inr above | inr within ↦ inl within ])
+    by_end (inr (n, c, f)) = inr (n, c, at_statement f.made n f.at c f.before f.stands f.faulty)
+
+-- ---- while no statement gives handles, there is one boot world
+
+no_choice : (lib : Library) (w : World) (s : Statement) (vs : List ℕ) → IsTrue (may_boot lib w s vs) → vs ≡ []
+no_choice lib w (statement.Process job program word) [] may = refl
+no_choice lib w (statement.Process job program word) (v ∷ vs) may = absurd cc
+
+one_made : (lib : Library) (w : World) (ss : List Statement) (u v : World) → Boots lib w ss u → Boots lib w ss v → u ≡ v
+one_made lib w [] u v e f = e ∙ sym f
+one_made lib w (s ∷ ss) u v (vs, fine, may, rest) (xs, fine2, may2, rest2) =
+    one_made lib (boot_effect lib w s []) ss u v (rw (no_choice lib w s vs may) at rest) (rw (no_choice lib w s xs may2) at rest2)
+
+pub one_boot_world : (lib : Library) (ss : List Statement) (u v : World) → IsBoot lib ss u → IsBoot lib ss v → u ≡ v
+one_boot_world lib ss u v x y = Settles-unique x.made u v x.settles (rw (one_made lib origin ss y.made x.made y.boots x.boots) at y.settles)

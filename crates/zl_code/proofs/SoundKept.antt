@@ -38,20 +38,21 @@ unfolding get
 empty_table running = record { few = omega arith; values = λ v h. absurd (true≢false (sym h)); free = λ v e. absurd (none-some v e); idle = λ h. (refl, refl) }
 
 -- a value that a handle may get is one, and none has it
-value_given : (x : Process) (v : ℕ) → IsSoundTable (runs x.state) x.handles x.last → IsTrue (may_get x v) → IsTrue (is_value v)
+pub value_given : (x : Process) (v : ℕ) → IsSoundTable (runs x.state) x.handles x.last → IsTrue (may_get x v) → IsTrue (is_value v) × (has_key x.handles v ≡ false)
 value_given x v t = by_last x.last refl
   where
-    by_last : (last : Option ℕ) → x.last ≡ last → IsTrue (may_get_after last x v) → IsTrue (is_value v)
-    by_last (Some l) is gets = rw (eqb-true v l gets) (t.free l is).0
+    by_last : (last : Option ℕ) → x.last ≡ last → IsTrue (may_get_after last x v) → IsTrue (is_value v) × (has_key x.handles v ≡ false)
+    by_last (Some l) is gets = rw (eqb-true v l gets) (t.free l is)
     by_last None is gets =
         let above = and_parts (nat_lt 0 v) _ gets in
-        and_from _ _ above.0 (and_parts (nat_lt v 65536) _ above.1).0
+        let below = and_parts (nat_lt v 65536) _ above.1 in
+        (and_from _ _ above.0 below.0, elim (cases_Bool (has_key x.handles v)) as (λ _. has_key x.handles v ≡ false) [ inl there ↦ absurd (false≢true (rw there at below.1)) | inr free ↦ free ])
 
 handle_in : (start after : World) (x : Process) (v : ℕ) (e : Entry) → MayEnter start after x v e → IsSoundTable (runs x.state) x.handles x.last → IsSoundTable (runs x.state) (put x.handles v e) None
 handle_in start after x v e may t = record {
   few = let longer : length (put x.handles v e) ≤ suc (length x.handles) = length_put x.handles v e in omega (arith, may.room);
   values = λ j h. elim (cases_Bool (v == j)) as (λ _. IsTrue (is_value j)) [
-    | inl here ↦ rw (← eqb-true v j here) (value_given x v t may.value)
+    | inl here ↦ rw (← eqb-true v j here) (value_given x v t may.value).0
     | inr other ↦ t.values j (rw (get-put x.handles v e j, other) at h)
   ];
   free = λ j h. absurd (none-some j h);

@@ -1,17 +1,17 @@
 -- The elementary changes of which a step is made.
-use Rattle.std.proofs.Common.{◌≡◌, ◌<◌, ◌≤◌, inl, inr, arith, ℕ, suc, ◌+◌, Bool, true, false, not, ◌==◌, List, [], ◌∷◌, length, refl, ap, sym, subst, ◌∙◌, IsTrue, Option, Some, None, eq-eqb}
-use Rattle.std.specs.Prelude.{if◌then◌else◌, is_some, ℤ}
+use Rattle.std.proofs.Common.{◌≡◌, ◌<◌, ◌≤◌, inl, inr, arith, ℕ, suc, Bool, true, false, not, ◌==◌, List, [], ◌∷◌, length, refl, ap, sym, subst, ◌∙◌, IsTrue, Option, Some, None, eq-eqb}
+use Rattle.std.specs.Prelude.{if◌then◌else◌, ℤ}
 use Rattle.std.specs.Option.{option_map}
 use Rattle.std.specs.List.{filter}
-use Rattle.std.proofs.lemmas.Bool.{cases_Bool, eqb-true, false≢true}
+use Rattle.std.proofs.lemmas.Bool.{cases_Bool, eqb-true}
 use Rattle.zl_rights.specs.declared.entry.Entry.{Entry}
 use Rattle.zl_rights.specs.Numbers.{within}
-use Rattle.zl_rights.specs.Map.{Map, get, put, update, each, has_key, without}
-use Rattle.zl_rights.specs.World.{World, Cpu, answered, Process, State, Ready, Blocked, Ended, Object, Body, ChannelEnd, EventBody, PortBody, JobBody, ProcessBody, Packet}
+use Rattle.zl_rights.specs.Map.{Map, get, put, update, has_key, without}
+use Rattle.zl_rights.specs.World.{World, Cpu, answered, Process, State, Created, Ready, Blocked, Ended, Object, Body, ChannelEnd, EventBody, PortBody, JobBody, ProcessBody, Packet}
 use Rattle.zl_rights.specs.Signals.{is_process, state_passes, lives, runs}
 use Rattle.zl_rights.specs.Settle.{Settles, queue_of}
 use Rattle.zl_rights.specs.Wakes.{fired, packets_for, made_ready, with_body, body_with_packets}
-use Rattle.zl_rights.proofs.MapLaws.{get-put, get-update, get-each}
+use Rattle.zl_rights.proofs.MapLaws.{get-put, get-update}
 use Rattle.zl_code.specs.Effects.{on_process, on_object, process_with, process_without, process_ended, ended, with_object, object_changed, may_get}
 use Rattle.zl_code.specs.Boot.{with_process}
 use Rattle.zl_code.specs.Handles.{in_order, has_default_rights, names_its_object, HandlesAreSound, HandlesAreNamed}
@@ -28,11 +28,17 @@ pub record MayEnter (start after : World) (x : Process) (v : ℕ) (e : Entry) : 
   pub rights : HandlesAreSound start → IsTrue (has_default_rights e)
   pub names : HandlesAreNamed start → names_its_object after.objects e
 
+-- x becomes y
 pub data ProcessChange (start after : World) (x y : Process) : Type 0 where
+  -- a handle enters its table
   handle_enters : (v : ℕ) (e : Entry) → y ≡ process_with v e x → MayEnter start after x v e → ProcessChange start after x y
-  handle_leaves : (v : ℕ) → y ≡ process_without v x → ProcessChange start after x y
+  -- a handle leaves it
+  handle_leaves : (v : ℕ) → y ≡ record x { handles = without x.handles v; last = Some v } → has_key x.handles v ≡ true → ProcessChange start after x y
+  -- it goes on, by itself or with an answer
   computes : (c : Cpu) → y ≡ record x { cpu = c } → ProcessChange start after x y
-  ends : (code : ℤ) → y ≡ process_ended code x → ProcessChange start after x y
+  -- it is over, and its handles are closed
+  ends : (code : ℤ) → y ≡ record x { state = Ended code; handles = []; last = None } → ProcessChange start after x y
+  -- it was blocked, and is ready
   wakes : (c : Cpu) → y ≡ record x { state = Ready; cpu = c } → IsTrue (runs x.state) → ProcessChange start after x y
 
 -- a process that is made between w and after
@@ -43,8 +49,11 @@ pub record IsNewProcess (start w after : World) (k : ℕ) (y : Process) : Type 0
   pub nothing_last : y.last ≡ None
   pub object : IsSound start → HasItsObject after.objects k
 
+-- x becomes y
 pub data ObjectChange (start : World) (x y : Object) : Type 0 where
+  -- a call cleared and raised signals
   signals_change : (clear set : ℕ) → y ≡ object_changed clear set x → (HandlesAreSound start → HandlesAreNamed start → IsTrue (within set (raisable x.body))) → ObjectChange start x y
+  -- packets came to a port, or left it
   packets_change : (old packets : List Packet) → x.body ≡ PortBody old → y ≡ record x { body = PortBody packets } → ObjectChange start x y
 
 -- an object that is made between w and after
@@ -92,6 +101,16 @@ kept start P by_change by_settling _ _ (stays w) p = p
 kept start P by_change by_settling _ _ (changes u v w c rest) p = kept start P by_change by_settling v w rest (by_change u v c p)
 kept start P by_change by_settling _ _ (settles u v w c rest) p = kept start P by_change by_settling v w rest (by_settling u v c p)
 
+-- what is true of a table stays true of it, where it is true of none, and of one without a handle or with one more
+pub table_kept : (P : Map Entry → Type 0) (start after : World) → P [] → ((m : Map Entry) (v : ℕ) → P m → P (without m v))
+    → ((m : Map Entry) (v : ℕ) (e : Entry) → (HandlesAreSound start → IsTrue (has_default_rights e)) → (HandlesAreNamed start → names_its_object after.objects e) → P m → P (put m v e))
+    → (x y : Process) → ProcessChange start after x y → P x.handles → P y.handles
+table_kept P start after none out in_ x y (handle_enters v e is may) t = rw is (in_ x.handles v e may.rights may.names t)
+table_kept P start after none out in_ x y (handle_leaves v is there) t = rw is (out x.handles v t)
+table_kept P start after none out in_ x y (computes c is) t = rw is t
+table_kept P start after none out in_ x y (ends code is) t = rw is none
+table_kept P start after none out in_ x y (wakes c is running) t = rw is t
+
 -- ---- the list of the blocked
 
 times-same : (p : ℕ) (ps : List ℕ) → times p (filter (λ q. not (q == p)) ps) ≡ 0
@@ -135,7 +154,8 @@ state_kept m p f alike k = ap (state_passes is_blocked) (get-update m p f k) ∙
     by_test false o = refl
 
 pub process_changes : (start w : World) (p : ℕ) (f : Process → Process)
-    → ((x : Process) → get w.processes p ≡ Some x → ProcessChange start (on_process w p f) x (f x)) → ((x : Process) → (f x).state ≡ x.state) → Change start w (on_process w p f)
+    → ((x : Process) → get w.processes p ≡ Some x → Changed (ProcessChange start (on_process w p f)) (IsNewProcess start w (on_process w p f) p) (Some x) (Some (f x)))
+    → ((x : Process) → (f x).state ≡ x.state) → Change start w (on_process w p f)
 unfolding on_process is_process
 process_changes start w p f ok alike = record {
   next_koid = omega arith;
@@ -146,16 +166,21 @@ process_changes start w p f ok alike = record {
   blocked = λ s k. still refl (state_kept w.processes p f alike k);
 }
 
--- what ends is not blocked
-ended_unblocked : (code : ℤ) (x : Process) → is_blocked (process_ended code x).state ≡ false
-ended_unblocked code x = elim (cases_Bool (lives x.state)) as (λ _. is_blocked (process_ended code x).state ≡ false) [
-  | inl alive ↦ rw alive refl
-  | inr over ↦ rw over (by_state x.state over)
-]
+-- a handle leaves a table, if it is there
+pub handle_goes : (start w : World) (p v : ℕ) → Change start w (on_process w p (process_without v))
+handle_goes start w p v = process_changes start w p (process_without v) (λ x at. by_key x (has_key x.handles v) refl) (λ x. state_of x (has_key x.handles v))
   where
-    by_state : (s : State) → lives s ≡ false → is_blocked s ≡ false
-    by_state (Blocked awaited destinations) alive = absurd (false≢true (sym alive))
-    by_state _ alive = refl
+    after : Bool → Process → Process
+    after b x = if b then record x { handles = without x.handles v; last = Some v } else x
+
+    state_of : (x : Process) (b : Bool) → (after b x).state ≡ x.state
+    state_of x true = refl
+    state_of x false = refl
+
+    by_key : (x : Process) (b : Bool) → has_key x.handles v ≡ b
+        → Changed (ProcessChange start (on_process w p (process_without v))) (IsNewProcess start w (on_process w p (process_without v)) p) (Some x) (Some (after b x))
+    by_key x true is = changed x _ refl refl (handle_leaves v refl is)
+    by_key x false is = same refl
 
 pub process_ends : (start w : World) (p : ℕ) (code : ℤ) → Change start w (ended w p code)
 unfolding ended on_process is_process
@@ -163,15 +188,28 @@ process_ends start w p code = record {
   next_koid = omega arith;
   processes_in_order = λ h. rw (in_order-update w.processes p (process_ended code)) h;
   objects_in_order = λ h. h;
-  processes = changed_update _ _ w.processes p (process_ended code) (λ x there. ends code refl);
+  processes = changed_update _ _ w.processes p (process_ended code) (λ x there. by_life x (lives x.state));
   objects = unchanged _ _ w.objects w.objects refl;
   blocked = λ s. without_one w (ended w p code) p refl (ap (state_passes is_blocked) (get-update w.processes p (process_ended code) p ∙ rw (eq-eqb p p refl) refl) ∙ by_process (get w.processes p))
       (λ k other. get-update w.processes p (process_ended code) k ∙ rw other refl);
 }
   where
+    after : Bool → Process → Process
+    after b x = if b then record x { state = Ended code; handles = []; last = None } else x
+
+    by_life : (x : Process) (b : Bool) → Changed (ProcessChange start (ended w p code)) (IsNewProcess start w (ended w p code) p) (Some x) (Some (after b x))
+    by_life x true = changed x _ refl refl (ends code refl)
+    by_life x false = same refl
+
+    unblocked : (x : Process) (s : State) → x.state ≡ s → is_blocked (after (lives s) x).state ≡ false
+    unblocked x Created is = refl
+    unblocked x Ready is = refl
+    unblocked x (Blocked awaited destinations) is = refl
+    unblocked x _ is = ap is_blocked is
+
     by_process : (o : Option Process) → state_passes is_blocked (option_map (process_ended code) o) ≡ false
     by_process None = refl
-    by_process (Some x) = ended_unblocked code x
+    by_process (Some x) = unblocked x x.state refl
 
 pub process_wakes : (start w : World) (p : ℕ) (q : Process) (ds vs : List ℕ) → get w.processes p ≡ Some q → IsTrue (runs q.state) → Change start w (made_ready w p q ds vs)
 unfolding made_ready is_process
@@ -215,7 +253,7 @@ objects_alone start w w2 processes blocked next order objects = record {
 
 pub object_changes : (start w : World) (k : ℕ) (f : Object → Object) → ((x : Object) → get w.objects k ≡ Some x → ObjectChange start x (f x)) → Change start w (on_object w k f)
 unfolding on_object
-object_changes start w k f ok = objects_alone start w (on_object w k f) refl refl (omega arith) (λ h. rw (in_order-update w.objects k f) h) (changed_update _ _ w.objects k f ok)
+object_changes start w k f ok = objects_alone start w (on_object w k f) refl refl (omega arith) (λ h. rw (in_order-update w.objects k f) h) (changed_update _ _ w.objects k f (λ x there. changed x _ refl refl (ok x there)))
 
 pub object_is_made : (start w : World) (b : Body) → queue_of b ≡ [] → Change start w (with_object w b)
 unfolding with_object

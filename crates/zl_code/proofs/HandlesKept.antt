@@ -1,18 +1,14 @@
 -- Handles stay sound: at places of their own, with no right beyond the defaults of their kinds.
-use Rattle.std.proofs.Common.{◌≡◌, ℕ, Bool, true, false, not, ◌==◌, [], refl, sym, IsTrue, Some, None, inl, inr}
-use Rattle.std.specs.Prelude.{if◌then◌else◌, ℤ}
+use Rattle.std.proofs.Common.{◌≡◌, ℕ, not, ◌==◌, [], refl, IsTrue, Some}
 use Rattle.std.specs.List.{list_all}
-use Rattle.std.proofs.lemmas.Bool.{cases_Bool}
 use Rattle.std.proofs.lemmas.Option.{none-some}
 use Rattle.zl_rights.specs.declared.entry.Entry.{Entry}
-use Rattle.zl_rights.specs.Map.{Map, get, put, without, where_key, has_key}
+use Rattle.zl_rights.specs.Map.{Map, get, put, without, where_key}
 use Rattle.zl_rights.specs.World.{World, Process, Object}
-use Rattle.zl_rights.specs.Signals.{lives}
 use Rattle.zl_rights.specs.Settle.{process_settled, Settles, without_others, queue_of}
-use Rattle.zl_code.specs.Effects.{process_without, process_ended}
 use Rattle.zl_code.specs.Handles.{in_order, has_default_rights, HandlesAreSound}
-use Rattle.zl_code.proofs.MapKept.{in_order-put, in_order-where_key, in_order-each, each_put, each_where_key, Changed, changed, changed_each, each_changed}
-use Rattle.zl_code.proofs.Changes.{ProcessChange, handle_enters, handle_leaves, computes, ends, wakes, ObjectChange, signals_change, packets_change, Change}
+use Rattle.zl_code.proofs.MapKept.{in_order-put, in_order-where_key, in_order-each, each_put, each_where_key, changed, changed_each, each_changed}
+use Rattle.zl_code.proofs.Changes.{ObjectChange, signals_change, packets_change, Change, table_kept}
 
 record IsFineTable (m : Map Entry) : Type 0 where
   order : IsTrue (in_order m)
@@ -28,25 +24,12 @@ empty_table = record { order = refl; rights = λ v e there. absurd (none-some e 
 enters : (m : Map Entry) (v : ℕ) (e : Entry) → IsTrue (has_default_rights e) → IsFineTable m → IsFineTable (put m v e)
 enters m v e fine t = record { order = in_order-put m v e t.order; rights = each_put (λ x. IsTrue (has_default_rights x)) m t.rights v e fine }
 
-leaves : (v : ℕ) (q : Process) → IsFineTable q.handles → IsFineTable (process_without v q).handles
+leaves : (m : Map Entry) (v : ℕ) → IsFineTable m → IsFineTable (without m v)
 unfolding without where_key
-leaves v q t = elim (cases_Bool (has_key q.handles v)) as (λ _. IsFineTable (process_without v q).handles) [
-  | inl there ↦ rw there (record {
-    order = in_order-where_key q.handles (λ j. not (j == v)) t.order;
-    rights = each_where_key (λ x. IsTrue (has_default_rights x)) q.handles t.rights (λ j. not (j == v));
-  })
-  | inr gone ↦ rw gone t
-]
-
-closes : (code : ℤ) (q : Process) → IsFineTable q.handles → IsFineTable (process_ended code q).handles
-closes code q t = elim (cases_Bool (lives q.state)) as (λ _. IsFineTable (process_ended code q).handles) [ inl alive ↦ rw alive empty_table | inr over ↦ rw over t ]
-
-by_process : (start after : World) (x y : Process) → HandlesAreSound start → ProcessChange start after x y → IsFineTable x.handles → IsFineTable y.handles
-by_process start after x y s (handle_enters v e is may) t = rw is (enters x.handles v e (may.rights s) t)
-by_process start after x y s (handle_leaves v is) t = rw is (leaves v x t)
-by_process start after x y s (computes c is) t = rw is t
-by_process start after x y s (ends code is) t = rw is (closes code x t)
-by_process start after x y s (wakes c is running) t = rw is t
+leaves m v t = record {
+  order = in_order-where_key m (λ j. not (j == v)) t.order;
+  rights = each_where_key (λ x. IsTrue (has_default_rights x)) m t.rights (λ j. not (j == v));
+}
 
 by_object : (start : World) (x y : Object) → ObjectChange start x y → HasFineQueue x → HasFineQueue y
 by_object start x y (signals_change clear set is may) t = rw is t
@@ -69,7 +52,7 @@ from_tables w processes objects tables queues = record {
 pub sound_change : (start u v : World) → HandlesAreSound start → Change start u v → HandlesAreSound u → HandlesAreSound v
 sound_change start u v before c s =
     from_tables v (c.processes_in_order s.processes) (c.objects_in_order s.objects)
-    (each_changed _ _ (λ k q. IsFineTable q.handles) u.processes v.processes c.processes (λ k x y. by_process start v x y before) (λ k y n. rw n.empty empty_table) (fine_tables u s))
+    (each_changed _ _ (λ k q. IsFineTable q.handles) u.processes v.processes c.processes (λ k. table_kept IsFineTable start v empty_table leaves (λ m n e rights names. enters m n e (rights before))) (λ k y n. rw n.empty empty_table) (fine_tables u s))
     (each_changed _ _ (λ k o. HasFineQueue o) u.objects v.objects c.objects (λ k x y. by_object start x y) (λ k y n. rw n.quiet refl) s.queued)
 
 pub sound_settled : (u v : World) → Settles u v → HandlesAreSound u → HandlesAreSound v

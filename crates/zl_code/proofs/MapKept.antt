@@ -97,10 +97,10 @@ module _ {X : Type 0} (R : ℕ → X → X → Type 0) (N : ℕ → X → Type 0
   by_f k f None b is ok = same is
   by_f k f (Some x) b is ok = subst (Changed (R k) (N k) (Some x)) (sym is) (ok x refl)
 
-  pub changed_update : (m : Map X) (q : ℕ) (f : X → X) → ((x : X) → get m q ≡ Some x → R q x (f x)) → EachChanged R N m (update m q f)
+  pub changed_update : (m : Map X) (q : ℕ) (f : X → X) → ((x : X) → get m q ≡ Some x → Changed (R q) (N q) (Some x) (Some (f x))) → EachChanged R N m (update m q f)
   changed_update m q f ok =
       at_one_key m (update m q f) q (λ k other. get-update m q f k ∙ rw other refl)
-      (by_f q f (get m q) (get (update m q f) q) (get-update m q f q ∙ rw (eq-eqb q q refl) refl) (λ x there. changed x (f x) refl refl (ok x there)))
+      (by_f q f (get m q) (get (update m q f) q) (get-update m q f q ∙ rw (eq-eqb q q refl) refl) ok)
 
   pub changed_each : (m : Map X) (f : ℕ → X → X) → ((k : ℕ) (x : X) → Changed (R k) (N k) (Some x) (Some (f k x))) → EachChanged R N m (each f m)
   changed_each m f ok k = by_f k (f k) (get m k) (get (each f m) k) (get-each m f k) (λ x there. ok k x)

@@ -1,24 +1,22 @@
 -- What handles name stays there, of the kind that they have.
-use Rattle.std.proofs.Common.{◌≡◌, ◌<◌, ◌⊎◌, inl, inr, arith, ℕ, Bool, true, false, not, ◌||◌, ◌==◌, List, [], ◌∷◌, length, refl, ap, sym, subst, ◌∙◌, IsTrue, Option, Some, None, eq-eqb, slice_index_or}
-use Rattle.std.specs.Prelude.{if◌then◌else◌, is_some, ℤ}
-use Rattle.std.specs.Option.{option_map}
+use Rattle.std.proofs.Common.{◌≡◌, ◌<◌, ◌⊎◌, inl, inr, arith, ℕ, Bool, not, ◌||◌, ◌==◌, [], ◌∷◌, length, refl, ap, sym, ◌∙◌, IsTrue, Some, eq-eqb, slice_index_or}
+use Rattle.std.specs.Prelude.{is_some}
 use Rattle.std.specs.List.{All, list_any}
 use Rattle.std.proofs.lemmas.Bool.{cases_Bool, eqb-true, and_from, or_left, or_right}
 use Rattle.std.proofs.lemmas.Option.{none-some, same_Some}
 use Rattle.std.proofs.lemmas.List.Elements.{All-nil}
 use Rattle.std.proofs.lemmas.List.Folds.{list_any_at}
 use Rattle.zl_rights.specs.declared.entry.Entry.{Entry}
-use Rattle.zl_rights.specs.Map.{Map, get, put, without, where_key, has_key}
+use Rattle.zl_rights.specs.Map.{Map, get, without, where_key}
 use Rattle.zl_rights.specs.World.{World, Process, Object, Message, Body, kind_of}
-use Rattle.zl_rights.specs.Signals.{is_process, lives, runs}
+use Rattle.zl_rights.specs.Signals.{is_process, runs}
 use Rattle.zl_rights.specs.Settle.{process_settled, Koids, IsLargestHeld, Settles, without_others, is_held, in_table, in_queue, has_living_child, queue_of}
 use Rattle.zl_rights.proofs.MapLaws.{get-where_key-in, get-where_key-out}
 use Rattle.zl_rights.proofs.Settling.{is_held-larger}
-use Rattle.zl_code.specs.Effects.{process_without, process_ended}
 use Rattle.zl_code.specs.Koids.{HasGivenKoids}
 use Rattle.zl_code.specs.Handles.{names_its_object, HandlesAreNamed}
-use Rattle.zl_code.proofs.MapKept.{Each, each_put, each_where_key, Changed, same, changed, new, changed_each, each_changed}
-use Rattle.zl_code.proofs.Changes.{ProcessChange, handle_enters, handle_leaves, computes, ends, wakes, ObjectChange, signals_change, packets_change, Change}
+use Rattle.zl_code.proofs.MapKept.{Each, each_put, each_where_key, same, changed, new, changed_each, each_changed}
+use Rattle.zl_code.proofs.Changes.{ObjectChange, signals_change, packets_change, Change, table_kept}
 use Rattle.zl_code.proofs.NotReused.{same_kind}
 
 -- ---- one process and one object, where handles name objects of m
@@ -36,22 +34,9 @@ no_handle m v e there = absurd (none-some e there)
 pub no_queue : (m : Map Object) (b : Body) → queue_of b ≡ [] → All (λ x. All (names_its_object m) x.handles) (queue_of b)
 no_queue m b none = rw none (All-nil (λ x. All (names_its_object m) x.handles))
 
-leaves : (m : Map Object) (v : ℕ) (q : Process) → TableNames m q → TableNames m (process_without v q)
+leaves : (m : Map Object) (h : Map Entry) (v : ℕ) → Each (names_its_object m) h → Each (names_its_object m) (without h v)
 unfolding without where_key
-leaves m v q t = elim (cases_Bool (has_key q.handles v)) as (λ _. TableNames m (process_without v q)) [
-  | inl there ↦ rw there (each_where_key (names_its_object m) q.handles t (λ j. not (j == v)))
-  | inr gone ↦ rw gone t
-]
-
-closes : (m : Map Object) (code : ℤ) (q : Process) → TableNames m q → TableNames m (process_ended code q)
-closes m code q t = elim (cases_Bool (lives q.state)) as (λ _. TableNames m (process_ended code q)) [ inl alive ↦ rw alive (no_handle m) | inr over ↦ rw over t ]
-
-by_process : (start after : World) (x y : Process) → HandlesAreNamed start → ProcessChange start after x y → TableNames after.objects x → TableNames after.objects y
-by_process start after x y s (handle_enters v e is may) t = rw is (each_put (names_its_object after.objects) x.handles t v e (may.names s))
-by_process start after x y s (handle_leaves v is) t = rw is (leaves after.objects v x t)
-by_process start after x y s (computes c is) t = rw is t
-by_process start after x y s (ends code is) t = rw is (closes after.objects code x t)
-by_process start after x y s (wakes c is running) t = rw is t
+leaves m h v t = each_where_key (names_its_object m) h t (λ j. not (j == v))
 
 by_object : (start : World) (m : Map Object) (x y : Object) → ObjectChange start x y → QueueNames m x → QueueNames m y
 by_object start m x y (signals_change clear set is may) t = rw is t
@@ -81,7 +66,7 @@ named_change start u v before given c s = record {
 }
   where
     all_tables : (p : ℕ) (q : Process) → get v.processes p ≡ Some q → TableNames v.objects q
-    all_tables = each_changed _ _ (λ k q. TableNames v.objects q) u.processes v.processes c.processes (λ k x y. by_process start v x y before) (λ k y n. rw n.empty (no_handle v.objects))
+    all_tables = each_changed _ _ (λ k q. TableNames v.objects q) u.processes v.processes c.processes (λ k. table_kept (Each (names_its_object v.objects)) start v (no_handle v.objects) (leaves v.objects) (λ m n e rights names t. each_put (names_its_object v.objects) m t n e (names before))) (λ k y n. rw n.empty (no_handle v.objects))
         (λ p q there w e at. still start u v given c e (s.tables p w q e there at))
 
 -- ---- settling

@@ -1,26 +1,26 @@
 -- Every world of a run from a boot world is sound.
-use Rattle.std.proofs.Common.{◌≡◌, ◌<◌, ◌≤◌, ◌⊎◌, inl, inr, arith, ℕ, suc, ◌+◌, min, max, Bool, true, false, not, ◌&&◌, ◌||◌, ◌==◌, List, [], ◌∷◌, length, refl, ap, sym, subst, ◌∙◌, IsTrue, Option, Some, None, eq-eqb}
-use Rattle.std.specs.Prelude.{if◌then◌else◌, is_some, ℤ, nat_lt, bit_and, bit_or, bit_xor}
+use Rattle.std.proofs.Common.{◌≡◌, ◌<◌, ◌≤◌, inl, inr, arith, ℕ, suc, min, max, Bool, true, false, not, ◌||◌, ◌==◌, List, [], length, refl, ap, sym, ◌∙◌, IsTrue, Option, Some, None, eq-eqb}
+use Rattle.std.specs.Prelude.{if◌then◌else◌, is_some, nat_lt, bit_and, bit_xor}
 use Rattle.std.specs.Int.{bit_at}
 use Rattle.std.specs.Option.{option_map}
-use Rattle.std.specs.List.{list_any, filter}
+use Rattle.std.specs.List.{filter}
 use Rattle.std.proofs.lemmas.Bool.{cases_Bool, eqb-true, and_parts, and_from, or_left, or_right, true≢false, false≢true}
 use Rattle.std.proofs.lemmas.Nat.Bits.{same_from_bits, bit_at_and, bit_at_or, bit_at-zero}
 use Rattle.std.proofs.lemmas.Option.{none-some, same_Some}
 use Rattle.zl_rights.specs.declared.entry.Entry.{Entry}
 use Rattle.zl_rights.specs.Numbers.{within, changed as signals_changed}
-use Rattle.zl_rights.specs.Map.{Map, get, put, without, where_key, each, has_key}
-use Rattle.zl_rights.specs.World.{World, Process, State, Created, Ready, Blocked, Ended, Gone, Object, Body, ChannelEnd, EventBody, PortBody, JobBody, ProcessBody, Packet}
-use Rattle.zl_rights.specs.Signals.{is_process, state_passes, lives, runs, is_job_below, is_process_of}
+use Rattle.zl_rights.specs.Map.{get, put, without, where_key, each, has_key}
+use Rattle.zl_rights.specs.World.{World, Process, State, Created, Ready, Blocked, Gone, Object, Body, PortBody, ProcessBody, Packet}
+use Rattle.zl_rights.specs.Signals.{is_process, state_passes, lives, runs}
 use Rattle.zl_rights.specs.Settle.{process_settled, state_without, Koids, IsLargestHeld, Settles, without_others, is_held, in_table, in_queue, has_living_child}
 use Rattle.zl_rights.proofs.MapLaws.{get-put, get-each, get-where_key-in, get-where_key-out}
 use Rattle.zl_code.specs.Tests.{body_in}
-use Rattle.zl_code.specs.Effects.{process_with, process_without, process_ended, may_get, may_get_after}
+use Rattle.zl_code.specs.Effects.{may_get, may_get_after}
 use Rattle.zl_code.specs.Boot.{is_job_body}
 use Rattle.zl_code.specs.Koids.{HasGivenKoids}
 use Rattle.zl_code.specs.Sound.{is_value, IsSoundTable, is_blocked, HasItsObject, raisable, IsSound}
-use Rattle.zl_code.proofs.MapKept.{each_where_key, EachChanged, Changed, same, changed, new, changed_each, each_changed}
-use Rattle.zl_code.proofs.Changes.{MayEnter, ProcessChange, handle_enters, handle_leaves, computes, ends, wakes, ObjectChange, signals_change, packets_change, KeepsBlocked, still, awake, Change, Changes, kept}
+use Rattle.zl_code.proofs.MapKept.{each_where_key, EachChanged, same, changed, new, changed_each, each_changed}
+use Rattle.zl_code.proofs.Changes.{MayEnter, ProcessChange, handle_enters, handle_leaves, computes, ends, wakes, ObjectChange, signals_change, packets_change, still, awake, Change}
 use Rattle.zl_code.proofs.Stepping.{length_filter}
 use Rattle.zl_code.proofs.StepChanges.{length_put, job_is_there}
 use Rattle.zl_code.proofs.HandlesKept.{sound_change, sound_settled}
@@ -38,20 +38,21 @@ unfolding get
 empty_table running = record { few = omega arith; values = λ v h. absurd (true≢false (sym h)); free = λ v e. absurd (none-some v e); idle = λ h. (refl, refl) }
 
 -- a value that a handle may get is one, and none has it
-value_given : (x : Process) (v : ℕ) → IsSoundTable (runs x.state) x.handles x.last → IsTrue (may_get x v) → IsTrue (is_value v)
+pub value_given : (x : Process) (v : ℕ) → IsSoundTable (runs x.state) x.handles x.last → IsTrue (may_get x v) → IsTrue (is_value v) × (has_key x.handles v ≡ false)
 value_given x v t = by_last x.last refl
   where
-    by_last : (last : Option ℕ) → x.last ≡ last → IsTrue (may_get_after last x v) → IsTrue (is_value v)
-    by_last (Some l) is gets = rw (eqb-true v l gets) (t.free l is).0
+    by_last : (last : Option ℕ) → x.last ≡ last → IsTrue (may_get_after last x v) → IsTrue (is_value v) × (has_key x.handles v ≡ false)
+    by_last (Some l) is gets = rw (eqb-true v l gets) (t.free l is)
     by_last None is gets =
         let above = and_parts (nat_lt 0 v) _ gets in
-        and_from _ _ above.0 (and_parts (nat_lt v 65536) _ above.1).0
+        let below = and_parts (nat_lt v 65536) _ above.1 in
+        (and_from _ _ above.0 below.0, elim (cases_Bool (has_key x.handles v)) as (λ _. has_key x.handles v ≡ false) [ inl there ↦ absurd (false≢true (rw there at below.1)) | inr free ↦ free ])
 
 handle_in : (start after : World) (x : Process) (v : ℕ) (e : Entry) → MayEnter start after x v e → IsSoundTable (runs x.state) x.handles x.last → IsSoundTable (runs x.state) (put x.handles v e) None
 handle_in start after x v e may t = record {
   few = let longer : length (put x.handles v e) ≤ suc (length x.handles) = length_put x.handles v e in omega (arith, may.room);
   values = λ j h. elim (cases_Bool (v == j)) as (λ _. IsTrue (is_value j)) [
-    | inl here ↦ rw (← eqb-true v j here) (value_given x v t may.value)
+    | inl here ↦ rw (← eqb-true v j here) (value_given x v t may.value).0
     | inr other ↦ t.values j (rw (get-put x.handles v e j, other) at h)
   ];
   free = λ j h. absurd (none-some j h);
@@ -72,24 +73,18 @@ handle_out x v there t = record {
 
 by_process : (start after : World) (x y : Process) → ProcessChange start after x y → IsSoundTable (runs x.state) x.handles x.last → IsSoundTable (runs y.state) y.handles y.last
 by_process start after x y (handle_enters v e is may) t = rw is (handle_in start after x v e may t)
-by_process start after x y (handle_leaves v is) t = rw is (elim (cases_Bool (has_key x.handles v)) as (λ _. IsSoundTable (runs (process_without v x).state) (process_without v x).handles (process_without v x).last) [
-  | inl there ↦ rw there (handle_out x v there t)
-  | inr gone ↦ rw gone t
-])
+by_process start after x y (handle_leaves v is there) t = rw is (handle_out x v there t)
 by_process start after x y (computes c is) t = rw is t
-by_process start after x y (ends code is) t = rw is (elim (cases_Bool (lives x.state)) as (λ _. IsSoundTable (runs (process_ended code x).state) (process_ended code x).handles (process_ended code x).last) [
-  | inl alive ↦ rw alive (empty_table false)
-  | inr over ↦ rw over t
-])
+by_process start after x y (ends code is) t = rw is (empty_table false)
 by_process start after x y (wakes c is running) t = rw is (rw running at t)
 
 -- ---- a living process has its object
 
 lives_before : (start after : World) (x y : Process) → ProcessChange start after x y → IsTrue (lives y.state) → IsTrue (lives x.state)
 lives_before start after x y (handle_enters v e is may) h = rw is at h
-lives_before start after x y (handle_leaves v is) h = elim (cases_Bool (has_key x.handles v)) as (λ _. IsTrue (lives x.state)) [ inl there ↦ rw (is, there) at h | inr gone ↦ rw (is, gone) at h ]
+lives_before start after x y (handle_leaves v is there) h = rw is at h
 lives_before start after x y (computes c is) h = rw is at h
-lives_before start after x y (ends code is) h = elim (cases_Bool (lives x.state)) as (λ _. IsTrue (lives x.state)) [ inl alive ↦ alive | inr over ↦ absurd (true≢false (sym (rw (is, over) at h) ∙ over)) ]
+lives_before start after x y (ends code is) h = absurd (false≢true (rw is at h))
 lives_before start after x y (wakes c is running) h = by_state x.state running
   where
     by_state : (s : State) → IsTrue (runs s) → IsTrue (lives s)

@@ -1,5 +1,5 @@
 -- What steps keep, along runs and histories from a boot world.
-use Rattle.std.proofs.Common.{◌≡◌, ◌<◌, arith, inl, inr, ℕ, ◌==◌, List, [], ◌∷◌, refl, sym, subst, ◌∙◌, IsTrue, Option, Some, None}
+use Rattle.std.proofs.Common.{◌≡◌, ◌<◌, arith, inl, inr, ℕ, ◌==◌, List, [], ◌∷◌, refl, subst, IsTrue, Option, Some, None}
 use Rattle.std.specs.Prelude.{is_some}
 use Rattle.std.specs.List.{list_all, flat_map}
 use Rattle.std.proofs.lemmas.Bool.{cases_Bool, eqb-true, false≢true}
@@ -15,7 +15,7 @@ use Rattle.zl_code.specs.Image.{Library}
 use Rattle.zl_code.specs.Steps.{Step, Runs, pid_of, single, IsLegalHistory}
 use Rattle.zl_code.specs.Boot.{Boots, IsBoot, boot_effect, origin}
 use Rattle.zl_code.specs.Koids.{HasGivenKoids, KeepsKoids}
-use Rattle.zl_code.specs.Handles.{has_default_rights, names_its_object, HandlesAreSound, HandlesAreNamed, Throughout}
+use Rattle.zl_code.specs.Handles.{has_default_rights, HandlesAreSound, HandlesAreNamed, Throughout}
 use Rattle.zl_code.specs.Sound.{raisable, IsSound, KeepsProcesses}
 use Rattle.zl_code.proofs.Changes.{Changes, kept}
 use Rattle.zl_code.proofs.StepChanges.{step_changes, boot_changes}

@@ -1,6 +1,6 @@
 -- Which changes a step is made of: each call, each statement of a boot, and waking say it once.
-use Rattle.std.proofs.Common.{◌≡◌, ◌<◌, ◌≤◌, inl, inr, arith, ℕ, suc, ◌+◌, Bool, true, false, not, ◌==◌, ◌||◌, List, [], ◌∷◌, length, refl, ap, sym, subst, ◌∙◌, IsTrue, Option, Some, None, Ok, Err, eq-eqb}
-use Rattle.std.specs.Prelude.{if◌then◌else◌, is_some, ℤ, slice_get}
+use Rattle.std.proofs.Common.{◌≡◌, ◌<◌, ◌≤◌, inl, inr, arith, ℕ, suc, ◌+◌, Bool, true, false, not, List, [], ◌∷◌, length, refl, ap, sym, subst, ◌∙◌, IsTrue, Option, Some, None, eq-eqb}
+use Rattle.std.specs.Prelude.{if◌then◌else◌, is_some}
 use Rattle.std.specs.List.{All, fold}
 use Rattle.std.specs.Bool.{then_some}
 use Rattle.std.proofs.lemmas.Bool.{and_parts, cases_Bool, not-false, or_parts, true≢false, leb-true, ne_eqb}
@@ -14,7 +14,7 @@ use Rattle.zl_rights.specs.declared.status.Status.{Status}
 use Rattle.zl_rights.specs.declared.status.Status.TheVariants as status
 use Rattle.zl_rights.specs.Numbers.{bits, within, narrowed, meets, rights_of, default_rights_of, SIGNAL}
 use Rattle.zl_rights.specs.Map.{Map, get, put, has_key, without}
-use Rattle.zl_rights.specs.World.{World, Process, State, Created, Ready, Blocked, Ended, Gone, SignalOf, PacketAt, Object, Body, ChannelEnd, EventBody, PortBody, JobBody, ProcessBody, Packet, kind_of}
+use Rattle.zl_rights.specs.World.{World, Process, State, Ready, Blocked, SignalOf, PacketAt, Object, Body, EventBody, PortBody, ProcessBody, Packet, kind_of}
 use Rattle.zl_rights.specs.Signals.{active, runs, is_empty}
 use Rattle.zl_rights.specs.Wakes.{wakes, fired, packet_values, woken, made_ready, with_body, woken_by_first, woken_by, woken_at_port, woken_from, woken_if_there}
 use Rattle.zl_rights.specs.LookUp.{granted}
@@ -30,15 +30,16 @@ use Rattle.zl_code.specs.First.{first_some}
 use Rattle.zl_code.specs.Image.{Library}
 use Rattle.zl_code.specs.Instructions.{row_of}
 use Rattle.zl_code.specs.Request.{Site, Request, close, dup, event_create, signal, process_exit}
-use Rattle.zl_code.specs.Tests.{handles_in, entry_at, object_at, body_in, body_of, by_look_up, operand, examined, has_room, has_koids, with_rights, copy_of, answer_if}
-use Rattle.zl_code.specs.Refusals.{refusal, listed, handle_operands, may_change, settable_of}
-use Rattle.zl_code.specs.Effects.{on_process, on_object, insert_all, remove_all, with_object, process_with, process_without, ended, effect, with_effect, gives_ok, gives_refused, taken_handles, new_entry, new_handles, may_get, may_get_all, gets_all, may_choose, object_changed}
+use Rattle.zl_code.specs.Tests.{handles_in, entry_at, object_at, body_in, by_look_up, operand, examined, has_room, has_koids, with_rights, copy_of, answer_if}
+use Rattle.zl_code.specs.Refusals.{refusal, listed, handle_operands, settable_of}
+use Rattle.zl_code.specs.Effects.{on_process, insert_all, remove_all, with_object, process_with, process_without, effect, with_effect, gives_ok, gives_refused, taken_handles, new_entry, new_handles, may_get, may_get_all, may_choose, object_changed}
 use Rattle.zl_code.specs.Calls.{cpu_answered, replied, taken, after_refusal, after_ok, ok_outcome, Choice, Refused, WantsMemory, Values, CallBy}
 use Rattle.zl_code.specs.Steps.{Next, Moves, AtCall, IsStuck, next_for, Acts, Step}
 use Rattle.zl_code.specs.Boot.{boot_fault, boot_effect, is_job, is_job_body}
 use Rattle.zl_code.specs.Handles.{has_default_rights, names_its_object, HandlesAreSound, HandlesAreNamed}
-use Rattle.zl_code.specs.Sound.{HasItsObject, raisable, IsSound}
-use Rattle.zl_code.proofs.Changes.{MayEnter, handle_enters, handle_leaves, computes, IsNewProcess, signals_change, Change, Changes, stays, changes, settles, join, one, process_changes, process_ends, process_wakes, process_is_made, object_changes, object_is_made, packet_goes, waits_fire}
+use Rattle.zl_code.specs.Sound.{raisable, IsSound}
+use Rattle.zl_code.proofs.MapKept.{changed}
+use Rattle.zl_code.proofs.Changes.{MayEnter, handle_enters, computes, signals_change, Changes, stays, changes, settles, join, one, process_changes, handle_goes, process_ends, process_wakes, process_is_made, object_changes, object_is_made, packet_goes, waits_fire}
 use Rattle.zl_code.proofs.Stepping.{first_none, answer_none, listed_none, length_filter}
 
 -- ---- handles enter and leave a table
@@ -69,17 +70,17 @@ all_enter start u p q (e ∷ es) (v ∷ vs) there running gets room fine =
     let head = All-head (IsFine start u.objects) e es fine in
     let enters : MayEnter start (on_process u p (process_with v e)) q v e = record { value = both.0; room = omega arith; running = running; rights = head.rights; names = head.names } in
     changes u (on_process u p (process_with v e)) _
-    (process_changes start u p (process_with v e) (λ x at. handle_enters v e refl (subst (λ (y : Process). MayEnter start (on_process u p (process_with v e)) y v e) (same_Some q x (sym there ∙ at)) enters)) (λ x. refl))
+    (process_changes start u p (process_with v e) (λ x at. changed x _ refl refl (handle_enters v e refl (subst (λ (y : Process). MayEnter start (on_process u p (process_with v e)) y v e) (same_Some q x (sym there ∙ at)) enters))) (λ x. refl))
     (all_enter start (on_process u p (process_with v e)) p (process_with v e q) es vs (changed_table u p q (process_with v e) there) running both.1 (omega arith) (All-tail (IsFine start u.objects) e es fine))
 
-state_without : (v : ℕ) (q : Process) → (process_without v q).state ≡ q.state
-state_without v q = elim (cases_Bool (has_key q.handles v)) as (λ _. (process_without v q).state ≡ q.state) [ inl there ↦ rw there refl | inr gone ↦ rw gone refl ]
+same_state : (v : ℕ) (q : Process) → (process_without v q).state ≡ q.state
+same_state v q = elim (cases_Bool (has_key q.handles v)) as (λ _. (process_without v q).state ≡ q.state) [ inl there ↦ rw there refl | inr gone ↦ rw gone refl ]
 
 all_leave : (start u : World) (p : ℕ) (hs : List ℕ) → Changes start u (remove_all u p hs)
 unfolding remove_all
 all_leave start u p [] = stays u
 all_leave start u p (h ∷ hs) =
-    changes u (on_process u p (process_without h)) _ (process_changes start u p (process_without h) (λ x at. handle_leaves h refl) (state_without h))
+    changes u (on_process u p (process_without h)) _ (handle_goes start u p h)
     (all_leave start (on_process u p (process_without h)) p hs)
 
 -- u is w after handles left the table of p, which is q in u
@@ -100,7 +101,7 @@ left_behind w p q [] there = (q, record { objects = refl; next_koid = refl; is_t
 left_behind w p q (h ∷ hs) there =
     let rest = left_behind (on_process w p (process_without h)) p (process_without h q) hs (changed_table w p q (process_without h) there) in
     let shorter : length (process_without h q).handles ≤ length q.handles = shorter_without h q in
-    (rest.0, record { objects = rest.1.objects; next_koid = rest.1.next_koid; is_there = rest.1.is_there; state = rest.1.state ∙ state_without h q; shorter = omega (arith, rest.1.shorter) })
+    (rest.0, record { objects = rest.1.objects; next_koid = rest.1.next_koid; is_there = rest.1.is_there; state = rest.1.state ∙ same_state h q; shorter = omega (arith, rest.1.shorter) })
 
 -- ---- new handles
 
@@ -208,7 +209,7 @@ module _ (lib : Library) (w : World) (p : ℕ) (q : Process) (there : get w.proc
 
   reply_changes : (u : World) (s : Site) (answer : Status) (values : List ℕ) → Changes w u (replied u p s answer values)
   unfolding replied
-  reply_changes u s answer values = one w u _ (process_changes w u p (λ x. record x { cpu = cpu_answered s answer values x.cpu }) (λ x at. computes _ refl) (λ x. refl))
+  reply_changes u s answer values = one w u _ (process_changes w u p (λ x. record x { cpu = cpu_answered s answer values x.cpu }) (λ x at. changed x _ refl refl (computes _ refl)) (λ x. refl))
 
   refused_changes : (s : Site) (o : Outcome) → Changes w w (after_refusal w p s o)
   refused_changes s (outcome.Answered answer) = join w w (taken w p s) _ (all_leave w w p (taken_handles s.request)) (reply_changes (taken w p s) s answer (gives_refused w p s.request answer))
@@ -234,7 +235,7 @@ module _ (lib : Library) (w : World) (p : ℕ) (q : Process) (there : get w.proc
   call_changes s (Values vs) (Some o) answer w2 is c = absurd c
 
   act_changes : (n : Next) (x : TraceItem) (w2 : World) → Acts lib w p n x w2 → Changes w w w2
-  act_changes (Moves c) x w2 a = rw a.1 (one w w _ (process_changes w w p (λ x. record x { cpu = c }) (λ x at. computes c refl) (λ x. refl)))
+  act_changes (Moves c) x w2 a = rw a.1 (one w w _ (process_changes w w p (λ x. record x { cpu = c }) (λ x at. changed x _ refl refl (computes c refl)) (λ x. refl)))
   act_changes (AtCall call s) x w2 (o, e, c) = call_changes s c.0 (refusal lib w p s.request) o w2 refl c.1
   act_changes IsStuck x w2 a = rw a.1 (one w w _ (process_ends w w p _))
 

@@ -1,9 +1,9 @@
 //! Laws of the definitions: each function's contract is one law, and its body is empty.
 
 ghost use Rattle.std.specs.List.{flat_map};
-ghost use Rattle.std.specs.Prelude.{ℕ, ◌≡◌, ◌≢◌, List};
+ghost use Rattle.std.specs.Prelude.{ℕ, ◌≡◌, ◌≢◌, false, IsTrue, List};
 ghost use Rattle.zl_rights.specs.declared.status.Status.TheVariants as status;
-ghost use Rattle.zl_rights.specs.Map.{get};
+ghost use Rattle.zl_rights.specs.Map.{get, has_key};
 ghost use Rattle.zl_rights.specs.World.{World, Process, Ready};
 ghost use Rattle.zl_code.specs.declared.history.CallName.{CallName};
 ghost use Rattle.zl_code.specs.declared.history.Outcome.TheVariants as outcome;
@@ -16,7 +16,8 @@ ghost use Rattle.zl_code.specs.Steps.{Step, Runs, single, IsLegalHistory};
 ghost use Rattle.zl_code.specs.Boot.{IsBoot};
 ghost use Rattle.zl_code.specs.Koids.{HasGivenKoids, KeepsKoids};
 ghost use Rattle.zl_code.specs.Handles.{HandlesAreNamed, HandlesAreSound, Throughout};
-ghost use Rattle.zl_code.specs.Sound.{IsSound, KeepsProcesses};
+ghost use Rattle.zl_code.specs.Effects.{may_get};
+ghost use Rattle.zl_code.specs.Sound.{IsSound, KeepsProcesses, is_value};
 
 /// No bytes spell two images.
 pub fn no_bytes_spell_two_images()
@@ -138,6 +139,13 @@ pub fn histories_keep_worlds_sound()
     ensures { (lib : Library) (statements : List Statement) (boot after : World) (history : List TraceItem)
         → IsBoot lib statements boot → (legal : IsLegalHistory lib boot history after)
         → Throughout IsSound lib boot (flat_map single history) after legal.run × IsSound after }
+{}
+
+/// In a sound world a new handle gets a value of 16 bits, not 0, that no handle of its table has.
+pub fn new_handles_get_free_values()
+    ensures { (w : World) (p v : ℕ) (q : Process)
+        → IsSound w → get w.processes p ≡ Some q → IsTrue (may_get q v)
+        → IsTrue (is_value v) × (has_key q.handles v ≡ false) }
 {}
 
 /// In a step from a sound world no process vanishes, and none changes its program.

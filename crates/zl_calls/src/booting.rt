@@ -1,6 +1,6 @@
 //! The processes and objects that the statements of a boot make.
 
-ghost use Rattle.std.specs.Prelude.{◌≡◌, ◌≢◌, ◌≤◌, [], None, IfOk, OnOk, IfErr};
+ghost use Rattle.std.specs.Prelude.{◌≡◌, ◌≢◌, ◌≤◌, [], IfOk, OnOk, IfErr};
 ghost use Rattle.zl_rights.specs.Settle.{Settles};
 ghost use Rattle.zl_code.specs.Boot.{IsBoot, FirstFault, MOST_ITEMS, boot_fault};
 ghost use Rattle.zl_calls.specs.Lab.{IsLab};

@@ -1,7 +1,7 @@
 -- A boot makes a world or comes to a first fault, never both, whichever values new handles get.
-use Rattle.std.proofs.Common.{◌≡◌, ◌<◌, ◌≤◌, ◌+◌, ◌⊎◌, ◌==◌, ℕ, zero, suc, true, false, cond, List, [], ◌∷◌, map, take, length, refl, sym, ap, ◌∙◌, Option, Some, None, inl, inr, IsTrue, arith}
+use Rattle.std.proofs.Common.{◌≡◌, ◌<◌, ◌≤◌, ◌+◌, ◌⊎◌, ◌==◌, ℕ, zero, suc, true, false, cond, List, [], ◌∷◌, take, length, refl, sym, ap, ◌∙◌, Option, Some, None, inl, inr, IsTrue, arith}
 use Rattle.std.specs.Prelude.{slice_get, nat_lt}
-use Rattle.std.proofs.lemmas.Bool.{cases_Bool, cases_lt}
+use Rattle.std.proofs.lemmas.Bool.{cases_lt}
 use Rattle.std.proofs.lemmas.List.{length-map}
 use Rattle.std.proofs.lemmas.Option.{none-some, same_Some}
 use Rattle.zl_rights.specs.Map.{Map, put}

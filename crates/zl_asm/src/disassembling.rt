@@ -1,6 +1,6 @@
 //! The disassembler: an image to its text.
 
-ghost use Rattle.std.specs.Prelude.{◌≡◌, ◌≤◌, ◌<◌, ◌++◌, ◌∷◌, [], codes, map, filter, not, ◌==◌, length, IfOk, OnOk, IfSome, string_bytes, ℕ, ◌||◌, true, false, get_or, slice_index, IfNone, if◌then◌else◌};
+ghost use Rattle.std.specs.Prelude.{◌≡◌, ◌≤◌, ◌<◌, ◌++◌, ◌∷◌, [], codes, map, filter, not, ◌==◌, length, IfOk, IfSome, string_bytes, ℕ, ◌||◌, true, false, get_or, slice_index, IfNone, if◌then◌else◌};
 ghost use Rattle.std.specs.List.{flat_map};
 ghost use Rattle.zl_code.specs.Limits.{most_registers, no_register};
 ghost use Rattle.zl_code.specs.Instructions.{row_of};
@@ -16,7 +16,8 @@ use zl_rights::{Condition, Kind};
 
 /// Adds the marks and numbers of the image.
 fn push_fields(text: &mut String, image: &Image) -> Result<(), AllocError>
-    ensures { Adds result text.old text.new (fields_text image.now.raw image.now.memory image.now.budget) }
+    ensures { Adds result text.old text.new
+        (fields_text image.now.raw image.now.memory image.now.budget) }
 {
     if image.is_raw() {
         text.push_str(".raw\n")?;
@@ -150,7 +151,8 @@ fn push_register(text: &mut String, separator: &str, register: u8) -> Result<(),
 
 /// Adds the registers, with commas between them.
 fn push_registers(text: &mut String, registers: &[u8]) -> Result<(), AllocError>
-    ensures { Adds result text.old text.new (joined (codes ", ") (map register_text registers.now)) }
+    ensures { Adds result text.old text.new
+        (joined (codes ", ") (map register_text registers.now)) }
 {
     for (place, register) in registers.iter().enumerate() {
         push_register(text, separator_behind(place), *register)?;
@@ -160,7 +162,8 @@ fn push_registers(text: &mut String, registers: &[u8]) -> Result<(), AllocError>
 
 /// Adds the registers of a list of handles, the first of them behind the separator.
 fn push_places<'a>(text: &mut String, separator: &'a str, places: &[u8]) -> Result<(), AllocError>
-    ensures { Adds result text.old text.new (behind separator.now (map register_text (filter (λ place. not (place == no_register)) places.now))) }
+    ensures { Adds result text.old text.new (behind separator.now
+        (map register_text (filter (λ place. not (place == no_register)) places.now))) }
 {
     let mut between = separator;
     for place in places {
@@ -181,7 +184,8 @@ fn push_tail(
     ending: Ending,
     bytes: [u8; Instr::LEN],
 ) -> Result<(), AllocError>
-    ensures { Adds result text.old text.new (behind separator.now (tail_texts count ending (reading_of bytes))) }
+    ensures { Adds result text.old text.new
+        (behind separator.now (tail_texts count ending (reading_of bytes))) }
 {
     let parts = InstrBytes::split(bytes);
     let imm = parts.imm();
@@ -209,7 +213,8 @@ fn push_row(
     bytes: [u8; Instr::LEN],
 ) -> Result<(), AllocError>
     requires { row.registers ≤ most_registers }
-    ensures { Adds result text.old text.new (laid_out count row.name.now row.registers row.ending bytes) }
+    ensures { Adds result text.old text.new
+        (laid_out count row.name.now row.registers row.ending bytes) }
 {
     let parts = InstrBytes::split(bytes);
     text.push_str(row.name)?;
@@ -273,7 +278,8 @@ fn push_code(text: &mut String, code: &[Instr], targets: &[bool]) -> Result<(), 
 
 /// The target of the instruction, if it has one.
 fn target_of(bytes: [u8; Instr::LEN]) -> Option<u32>
-    ensures target { IfSome result (λ target. (aims (row_of (slice_index bytes 0)) ≡ true) × (target ≡ (reading_of bytes).target)) }
+    ensures target { IfSome result (λ target.
+        (aims (row_of (slice_index bytes 0)) ≡ true) × (target ≡ (reading_of bytes).target)) }
     ensures none { IfNone result (aims (row_of (slice_index bytes 0)) ≡ false) }
 {
     let target = InstrBytes::split(bytes).target();
@@ -286,7 +292,9 @@ fn target_of(bytes: [u8; Instr::LEN]) -> Option<u32>
 /// Marks the target of the instruction, where it is one of those that are marked so.
 fn mark(targets: &mut Vec<bool>, instr: Instr)
     ensures len { length targets.new.items ≡ length targets.old.items }
-    ensures marked { (n : ℕ) → n < length targets.old.items → get_or targets.new.items n false ≡ (get_or targets.old.items n false || aims_at n (instr_bytes instr)) }
+    ensures marked { (n : ℕ) → n < length targets.old.items
+        → get_or targets.new.items n false
+        ≡ (get_or targets.old.items n false || aims_at n (instr_bytes instr)) }
 {
     let Some(target) = target_of(instr.to_bytes()) else {
         return;
@@ -299,7 +307,8 @@ fn mark(targets: &mut Vec<bool>, instr: Instr)
 
 /// Which of the instructions a target names.
 fn targets_of(alloc: Global, code: &[Instr]) -> Result<Vec<bool>, AllocError>
-    ensures { IfOk result (λ targets. TargetsAre targets.items (map instr_bytes code.now) (length code.now)) }
+    ensures { IfOk result (λ targets.
+        TargetsAre targets.items (map instr_bytes code.now) (length code.now)) }
 {
     let mut targets = vec![in alloc; false; code.len()]?;
     for instr in code {

@@ -101,7 +101,8 @@ fn are_of_name(bytes: &[u8]) -> bool
 
 /// The 16 bytes that the hexadecimal digits spell, two digits a byte, if they spell so many.
 pub(crate) fn sixteen_bytes(digits: &[u8]) -> Option<[u8; Instr::LEN]>
-    ensures { result ≡ if_fits (λ bytes. length bytes == instruction_length) (hex_bytes digits.now) }
+    ensures { result ≡
+        if_fits (λ bytes. length bytes == instruction_length) (hex_bytes digits.now) }
 {
     if digits.len() != 2 * Instr::LEN {
         return None;

@@ -47,7 +47,8 @@ pub(crate) fn split_words<'a>(words: &mut Vec<&'a [u8]>, line: &'a [u8]) -> Resu
 
 /// Adds the word, if it has a byte.
 fn push_word<'a>(words: &mut Vec<&'a [u8]>, word: &'a [u8]) -> Result<(), AllocError>
-    ensures { OnOk result (texts words.new.items ≡ texts words.old.items ++ word_before word.now []) }
+    ensures { OnOk result
+        (texts words.new.items ≡ texts words.old.items ++ word_before word.now []) }
 {
     if !word.is_empty() {
         words.push(word)?;

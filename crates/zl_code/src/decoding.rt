@@ -1,4 +1,4 @@
-ghost use Rattle.std.specs.Prelude.{drop, length, ◌+◌, ◌*◌, ◌≡◌, ◌<◌, ◌≤◌, ◌⊎◌, IsTrue, IfOk, OnOk, MatchResult, Some, None, slice_index};
+ghost use Rattle.std.specs.Prelude.{drop, length, ◌+◌, ◌*◌, ◌≡◌, ◌≤◌, ◌⊎◌, IsTrue, IfOk, OnOk, MatchResult, Some, None, slice_index};
 ghost use Rattle.std.specs.Result.{result_err};
 ghost use Rattle.zl_code.specs.declared.image.DecodeFault.TheVariants as faults;
 ghost use Rattle.zl_code.specs.Spells.{needs_byte, is_needs_byte, number_at, header_fault, is_header_in_range, first_fault, is_raw_at, count_at, starts_at, slots_at, length_at, pieces, Spells};

@@ -1,6 +1,6 @@
 //! The 16 bytes of an instruction: their parts, and which of them spell an instruction.
 
-ghost use Rattle.std.specs.Prelude.{◌≡◌, ◌≤◌, ◌++◌, ◌∷◌, drop, length, slice_index, take};
+ghost use Rattle.std.specs.Prelude.{◌≡◌, ◌≤◌, ◌++◌, ◌∷◌, drop, length, slice_index};
 ghost use Rattle.zl_code.specs.Limits.{most_registers};
 ghost use Rattle.zl_code.specs.Spells.{bytes_of, seven, instr_bytes, local_bytes, call_bytes, fields, number_at, registers_at};
 

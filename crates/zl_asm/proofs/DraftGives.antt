@@ -1,11 +1,13 @@
 -- From what a draft holds to the fields of an image.
 use denote.Ref.{Bor}
-use Rattle.std.proofs.Common.{◌≡◌, ℕ, ◌+◌, ◌<◌, ◌≤◌, Bool, true, false, ◌&&◌, not, cond, leb, List, [], ◌∷◌, ◌++◌, length, map, take, drop, get_or, length-append, Option, Some, None, is_some, refl, sym, ap, ◌∙◌, arith}
+use Rattle.std.proofs.Common.{◌≡◌, ℕ, ◌+◌, ◌<◌, ◌≤◌, Bool, true, false, ◌&&◌, not, cond, leb, List, [], ◌∷◌, ◌++◌, length, map, take, drop, get_or, take-add, append_assoc, length-append, Option, Some, None, is_some, refl, sym, ap, ◌∙◌, arith}
 use Rattle.std.specs.Option.{option_map}
 use Rattle.std.specs.Map.{lookup}
 use Rattle.std.specs.List.{flat_map, list_all}
 use Rattle.zl_code.specs.Image.{Image, needs_named}
-use Rattle.zl_code.specs.Spells.{instr_bytes, instr_fault, is_in_range}
+use Rattle.std.specs.Prelude.{slice_index}
+use Rattle.zl_code.specs.Spells.{instr_bytes, instr_fault, is_in_range, registers_at, number_at, bytes_of}
+use Rattle.zl_code.proofs.ImageBytes.{IsBytes, bytes_of-number_at}
 use Rattle.std.proofs.lemmas.Bool.{le-leb, and_from}
 use Rattle.std.proofs.lemmas.List.{length-map, map-append, take_more, take_all, take-append-drop, at_drop_more}
 use Rattle.std.proofs.lemmas.List.Folds.{list_all-append}
@@ -27,6 +29,15 @@ use Rattle.zl_asm.proofs.ListingRefused.{all_of-none, all_of-more, all_of-fault,
 pub resolved_by : (labels : List (Bor (List ℕ) × ℕ)) (s : ReadSource) (name : Bor (List ℕ)) (o : Option ℕ) → s.label ≡ Some name → lookup (λ k. same name.now k.now) labels ≡ o
     → resolved (labels_shown labels) (source_value s) ≡ option_map (with_target s.bytes) o
 resolved_by labels s name o label found = rw (label, sym (lookup_is labels name.now), found) refl
+
+-- the parts with another target are the bytes with that target
+pub retargeted : (bytes : List ℕ) (target : ℕ) → length bytes ≡ 16 → IsBytes bytes
+    → slice_index bytes 0 ∷ (registers_at bytes ++ (bytes_of 4 (number_at bytes 8 4) ++ bytes_of 4 target)) ≡ with_target bytes target
+retargeted [] target len h = absurd (omega arith)
+retargeted (b ∷ bs) target len h =
+    let imm : bytes_of 4 (number_at (b ∷ bs) 8 4) ≡ take 4 (drop 7 bs) = bytes_of-number_at (b ∷ bs) 8 4 (omega arith) h in
+    (λ i. b ∷ (take 7 bs ++ (imm i ++ bytes_of 4 target)))
+    ∙ ap (λ (x : List ℕ). b ∷ x) (sym (append_assoc (take 7 bs) (take 4 (drop 7 bs)) (bytes_of 4 target)) ∙ ap (λ (x : List ℕ). x ++ bytes_of 4 target) (sym (take-add 7 4 bs)))
 
 -- ---- the instructions so far
 

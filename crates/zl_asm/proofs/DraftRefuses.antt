@@ -1,7 +1,7 @@
 -- Which lines a draft refuses.
 use Rattle.std.proofs.Common.{◌≡◌, ℕ, ◌≤◌, Bool, true, false, List, [], ◌∷◌, length, Option, Some, None, is_some, Result, Ok, Err, refl, sym, ap, subst, ◌∙◌, true≢false}
 use Rattle.std.specs.Option.{is_none}
-use Rattle.std.specs.Result.{is_err, MatchResult}
+use Rattle.std.specs.Result.{is_err, result_err}
 use Rattle.zl_code.specs.Spells.{instr_fault}
 use Rattle.zl_code.specs.declared.image.Start.{Start}
 use Rattle.zl_code.specs.declared.image.SlotArray.{SlotArray}
@@ -46,6 +46,6 @@ fault_refused d s alone fault = λ said h rest. refused_fault said rest s d.imag
     nothing (Some n) e = absurd (true≢false (sym e))
 
 -- an error that is the fault
-pub fault_found : {A E : Type 0} (r : Result A E) (o : Option E) → is_err r ≡ true → MatchResult r (λ x. o ≡ None) (λ fault. o ≡ Some fault) → is_some o ≡ true
+pub fault_found : {A E : Type 0} (r : Result A E) (o : Option E) → is_err r ≡ true → o ≡ result_err r → is_some o ≡ true
 fault_found (Ok x) o e h = absurd (true≢false (sym e))
 fault_found (Err fault) o e h = ap is_some h

@@ -1,5 +1,5 @@
 -- The operands between the commas, and their registers, one word after the other.
-use Rattle.std.proofs.Common.{◌≡◌, ℕ, suc, ◌+◌, ◌-◌, ◌<◌, ◌≤◌, true, false, leb, eqb, List, [], ◌∷◌, ◌++◌, map, length, take, drop, get_or, set, replicate, Bor, Option, Some, None, refl, sym, ap, ◌∙◌, arith, append_assoc, append-nil, take-append-drop}
+use Rattle.std.proofs.Common.{◌≡◌, ℕ, suc, ◌+◌, ◌-◌, ◌<◌, ◌≤◌, true, false, leb, eqb, List, [], ◌∷◌, ◌++◌, length, take, drop, get_or, set, replicate, Bor, Option, Some, None, refl, sym, ap, ◌∙◌, arith, append_assoc, append-nil, take-append-drop}
 use Rattle.std.specs.Option.{option_map}
 use Rattle.std.proofs.Math.Seq.{take-suc-set}
 use Rattle.std.proofs.lemmas.List.{at_drop_more, at_drop_all, take_all, length-take, length-drop, drop-replicate, take-map, drop-map, length-map}
@@ -8,13 +8,12 @@ use Rattle.zl_asm.specs.Words.{is_word, comma, register_of}
 use Rattle.zl_code.specs.declared.layout.Ending.{Ending}
 use Rattle.zl_code.specs.declared.layout.Ending.TheVariants as ending
 use Rattle.zl_code.specs.Spells.{seven}
+use Rattle.zl_code.proofs.ImageCells.{seven_places}
+use Rattle.zl_asm.specs.Values.{texts}
 use Rattle.zl_asm.specs.Lines.{onto_all, operands_of, operands_after, all_of, registers_of, Tail, tail_of, places_of, source_with, then_with}
 
 abbrev pub Text : Type 0
 Text = Bor (List ℕ)
-
-abbrev pub texts : List Text → List (List ℕ)
-texts words = map (λ w. w.now) words
 
 -- ---- the words between commas
 
@@ -218,17 +217,6 @@ unfolding tail_of
 handles_placed words places few e = placed (all_registers words) places (λ registers q. let n : length registers ≡ length words = count_of words registers q in omega arith) e
 
 -- ---- the whole instruction
-
-seven_places : (registers : List ℕ) → length registers ≤ 7 → registers ++ drop (length registers) (replicate 7 0) ≡ seven registers
-seven_places [] few = refl
-seven_places (a ∷ []) few = refl
-seven_places (a ∷ b ∷ []) few = refl
-seven_places (a ∷ b ∷ c ∷ []) few = refl
-seven_places (a ∷ b ∷ c ∷ d ∷ []) few = refl
-seven_places (a ∷ b ∷ c ∷ d ∷ e ∷ []) few = refl
-seven_places (a ∷ b ∷ c ∷ d ∷ e ∷ f ∷ []) few = refl
-seven_places (a ∷ b ∷ c ∷ d ∷ e ∷ f ∷ g ∷ []) few = refl
-seven_places (a ∷ b ∷ c ∷ d ∷ e ∷ f ∷ g ∷ h ∷ registers) few = absurd (omega arith)
 
 registered : (o : Option (List ℕ)) (places : List ℕ) → ((registers : List ℕ) → o ≡ Some registers → length registers ≤ 7)
     → Some places ≡ option_map (λ registers. registers ++ drop (length registers) (replicate 7 0)) o → Some places ≡ option_map seven o

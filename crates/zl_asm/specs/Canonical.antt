@@ -9,6 +9,7 @@ use Rattle.zl_code.specs.declared.image.Start.{Start}
 use Rattle.zl_code.specs.declared.image.SlotArray.{SlotArray}
 use Rattle.zl_code.specs.declared.layout.Ending.{Ending}
 use Rattle.zl_code.specs.declared.layout.Ending.TheVariants as ending
+use Rattle.zl_code.specs.Limits.{no_register}
 use Rattle.zl_code.specs.Image.{Image}
 use Rattle.zl_code.specs.Instructions.{Row, row_of}
 use Rattle.zl_code.specs.Spells.{Reading, reading_of, instr_bytes, is_in_range}
@@ -65,7 +66,7 @@ tail_texts count ending.Number r = decimal r.imm ∷ []
 tail_texts count ending.Room r = decimal r.imm ∷ []
 tail_texts count ending.Target r = target_text count r.target ∷ []
 tail_texts count ending.Both r = decimal r.imm ∷ target_text count r.target ∷ []
-tail_texts count ending.Handles r = map register_text (filter (λ place. not (place == 255)) r.places)
+tail_texts count ending.Handles r = map register_text (filter (λ place. not (place == no_register)) r.places)
 
 -- all operands of an instruction of the row, its registers first
 abbrev pub operand_texts : ℕ → Row → Reading → List (List ℕ)

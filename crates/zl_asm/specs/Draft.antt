@@ -2,6 +2,7 @@
 use denote.Ref.{Bor}
 use Rattle.std.specs.Prelude.{ℕ, ◌≡◌, Bool, true, false, ◌&&◌, nat_le, List, [], ◌∷◌, ◌++◌, map, Option, Some, None, if◌then◌else◌, ◌⊎◌}
 use Rattle.std.specs.List.{flat_map, list_any}
+use Rattle.zl_code.specs.Limits.{most_memory, most_budget}
 use Rattle.zl_code.specs.Image.{Image, needs_named}
 use Rattle.zl_code.specs.Spells.{instr_bytes, instr_fault, is_start_in_range, is_slot_in_range}
 use Rattle.zl_code.specs.declared.instr.Instr.{Instr}
@@ -69,8 +70,8 @@ pub record IsHeldOf (said : List Line) (h : Held) : Type 0 where
 -- each field of the directive is in its range
 abbrev pub is_directive_in_range : Directive → Bool
 is_directive_in_range directive.Raw = true
-is_directive_in_range (directive.Memory n) = nat_le n 65536
-is_directive_in_range (directive.Budget n) = nat_le 1 n && nat_le n 1000000
+is_directive_in_range (directive.Memory n) = nat_le n most_memory
+is_directive_in_range (directive.Budget n) = nat_le 1 n && nat_le n most_budget
 is_directive_in_range (directive.Need c) = true
 is_directive_in_range (directive.Start s) = is_start_in_range s
 is_directive_in_range (directive.Slots s) = is_slot_in_range s

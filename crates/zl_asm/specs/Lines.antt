@@ -10,6 +10,7 @@ use Rattle.zl_code.specs.declared.image.Start.{Start}
 use Rattle.zl_code.specs.declared.image.SlotArray.{SlotArray}
 use Rattle.zl_code.specs.declared.layout.Ending.{Ending}
 use Rattle.zl_code.specs.declared.layout.Ending.TheVariants as ending
+use Rattle.zl_code.specs.Limits.{most_memory, most_budget, most_places, most_handles, no_register, instruction_length}
 use Rattle.zl_code.specs.Image.{is_among, can_be_needed}
 use Rattle.zl_code.specs.Instructions.{Row, row_named, layout_of}
 use Rattle.zl_code.specs.Spells.{bytes_of, seven, is_start_in_range, is_slot_in_range}
@@ -67,14 +68,14 @@ slot_array_with _ _ _ = None
 unfoldable pub directive_of : List ℕ → List (List ℕ) → Option Directive
 directive_of name [] = if is_word name (codes ".raw") then Some directive.Raw else None
 directive_of name (operand ∷ []) =
-    if is_word name (codes ".memory") then option_map directive.Memory (number_within 0 65536 operand)
-    else (if is_word name (codes ".budget") then option_map directive.Budget (number_within 1 1000000 operand)
+    if is_word name (codes ".memory") then option_map directive.Memory (number_within 0 most_memory operand)
+    else (if is_word name (codes ".budget") then option_map directive.Budget (number_within 1 most_budget operand)
     else (if is_word name (codes ".need") then option_map directive.Need (need_of operand)
     else None))
 directive_of name (kind ∷ rights ∷ []) =
     if is_word name (codes ".start") then option_map directive.Start (start_with (kind_of kind) (number_of rights)) else None
 directive_of name (kind ∷ len ∷ rights ∷ []) =
-    if is_word name (codes ".slots") then option_map directive.Slots (slot_array_with (kind_of kind) (number_within 1 256 len) (number_of rights)) else None
+    if is_word name (codes ".slots") then option_map directive.Slots (slot_array_with (kind_of kind) (number_within 1 most_places len) (number_of rights)) else None
 directive_of _ _ = None
 
 -- ---- instructions
@@ -123,7 +124,7 @@ tail_to imm word = if is_name word then Some (tail imm 0 (Some word)) else optio
 
 -- the registers of at most eight handles, and ff in the places behind them
 abbrev pub places_of : List ℕ → Option (List ℕ)
-places_of registers = if nat_le (length registers) 8 then Some (registers ++ replicate (8 - length registers) 255) else None
+places_of registers = if nat_le (length registers) most_handles then Some (registers ++ replicate (most_handles - length registers) no_register) else None
 
 -- the operands behind the registers
 unfoldable pub tail_of : Ending → List (List ℕ) → Option Tail
@@ -147,7 +148,7 @@ source_of row operands =
 
 -- the 16 bytes of an instruction with an unknown opcode
 abbrev pub is_unknown : List ℕ → Bool
-is_unknown bytes = (length bytes == 16) && not (is_some (layout_of (slice_index bytes 0)))
+is_unknown bytes = (length bytes == instruction_length) && not (is_some (layout_of (slice_index bytes 0)))
 
 -- what `.bytes` says: one instruction as 32 hexadecimal digits, of an opcode without a mnemonic
 unfoldable pub unknown_of : List (List ℕ) → Option Source

@@ -6,6 +6,7 @@ use Rattle.std.specs.Cmp.Lexicographic.{pointwise}
 use Rattle.zl_rights.specs.declared.policy.Condition.{Condition}
 use Rattle.zl_code.specs.declared.image.Start.{Start}
 use Rattle.zl_code.specs.declared.image.SlotArray.{SlotArray}
+use Rattle.zl_code.specs.Limits.{most_instructions, most_starts, most_slot_arrays}
 use Rattle.zl_code.specs.Image.{needs_named}
 use Rattle.zl_code.specs.Spells.{bytes_of, instr_fault}
 use Rattle.zl_asm.specs.declared.directive.Directive.TheVariants as directive
@@ -117,9 +118,9 @@ resolved labels s = elim s.label as (λ _. Option (List ℕ)) [
 -- no more than an image holds, and no instruction with a fault
 abbrev pub is_listing : Listing → Bool
 is_listing l =
-    nat_le (length l.starts) 7
-    && (nat_le (length l.slots) 8
-    && (nat_le (length l.code) 4096
+    nat_le (length l.starts) most_starts
+    && (nat_le (length l.slots) most_slot_arrays
+    && (nat_le (length l.code) most_instructions
     && list_all (λ bytes. not (is_some (instr_fault l.raw bytes))) l.code))
 
 -- the fields together, where no directive that stands once was repeated and each label was found

@@ -1,5 +1,5 @@
 -- The pieces of a text as the disassembler writes them, each line with its end. No public clause cites this module.
-use Rattle.std.specs.Prelude.{ℕ, ◌≡◌, ◌<◌, Bool, false, List, [], ◌∷◌, ◌++◌, codes, map, length, take, get_or, if◌then◌else◌}
+use Rattle.std.specs.Prelude.{ℕ, ◌≡◌, ◌<◌, Bool, false, List, [], ◌∷◌, ◌++◌, codes, map, length, take, get_or, Result, OnOk, String, string_bytes, if◌then◌else◌}
 use Rattle.std.specs.List.{flat_map}
 use Rattle.std.specs.Fmt.{decimal}
 use Rattle.zl_rights.specs.declared.policy.Condition.{Condition}
@@ -12,6 +12,10 @@ use Rattle.zl_code.specs.declared.layout.Ending.{Ending}
 use Rattle.zl_code.specs.Image.{Image, is_among}
 use Rattle.zl_code.specs.Spells.{reading_of}
 use Rattle.zl_asm.specs.Canonical.{kind_text, label_text, joined, register_text, tail_texts, instr_text, is_target}
+
+-- where it is done, the text has these bytes more at its end
+abbrev pub Adds : {X E Z : Type 0} → Result X E → String Z → String Z → List ℕ → Type 0
+Adds result old new bytes = OnOk result (string_bytes new ≡ string_bytes old ++ bytes)
 
 -- each line with its end
 abbrev pub ended : List (List ℕ) → List ℕ

@@ -1,10 +1,16 @@
--- What the lines that were read stand for. No public clause cites this module.
+-- What the words and the lines that were read stand for. No public clause cites this module.
+use denote.Ref.{Bor}
+use Rattle.std.specs.Prelude.{ℕ, List, map}
 use Rattle.std.specs.Option.{option_map}
 use Rattle.zl_asm.specs.declared.line.Line.{Line as ReadLine}
 use Rattle.zl_asm.specs.declared.line.Line.TheVariants as read
 use Rattle.zl_asm.specs.declared.line.Source.{Source as ReadSource}
 use Rattle.zl_asm.specs.declared.operands.Tail.{Tail as ReadTail}
 use Rattle.zl_asm.specs.Lines.{Line, Blank, Declares, Label, Code, Source, Tail}
+
+-- the bytes of each word
+abbrev pub texts : List (Bor (List ℕ)) → List (List ℕ)
+texts words = map (λ word. word.now) words
 
 -- the instruction with the bytes of its label's name
 abbrev pub source_value : ReadSource → Source

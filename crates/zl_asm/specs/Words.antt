@@ -3,6 +3,7 @@ use Rattle.std.specs.Prelude.{ℕ, ◌+◌, ◌-◌, ◌*◌, ◌^◌, Bool, fal
 use Rattle.std.specs.Option.{unwrap_or}
 use Rattle.std.specs.List.{slice_split, list_all, starts_with}
 use Rattle.std.specs.Cmp.Lexicographic.{pointwise}
+use Rattle.zl_code.specs.Limits.{register_count}
 
 -- ---- lines and words
 
@@ -85,7 +86,7 @@ is_decimal byte = nat_le 48 byte && nat_le byte 57
 unfoldable pub register_of : List ℕ → Option ℕ
 register_of (r ∷ low ∷ []) = if (r == 114) && is_decimal low then Some (low - 48) else None
 register_of (r ∷ high ∷ low ∷ []) =
-    if (r == 114) && (nat_le 49 high && (nat_le high 51 && (is_decimal low && nat_lt ((high - 48) * 10 + (low - 48)) 32)))
+    if (r == 114) && (nat_le 49 high && (nat_le high 51 && (is_decimal low && nat_lt ((high - 48) * 10 + (low - 48)) register_count)))
     then Some ((high - 48) * 10 + (low - 48))
     else None
 register_of _ = None
@@ -100,10 +101,14 @@ is_small_letter byte = nat_le 97 byte && nat_le byte 122
 abbrev pub is_name_byte : ℕ → Bool
 is_name_byte byte = is_small_letter byte || (is_decimal byte || (byte == 95))
 
--- a small letter, and behind it small letters, digits or `_`; 32 bytes at most
+-- the most bytes of a name
+abbrev pub most_name : ℕ
+most_name = 32
+
+-- a small letter, and behind it small letters, digits or `_`, of no more bytes than a name has
 unfoldable pub is_name : List ℕ → Bool
 is_name [] = false
-is_name (byte ∷ bytes) = is_small_letter byte && (list_all is_name_byte bytes && nat_lt (length bytes) 32)
+is_name (byte ∷ bytes) = is_small_letter byte && (list_all is_name_byte bytes && nat_lt (length bytes) most_name)
 
 -- ---- bytes in hexadecimal digits
 

@@ -19,8 +19,10 @@ use zl_code::Image;
 /// nothing of the text.
 pub fn assemble(alloc: Global, text: &str) -> Result<Image, AsmFault>
     ensures found { IfOk result (λ image. Denotes text.now image) }
-    ensures none { IfErr result (λ fault. (fault.cause ≡ NoMemory) ⊎ (listing_of text.now ≡ None)) }
-    ensures only { (i : ImageValue) → Denotes text.now i → MatchResult result (λ image. image ≡ i) (λ fault. fault.cause ≡ NoMemory) }
+    ensures none { IfErr result (λ fault.
+        (fault.cause ≡ NoMemory) ⊎ (listing_of text.now ≡ None)) }
+    ensures only { (i : ImageValue) → Denotes text.now i
+        → MatchResult result (λ image. image ≡ i) (λ fault. fault.cause ≡ NoMemory) }
 {
     assemble_bytes(alloc, text.as_bytes())
 }
@@ -29,8 +31,10 @@ pub fn assemble(alloc: Global, text: &str) -> Result<Image, AsmFault>
 /// its line; all else is as `assemble` says.
 pub fn assemble_bytes(alloc: Global, text: &[u8]) -> Result<Image, AsmFault>
     ensures found { IfOk result (λ image. Denotes text.now image) }
-    ensures none { IfErr result (λ fault. (fault.cause ≡ NoMemory) ⊎ (listing_of text.now ≡ None)) }
-    ensures only { (i : ImageValue) → Denotes text.now i → MatchResult result (λ image. image ≡ i) (λ fault. fault.cause ≡ NoMemory) }
+    ensures none { IfErr result (λ fault.
+        (fault.cause ≡ NoMemory) ⊎ (listing_of text.now ≡ None)) }
+    ensures only { (i : ImageValue) → Denotes text.now i
+        → MatchResult result (λ image. image ≡ i) (λ fault. fault.cause ≡ NoMemory) }
 {
     read_lines(alloc, text)?.into_image()
 }
@@ -38,7 +42,8 @@ pub fn assemble_bytes(alloc: Global, text: &[u8]) -> Result<Image, AsmFault>
 /// What all lines of the text say.
 fn read_lines<'a>(alloc: Global, text: &'a [u8]) -> Result<Draft<'a>, AsmFault>
     ensures read { IfOk result (λ draft. ReadsAll text.now (held_by draft)) }
-    ensures refused { IfErr result (λ fault. (fault.cause ≡ NoMemory) ⊎ (listing_of text.now ≡ None)) }
+    ensures refused { IfErr result (λ fault.
+        (fault.cause ≡ NoMemory) ⊎ (listing_of text.now ≡ None)) }
 {
     let mut draft = Draft::new(alloc, text);
     let mut words = Vec::new(alloc);

@@ -1,6 +1,8 @@
-ghost use Rattle.std.specs.Prelude.{◌≡◌, [], ◌∷◌, map, Some};
+ghost use Rattle.std.specs.Prelude.{◌≡◌, [], ◌∷◌};
 ghost use Rattle.std.specs.Result.{result_ok};
 ghost use Rattle.zl_asm.specs.Words.{number_of};
+ghost use Rattle.zl_code.specs.Limits.{most_places};
+ghost use Rattle.zl_asm.specs.Values.{texts};
 ghost use Rattle.zl_asm.specs.Lines.{number_within, need_of, kind_of, start_with, slot_array_with, directive_of};
 
 use crate::fault::AsmCause;
@@ -25,7 +27,7 @@ pub(crate) enum Directive {
 /// The directive of this name with these operands.
 #[tactic(auto, unfolding(crate::specs::Lines::directive_of))]
 pub(crate) fn directive_of(name: &[u8], operands: &[&[u8]]) -> Result<Directive, AsmCause>
-    ensures { result_ok result ≡ directive_of name.now (map (λ word. word.now) operands.now) }
+    ensures { result_ok result ≡ directive_of name.now (texts operands.now) }
 {
     match operands {
         [] => {
@@ -138,7 +140,8 @@ fn start_of(kind: &[u8], rights: &[u8]) -> Result<Start, AsmCause>
 }
 
 fn slot_array_of(kind: &[u8], length: &[u8], rights: &[u8]) -> Result<SlotArray, AsmCause>
-    ensures { result_ok result ≡ slot_array_with (kind_of kind.now) (number_within 1 256 length.now) (number_of rights.now) }
+    ensures { result_ok result ≡ slot_array_with
+        (kind_of kind.now) (number_within 1 most_places length.now) (number_of rights.now) }
 {
     let array = SlotArray {
         kind: kind_of(kind)?,

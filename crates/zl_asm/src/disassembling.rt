@@ -1,21 +1,23 @@
 //! The disassembler: an image to its text.
 
-ghost use Rattle.std.specs.Prelude.{◌≡◌, ◌≤◌, ◌<◌, ◌++◌, ◌∷◌, [], codes, map, filter, not, ◌==◌, length, IfOk, OnOk, IfSome, string_bytes, ℕ, ◌||◌, true, false, get_or, slice_index, IfNone, if◌then◌else◌};
+ghost use Rattle.std.specs.Prelude.{◌≡◌, ◌≤◌, ◌<◌, ◌++◌, ◌∷◌, [], codes, map, filter, not, ◌==◌, length, IfOk, IfSome, string_bytes, ℕ, ◌||◌, true, false, get_or, slice_index, IfNone, if◌then◌else◌};
 ghost use Rattle.std.specs.List.{flat_map};
+ghost use Rattle.zl_code.specs.Limits.{most_registers, no_register};
 ghost use Rattle.zl_code.specs.Instructions.{row_of};
 ghost use Rattle.zl_code.specs.Spells.{instr_bytes, reading_of};
 ghost use Rattle.zl_asm.specs.Denotes.{Denotes};
 ghost use Rattle.zl_asm.specs.Canonical.{kind_text, joined, register_text, target_text, tail_texts, instr_text, hex_text, aims, aims_at, code_lines, text_of};
-ghost use Rattle.zl_asm.specs.Pieces.{ended, fields_text, need_if_among, needs_text, start_text, slot_array_text, directives_text, behind, laid_out, line_text, TargetsAre};
+ghost use Rattle.zl_asm.specs.Pieces.{Adds, ended, fields_text, need_if_among, needs_text, start_text, slot_array_text, directives_text, behind, laid_out, line_text, TargetsAre};
 
 use bitflags::Flags;
 use std::alloc::{AllocError, Global};
-use zl_code::{Ending, HandleList, Image, Instr, Row, SlotArray, Start};
+use zl_code::{Ending, HandleList, Image, Instr, InstrBytes, Row, SlotArray, Start};
 use zl_rights::{Condition, Kind};
 
 /// Adds the marks and numbers of the image.
 fn push_fields(text: &mut String, image: &Image) -> Result<(), AllocError>
-    ensures { OnOk result (string_bytes text.new ≡ string_bytes text.old ++ fields_text image.now.raw image.now.memory image.now.budget) }
+    ensures { Adds result text.old text.new
+        (fields_text image.now.raw image.now.memory image.now.budget) }
 {
     if image.is_raw() {
         text.push_str(".raw\n")?;
@@ -27,7 +29,7 @@ fn push_fields(text: &mut String, image: &Image) -> Result<(), AllocError>
 
 /// Adds the line of the need, if the image has it.
 fn push_need(text: &mut String, image: &Image, condition: Condition) -> Result<(), AllocError>
-    ensures { OnOk result (string_bytes text.new ≡ string_bytes text.old ++ need_if_among image.now.needs condition) }
+    ensures { Adds result text.old text.new (need_if_among image.now.needs condition) }
 {
     if !image.needs(condition) {
         return Ok(());
@@ -38,7 +40,7 @@ fn push_need(text: &mut String, image: &Image, condition: Condition) -> Result<(
 
 /// Adds the lines of the needs.
 fn push_needs(text: &mut String, image: &Image) -> Result<(), AllocError>
-    ensures { OnOk result (string_bytes text.new ≡ string_bytes text.old ++ needs_text image.now.needs) }
+    ensures { Adds result text.old text.new (needs_text image.now.needs) }
 {
     push_need(text, image, Condition::NewChannel)?;
     push_need(text, image, Condition::NewEvent)?;
@@ -58,7 +60,7 @@ fn kind_name(kind: Option<Kind>) -> &'static str
 
 /// Adds the line of a start handle.
 fn push_start(text: &mut String, start: Start) -> Result<(), AllocError>
-    ensures { OnOk result (string_bytes text.new ≡ string_bytes text.old ++ start_text start) }
+    ensures { Adds result text.old text.new (start_text start) }
 {
     let kind = kind_name(start.kind);
     let rights = start.rights.bits();
@@ -67,7 +69,7 @@ fn push_start(text: &mut String, start: Start) -> Result<(), AllocError>
 
 /// Adds the lines of the start handles.
 fn push_starts(text: &mut String, starts: &[Start]) -> Result<(), AllocError>
-    ensures { OnOk result (string_bytes text.new ≡ string_bytes text.old ++ flat_map start_text starts.now) }
+    ensures { Adds result text.old text.new (flat_map start_text starts.now) }
 {
     for start in starts {
         push_start(text, *start)?;
@@ -77,7 +79,7 @@ fn push_starts(text: &mut String, starts: &[Start]) -> Result<(), AllocError>
 
 /// Adds the line of a slot array.
 fn push_slot_array(text: &mut String, array: SlotArray) -> Result<(), AllocError>
-    ensures { OnOk result (string_bytes text.new ≡ string_bytes text.old ++ slot_array_text array) }
+    ensures { Adds result text.old text.new (slot_array_text array) }
 {
     let kind = kind_name(array.kind);
     let len = array.length;
@@ -87,7 +89,7 @@ fn push_slot_array(text: &mut String, array: SlotArray) -> Result<(), AllocError
 
 /// Adds the lines of the slot arrays.
 fn push_slots(text: &mut String, slots: &[SlotArray]) -> Result<(), AllocError>
-    ensures { OnOk result (string_bytes text.new ≡ string_bytes text.old ++ flat_map slot_array_text slots.now) }
+    ensures { Adds result text.old text.new (flat_map slot_array_text slots.now) }
 {
     for array in slots {
         push_slot_array(text, *array)?;
@@ -97,7 +99,7 @@ fn push_slots(text: &mut String, slots: &[SlotArray]) -> Result<(), AllocError>
 
 /// Adds the lines of the directives.
 fn push_directives(text: &mut String, image: &Image) -> Result<(), AllocError>
-    ensures { OnOk result (string_bytes text.new ≡ string_bytes text.old ++ directives_text image.now) }
+    ensures { Adds result text.old text.new (directives_text image.now) }
 {
     push_fields(text, image)?;
     push_needs(text, image)?;
@@ -107,14 +109,14 @@ fn push_directives(text: &mut String, image: &Image) -> Result<(), AllocError>
 
 /// Adds the digits of the byte.
 fn push_hex(text: &mut String, byte: u8) -> Result<(), AllocError>
-    ensures { OnOk result (string_bytes text.new ≡ string_bytes text.old ++ hex_text (byte ∷ [])) }
+    ensures { Adds result text.old text.new (hex_text (byte ∷ [])) }
 {
     write!(text, "{byte:02x}")
 }
 
 /// Adds the digits of the bytes.
 fn push_bytes(text: &mut String, bytes: &[u8]) -> Result<(), AllocError>
-    ensures { OnOk result (string_bytes text.new ≡ string_bytes text.old ++ hex_text bytes.now) }
+    ensures { Adds result text.old text.new (hex_text bytes.now) }
 {
     for byte in bytes {
         push_hex(text, *byte)?;
@@ -122,36 +124,9 @@ fn push_bytes(text: &mut String, bytes: &[u8]) -> Result<(), AllocError>
     Ok(())
 }
 
-/// The registers in the bytes of an instruction.
-fn registers_in(bytes: [u8; Instr::LEN]) -> [u8; 7]
-    ensures { result ≡ (reading_of bytes).registers }
-{
-    let [_, a, b, c, d, e, f, g, _, _, _, _, _, _, _, _] = bytes;
-    [a, b, c, d, e, f, g]
-}
-
-/// The numbers in the last eight bytes of an instruction.
-fn numbers_in(bytes: [u8; Instr::LEN]) -> (u32, u32)
-    ensures imm { result.0 ≡ (reading_of bytes).imm }
-    ensures target { result.1 ≡ (reading_of bytes).target }
-{
-    let [_, _, _, _, _, _, _, _, i0, i1, i2, i3, t0, t1, t2, t3] = bytes;
-    let imm = u32::from_le_bytes([i0, i1, i2, i3]);
-    let target = u32::from_le_bytes([t0, t1, t2, t3]);
-    (imm, target)
-}
-
-/// The places of a list of handles in the last eight bytes.
-fn places_in(bytes: [u8; Instr::LEN]) -> [u8; HandleList::MOST]
-    ensures { result ≡ (reading_of bytes).places }
-{
-    let [_, _, _, _, _, _, _, _, a, b, c, d, e, f, g, h] = bytes;
-    [a, b, c, d, e, f, g, h]
-}
-
 /// Adds the target: a label among so many instructions, and else a number.
 fn push_target(text: &mut String, count: usize, target: u32) -> Result<(), AllocError>
-    ensures { OnOk result (string_bytes text.new ≡ string_bytes text.old ++ target_text count target) }
+    ensures { Adds result text.old text.new (target_text count target) }
 {
     if (target as usize) < count {
         write!(text, "l{target}")
@@ -169,14 +144,15 @@ fn separator_behind(registers: usize) -> &'static str
 
 /// Adds the register behind the separator.
 fn push_register(text: &mut String, separator: &str, register: u8) -> Result<(), AllocError>
-    ensures { OnOk result (string_bytes text.new ≡ string_bytes text.old ++ (separator.now ++ register_text register)) }
+    ensures { Adds result text.old text.new (separator.now ++ register_text register) }
 {
     write!(text, "{separator}r{register}")
 }
 
 /// Adds the registers, with commas between them.
 fn push_registers(text: &mut String, registers: &[u8]) -> Result<(), AllocError>
-    ensures { OnOk result (string_bytes text.new ≡ string_bytes text.old ++ joined (codes ", ") (map register_text registers.now)) }
+    ensures { Adds result text.old text.new
+        (joined (codes ", ") (map register_text registers.now)) }
 {
     for (place, register) in registers.iter().enumerate() {
         push_register(text, separator_behind(place), *register)?;
@@ -186,7 +162,8 @@ fn push_registers(text: &mut String, registers: &[u8]) -> Result<(), AllocError>
 
 /// Adds the registers of a list of handles, the first of them behind the separator.
 fn push_places<'a>(text: &mut String, separator: &'a str, places: &[u8]) -> Result<(), AllocError>
-    ensures { OnOk result (string_bytes text.new ≡ string_bytes text.old ++ behind separator.now (map register_text (filter (λ place. not (place == 255)) places.now))) }
+    ensures { Adds result text.old text.new (behind separator.now
+        (map register_text (filter (λ place. not (place == no_register)) places.now))) }
 {
     let mut between = separator;
     for place in places {
@@ -207,9 +184,12 @@ fn push_tail(
     ending: Ending,
     bytes: [u8; Instr::LEN],
 ) -> Result<(), AllocError>
-    ensures { OnOk result (string_bytes text.new ≡ string_bytes text.old ++ behind separator.now (tail_texts count ending (reading_of bytes))) }
+    ensures { Adds result text.old text.new
+        (behind separator.now (tail_texts count ending (reading_of bytes))) }
 {
-    let (imm, target) = numbers_in(bytes);
+    let parts = InstrBytes::split(bytes);
+    let imm = parts.imm();
+    let target = parts.target();
     match ending {
         Ending::Nothing => Ok(()),
         Ending::Number | Ending::Room => write!(text, "{separator}{imm}"),
@@ -221,7 +201,7 @@ fn push_tail(
             write!(text, "{separator}{imm}, ")?;
             push_target(text, count, target)
         }
-        Ending::Handles => push_places(text, separator, &places_in(bytes)),
+        Ending::Handles => push_places(text, separator, &parts.last),
     }
 }
 
@@ -232,13 +212,14 @@ fn push_row(
     row: Row,
     bytes: [u8; Instr::LEN],
 ) -> Result<(), AllocError>
-    requires { row.registers ≤ 7 }
-    ensures { OnOk result (string_bytes text.new ≡ string_bytes text.old ++ laid_out count row.name.now row.registers row.ending bytes) }
+    requires { row.registers ≤ most_registers }
+    ensures { Adds result text.old text.new
+        (laid_out count row.name.now row.registers row.ending bytes) }
 {
-    let registers = registers_in(bytes);
+    let parts = InstrBytes::split(bytes);
     text.push_str(row.name)?;
     text.push_str(" ")?;
-    push_registers(text, &registers[..row.registers])?;
+    push_registers(text, &parts.registers[..row.registers])?;
     push_tail(
         text,
         separator_behind(row.registers),
@@ -251,7 +232,7 @@ fn push_row(
 
 /// Adds the digits of an instruction with an unknown opcode.
 fn push_unknown(text: &mut String, bytes: [u8; Instr::LEN]) -> Result<(), AllocError>
-    ensures { OnOk result (string_bytes text.new ≡ string_bytes text.old ++ (codes ".bytes " ++ hex_text bytes)) }
+    ensures { Adds result text.old text.new (codes ".bytes " ++ hex_text bytes) }
 {
     text.push_str(".bytes ")?;
     push_bytes(text, &bytes)
@@ -259,7 +240,7 @@ fn push_unknown(text: &mut String, bytes: [u8; Instr::LEN]) -> Result<(), AllocE
 
 /// Adds an instruction, one of so many.
 fn push_instr(text: &mut String, count: usize, bytes: [u8; Instr::LEN]) -> Result<(), AllocError>
-    ensures { OnOk result (string_bytes text.new ≡ string_bytes text.old ++ instr_text count bytes) }
+    ensures { Adds result text.old text.new (instr_text count bytes) }
 {
     match Row::of_opcode(bytes[0]) {
         Some(row) => push_row(text, count, row, bytes),
@@ -275,7 +256,7 @@ fn push_line(
     is_target: bool,
     instr: Instr,
 ) -> Result<(), AllocError>
-    ensures { OnOk result (string_bytes text.new ≡ string_bytes text.old ++ line_text count n is_target (instr_bytes instr)) }
+    ensures { Adds result text.old text.new (line_text count n is_target (instr_bytes instr)) }
 {
     if is_target {
         write!(text, "l{n}:\n")?;
@@ -287,7 +268,7 @@ fn push_line(
 /// Adds the lines of the instructions; `targets` says which of them a target names.
 fn push_code(text: &mut String, code: &[Instr], targets: &[bool]) -> Result<(), AllocError>
     requires { TargetsAre targets.now (map instr_bytes code.now) (length code.now) }
-    ensures { OnOk result (string_bytes text.new ≡ string_bytes text.old ++ ended (code_lines (map instr_bytes code.now))) }
+    ensures { Adds result text.old text.new (ended (code_lines (map instr_bytes code.now))) }
 {
     for (n, instr) in code.iter().enumerate() {
         push_line(text, code.len(), n, targets[n], *instr)?;
@@ -297,10 +278,11 @@ fn push_code(text: &mut String, code: &[Instr], targets: &[bool]) -> Result<(), 
 
 /// The target of the instruction, if it has one.
 fn target_of(bytes: [u8; Instr::LEN]) -> Option<u32>
-    ensures target { IfSome result (λ target. (aims (row_of (slice_index bytes 0)) ≡ true) × (target ≡ (reading_of bytes).target)) }
+    ensures target { IfSome result (λ target.
+        (aims (row_of (slice_index bytes 0)) ≡ true) × (target ≡ (reading_of bytes).target)) }
     ensures none { IfNone result (aims (row_of (slice_index bytes 0)) ≡ false) }
 {
-    let (_, target) = numbers_in(bytes);
+    let target = InstrBytes::split(bytes).target();
     match Row::of_opcode(bytes[0])?.ending {
         Ending::Target | Ending::Both => Some(target),
         Ending::Nothing | Ending::Number | Ending::Room | Ending::Handles => None,
@@ -310,7 +292,9 @@ fn target_of(bytes: [u8; Instr::LEN]) -> Option<u32>
 /// Marks the target of the instruction, where it is one of those that are marked so.
 fn mark(targets: &mut Vec<bool>, instr: Instr)
     ensures len { length targets.new.items ≡ length targets.old.items }
-    ensures marked { (n : ℕ) → n < length targets.old.items → get_or targets.new.items n false ≡ (get_or targets.old.items n false || aims_at n (instr_bytes instr)) }
+    ensures marked { (n : ℕ) → n < length targets.old.items
+        → get_or targets.new.items n false
+        ≡ (get_or targets.old.items n false || aims_at n (instr_bytes instr)) }
 {
     let Some(target) = target_of(instr.to_bytes()) else {
         return;
@@ -323,7 +307,8 @@ fn mark(targets: &mut Vec<bool>, instr: Instr)
 
 /// Which of the instructions a target names.
 fn targets_of(alloc: Global, code: &[Instr]) -> Result<Vec<bool>, AllocError>
-    ensures { IfOk result (λ targets. TargetsAre targets.items (map instr_bytes code.now) (length code.now)) }
+    ensures { IfOk result (λ targets.
+        TargetsAre targets.items (map instr_bytes code.now) (length code.now)) }
 {
     let mut targets = vec![in alloc; false; code.len()]?;
     for instr in code {

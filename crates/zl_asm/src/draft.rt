@@ -1,5 +1,6 @@
 //! What the lines of a text have said so far.
 ghost use Rattle.std.specs.Prelude.{◌≡◌, ◌≤◌, [], length};
+ghost use Rattle.zl_code.specs.Limits.{most_instructions, most_memory, most_budget};
 
 use crate::directive::Directive;
 use crate::fault::{AsmCause, AsmFault};
@@ -22,7 +23,7 @@ pub(crate) struct Draft<'a> {
     has_body: bool,
     labels: Labels<'a>,
     sources: Vec<SourceLine<'a>>,
-    ghost few: { length sources.items ≤ 4096 },
+    ghost few: { length sources.items ≤ most_instructions },
     ghost empty: { image.code ≡ [] },
 }
 
@@ -40,6 +41,7 @@ impl<'a> Draft<'a> {
     ghost use Rattle.zl_asm.specs.declared.directive.Directive.TheVariants as directives;
     ghost use Rattle.zl_asm.specs.declared.fault.AsmCause.TheVariants.{NoMemory};
     ghost use Rattle.zl_asm.specs.Draft.{held_by, IsHeldOf, Holds, Refuses, Reads, Stops, Gives, GivesNone, is_directive_in_range};
+    ghost use Rattle.zl_asm.specs.Causes.{OnRefusal};
     ghost use Rattle.zl_asm.specs.Lines.{Declares, Label, Code};
     ghost use Rattle.zl_asm.specs.Values.{source_value};
     ghost use Rattle.zl_code.specs.Spells.{is_start_in_range, is_slot_in_range, is_in_range};
@@ -62,8 +64,9 @@ impl<'a> Draft<'a> {
     /// Takes a directive.
     pub(crate) fn declare(&mut self, directive: Directive) -> Result<(), AsmCause>
         requires in_range { IsTrue (is_directive_in_range directive) }
-        ensures held { OnOk result (Holds (held_by self.old) (Declares directive) (held_by self.new)) }
-        ensures refused { IfErr result (λ cause. (cause ≡ NoMemory) ⊎ Refuses (held_by self.old) (Declares directive)) }
+        ensures held { OnOk result
+            (Holds (held_by self.old) (Declares directive) (held_by self.new)) }
+        ensures refused { OnRefusal result (Refuses (held_by self.old) (Declares directive)) }
     {
         if self.has_body {
             return Err(AsmCause::Operand);
@@ -84,7 +87,8 @@ impl<'a> Draft<'a> {
     /// Takes the raw mark.
     fn declare_mark(&mut self) -> Result<(), AsmCause>
         requires first { self.old.has_body ≡ false }
-        ensures held { OnOk result (Holds (held_by self.old) (Declares directives.Raw) (held_by self.new)) }
+        ensures held { OnOk result
+            (Holds (held_by self.old) (Declares directives.Raw) (held_by self.new)) }
         ensures refused { OnErr result (Refuses (held_by self.old) (Declares directives.Raw)) }
     {
         if self.image.is_raw() {
@@ -97,9 +101,11 @@ impl<'a> Draft<'a> {
     /// Takes the size of the data memory.
     fn declare_memory(&mut self, bytes: u32) -> Result<(), AsmCause>
         requires first { self.old.has_body ≡ false }
-        requires most { bytes ≤ 65536 }
-        ensures held { OnOk result (Holds (held_by self.old) (Declares (directives.Memory bytes)) (held_by self.new)) }
-        ensures refused { OnErr result (Refuses (held_by self.old) (Declares (directives.Memory bytes))) }
+        requires most { bytes ≤ most_memory }
+        ensures held { OnOk result
+            (Holds (held_by self.old) (Declares (directives.Memory bytes)) (held_by self.new)) }
+        ensures refused { OnErr result
+            (Refuses (held_by self.old) (Declares (directives.Memory bytes))) }
     {
         if self.has_memory {
             return Err(AsmCause::Operand);
@@ -113,9 +119,11 @@ impl<'a> Draft<'a> {
     fn declare_budget(&mut self, steps: u32) -> Result<(), AsmCause>
         requires first { self.old.has_body ≡ false }
         requires least { 1 ≤ steps }
-        requires most { steps ≤ 1000000 }
-        ensures held { OnOk result (Holds (held_by self.old) (Declares (directives.Budget steps)) (held_by self.new)) }
-        ensures refused { OnErr result (Refuses (held_by self.old) (Declares (directives.Budget steps))) }
+        requires most { steps ≤ most_budget }
+        ensures held { OnOk result
+            (Holds (held_by self.old) (Declares (directives.Budget steps)) (held_by self.new)) }
+        ensures refused { OnErr result
+            (Refuses (held_by self.old) (Declares (directives.Budget steps))) }
     {
         if self.has_budget {
             return Err(AsmCause::Operand);
@@ -129,8 +137,10 @@ impl<'a> Draft<'a> {
     fn declare_start(&mut self, start: Start) -> Result<(), AsmCause>
         requires first { self.old.has_body ≡ false }
         requires in_range { IsTrue (is_start_in_range start) }
-        ensures held { OnOk result (Holds (held_by self.old) (Declares (directives.Start start)) (held_by self.new)) }
-        ensures refused { IfErr result (λ cause. (cause ≡ NoMemory) ⊎ Refuses (held_by self.old) (Declares (directives.Start start))) }
+        ensures held { OnOk result
+            (Holds (held_by self.old) (Declares (directives.Start start)) (held_by self.new)) }
+        ensures refused { OnRefusal result
+            (Refuses (held_by self.old) (Declares (directives.Start start))) }
     {
         if self.image.starts().len() >= Image::MOST_STARTS {
             return Err(AsmCause::Limit);
@@ -143,8 +153,10 @@ impl<'a> Draft<'a> {
     fn declare_slot_array(&mut self, array: SlotArray) -> Result<(), AsmCause>
         requires first { self.old.has_body ≡ false }
         requires in_range { IsTrue (is_slot_in_range array) }
-        ensures held { OnOk result (Holds (held_by self.old) (Declares (directives.Slots array)) (held_by self.new)) }
-        ensures refused { IfErr result (λ cause. (cause ≡ NoMemory) ⊎ Refuses (held_by self.old) (Declares (directives.Slots array))) }
+        ensures held { OnOk result
+            (Holds (held_by self.old) (Declares (directives.Slots array)) (held_by self.new)) }
+        ensures refused { OnRefusal result
+            (Refuses (held_by self.old) (Declares (directives.Slots array))) }
     {
         if self.image.slots().len() >= Image::MOST_SLOT_ARRAYS {
             return Err(AsmCause::Limit);
@@ -156,7 +168,7 @@ impl<'a> Draft<'a> {
     /// Takes a label.
     pub(crate) fn push_label(&mut self, name: &'a [u8]) -> Result<(), AsmCause>
         ensures held { OnOk result (Holds (held_by self.old) (Label name.now) (held_by self.new)) }
-        ensures refused { IfErr result (λ cause. (cause ≡ NoMemory) ⊎ Refuses (held_by self.old) (Label name.now)) }
+        ensures refused { OnRefusal result (Refuses (held_by self.old) (Label name.now)) }
     {
         if self.labels.contains_key(name) {
             return Err(AsmCause::LabelTwice);
@@ -168,8 +180,10 @@ impl<'a> Draft<'a> {
 
     /// Takes an instruction of the line of this number.
     pub(crate) fn push_source(&mut self, line: u64, source: Source<'a>) -> Result<(), AsmCause>
-        ensures held { OnOk result (Holds (held_by self.old) (Code (source_value source.entry)) (held_by self.new)) }
-        ensures refused { IfErr result (λ cause. (cause ≡ NoMemory) ⊎ Refuses (held_by self.old) (Code (source_value source.entry))) }
+        ensures held { OnOk result
+            (Holds (held_by self.old) (Code (source_value source.entry)) (held_by self.new)) }
+        ensures refused { OnRefusal result
+            (Refuses (held_by self.old) (Code (source_value source.entry))) }
     {
         if self.sources.len() >= Image::MOST_INSTRUCTIONS {
             return Err(AsmCause::Limit);
@@ -191,7 +205,7 @@ impl<'a> Draft<'a> {
         operands: &mut Vec<&'a [u8]>,
     ) -> Result<(), AsmCause>
         ensures read { OnOk result (Reads (held_by self.old) line.now (held_by self.new)) }
-        ensures refused { IfErr result (λ cause. (cause ≡ NoMemory) ⊎ Stops (held_by self.old) line.now) }
+        ensures refused { OnRefusal result (Stops (held_by self.old) line.now) }
     {
         if !is_ascii(line) {
             return Err(AsmCause::Token);
@@ -209,7 +223,8 @@ impl<'a> Draft<'a> {
     pub(crate) fn into_image(self) -> Result<Image, AsmFault>
         ensures given { IfOk result (λ image. Gives (held_by self.entry) image) }
         ensures in_range { IfOk result (λ image. IsTrue (is_in_range image)) }
-        ensures refused { IfErr result (λ fault. (fault.cause ≡ NoMemory) ⊎ GivesNone (held_by self.entry)) }
+        ensures refused { IfErr result
+            (λ fault. (fault.cause ≡ NoMemory) ⊎ GivesNone (held_by self.entry)) }
     {
         let Draft {
             mut image,

@@ -1,9 +1,9 @@
-ghost use Rattle.std.specs.Prelude.{◌≡◌, ◌⊎◌, map, Some, None, IfOk, IfErr};
+ghost use Rattle.std.specs.Prelude.{◌≡◌, Some, None, IfOk};
 ghost use Rattle.std.specs.Option.{option_map};
 ghost use Rattle.std.specs.Result.{result_ok};
 ghost use Rattle.zl_asm.specs.Lines.{label_of, unknown_of, instruction_of, point_line, line_of};
-ghost use Rattle.zl_asm.specs.Values.{source_value, line_value};
-ghost use Rattle.zl_asm.specs.declared.fault.AsmCause.TheVariants.{NoMemory};
+ghost use Rattle.zl_asm.specs.Values.{texts, source_value, line_value};
+ghost use Rattle.zl_asm.specs.Causes.{OnRefusal};
 
 use crate::directive::{Directive, directive_of};
 use crate::fault::AsmCause;
@@ -35,8 +35,8 @@ pub(crate) fn line_of<'a>(
     words: &[&'a [u8]],
     operands: &mut Vec<&'a [u8]>,
 ) -> Result<Line<'a>, AsmCause>
-    ensures ok { IfOk result (λ line. line_of (map (λ word. word.now) words.now) ≡ Some (line_value line)) }
-    ensures err { IfErr result (λ cause. (cause ≡ NoMemory) ⊎ (line_of (map (λ word. word.now) words.now) ≡ None)) }
+    ensures ok { IfOk result (λ line. line_of (texts words.now) ≡ Some (line_value line)) }
+    ensures err { OnRefusal result (line_of (texts words.now) ≡ None) }
 {
     match words {
         [] => Ok(Line::Blank),
@@ -48,7 +48,7 @@ pub(crate) fn line_of<'a>(
 
 /// What a line says that begins with a point.
 fn point_line<'a>(name: &[u8], operands: &[&'a [u8]]) -> Result<Line<'a>, AsmCause>
-    ensures { option_map line_value (result_ok result) ≡ point_line name.now (map (λ word. word.now) operands.now) }
+    ensures { option_map line_value (result_ok result) ≡ point_line name.now (texts operands.now) }
 {
     if is(name, b".bytes") {
         Ok(Line::Code(unknown_of(operands)?))
@@ -60,7 +60,7 @@ fn point_line<'a>(name: &[u8], operands: &[&'a [u8]]) -> Result<Line<'a>, AsmCau
 /// The instruction with an unknown opcode of these operands.
 #[tactic(auto, unfolding(crate::specs::Lines::unknown_of))]
 fn unknown_of<'a>(operands: &[&'a [u8]]) -> Result<Source<'a>, AsmCause>
-    ensures { option_map source_value (result_ok result) ≡ unknown_of (map (λ word. word.now) operands.now) }
+    ensures { option_map source_value (result_ok result) ≡ unknown_of (texts operands.now) }
 {
     let [digits] = operands else {
         return Err(AsmCause::Operand);
@@ -90,8 +90,9 @@ fn instruction_of<'a>(
     words: &[&'a [u8]],
     operands: &mut Vec<&'a [u8]>,
 ) -> Result<Source<'a>, AsmCause>
-    ensures ok { IfOk result (λ source. instruction_of name.now (map (λ word. word.now) words.now) ≡ Some (source_value source)) }
-    ensures err { IfErr result (λ cause. (cause ≡ NoMemory) ⊎ (instruction_of name.now (map (λ word. word.now) words.now) ≡ None)) }
+    ensures ok { IfOk result (λ source.
+        instruction_of name.now (texts words.now) ≡ Some (source_value source)) }
+    ensures err { OnRefusal result (instruction_of name.now (texts words.now) ≡ None) }
 {
     let Some(row) = Row::named(name) else {
         return Err(misfit(name, AsmCause::UnknownName));

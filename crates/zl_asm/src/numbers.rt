@@ -3,6 +3,7 @@ ghost use Rattle.std.specs.Prelude.{◌≡◌, ◌+◌, ◌*◌, ◌^◌, ◌<�
 ghost use Rattle.std.specs.Option.{option_map};
 ghost use Rattle.std.specs.List.{list_all};
 ghost use Rattle.zl_asm.specs.Words.{digit_of, number_in, number_of, register_of, is_name_byte, is_name, byte_before, hex_bytes};
+ghost use Rattle.zl_code.specs.Limits.{register_count, instruction_length};
 ghost use Rattle.zl_asm.specs.Lines.{if_fits};
 
 use zl_code::{Instr, Register};
@@ -18,7 +19,8 @@ fn digit(byte: u8) -> Option<u8>
 
 /// The number with one more digit of the base at its end, if it is one and has 32 bits.
 fn longer(base: u32, value: u32, digit: u8) -> Option<u32>
-    ensures { SomeIff result ((digit < base) × (value * base + digit < 2 ^ 32)) (value * base + digit) }
+    ensures { SomeIff result
+        ((digit < base) × (value * base + digit < 2 ^ 32)) (value * base + digit) }
 {
     let digit = u32::from(digit);
     if digit < base {
@@ -64,7 +66,7 @@ pub(crate) fn number(word: &[u8]) -> Option<u32>
 #[tactic(auto, unfolding(crate::specs::Words::register_of))]
 pub(crate) fn register(word: &[u8]) -> Option<u8>
     ensures value { result ≡ register_of word.now }
-    ensures below { IfSome result (λ register. register < 32) }
+    ensures below { IfSome result (λ register. register < register_count) }
 {
     let number = match word {
         [b'r', low @ b'0'..=b'9'] => low - b'0',
@@ -74,6 +76,9 @@ pub(crate) fn register(word: &[u8]) -> Option<u8>
     (usize::from(number) < Register::COUNT).then_some(number)
 }
 
+/// The most bytes of the name of a label.
+const MOST_NAME: usize = 32;
+
 /// Whether the word is the name of a label: a small letter, and behind it small letters, digits or
 /// `_`, 32 bytes at most.
 #[tactic(auto, unfolding(crate::specs::Words::is_name))]
@@ -81,7 +86,8 @@ pub(crate) fn is_name(word: &[u8]) -> bool
     ensures { result ≡ is_name word.now }
 {
     match word {
-        [first, rest @ ..] if first.is_ascii_lowercase() => are_of_name(rest) && rest.len() < 32,
+        [first, rest @ ..] if first.is_ascii_lowercase() => are_of_name(rest)
+            && rest.len() < MOST_NAME,
         _ => false,
     }
 }
@@ -95,7 +101,8 @@ fn are_of_name(bytes: &[u8]) -> bool
 
 /// The 16 bytes that the hexadecimal digits spell, two digits a byte, if they spell so many.
 pub(crate) fn sixteen_bytes(digits: &[u8]) -> Option<[u8; Instr::LEN]>
-    ensures { result ≡ if_fits (λ bytes. length bytes == 16) (hex_bytes digits.now) }
+    ensures { result ≡
+        if_fits (λ bytes. length bytes == instruction_length) (hex_bytes digits.now) }
 {
     if digits.len() != 2 * Instr::LEN {
         return None;
@@ -112,7 +119,8 @@ pub(crate) fn sixteen_bytes(digits: &[u8]) -> Option<[u8; Instr::LEN]>
 
 /// The byte of two hexadecimal digits.
 fn byte_of(high: u8, low: u8) -> Option<u8>
-    ensures { option_map (λ byte. byte ∷ []) result ≡ byte_before (digit_of high) (digit_of low) (Some []) }
+    ensures { option_map (λ byte. byte ∷ []) result
+        ≡ byte_before (digit_of high) (digit_of low) (Some []) }
 {
     Some(digit(high)? * 16 + digit(low)?)
 }

@@ -1,18 +1,19 @@
 //! The operands of an instruction, and its bytes.
-ghost use Rattle.std.specs.Prelude.{◌≡◌, ◌≤◌, ◌++◌, ◌⊎◌, ◌∷◌, length, take, drop, map, Some, None, OnOk, IfErr};
+ghost use Rattle.std.specs.Prelude.{◌≡◌, ◌≤◌, ◌++◌, length, take, drop, Some, None, OnOk};
 ghost use Rattle.std.specs.Option.{option_map};
 ghost use Rattle.std.specs.Result.{result_ok};
 ghost use Rattle.zl_asm.specs.Words.{number_of, register_of};
 ghost use Rattle.zl_asm.specs.Lines.{operands_of, all_of, tail, tail_to, tail_of, registers_of, source_with};
-ghost use Rattle.zl_asm.specs.Values.{tail_value, source_value};
+ghost use Rattle.zl_asm.specs.Values.{texts, tail_value, source_value};
 ghost use Rattle.zl_code.specs.declared.layout.Ending.TheVariants as ending;
-ghost use Rattle.zl_asm.specs.declared.fault.AsmCause.TheVariants.{NoMemory};
+ghost use Rattle.zl_asm.specs.Causes.{OnRefusal};
+ghost use Rattle.zl_code.specs.Limits.{most_registers};
 
 use crate::fault::AsmCause;
 use crate::line::Source;
 use crate::numbers::{is_name, number, register};
 use crate::words::is;
-use zl_code::{Ending, HandleList, Instr, Row};
+use zl_code::{Ending, HandleList, InstrBytes, Row};
 
 /// What stands behind the registers of an instruction: its last eight bytes, with the target 0
 /// where a label names it.
@@ -27,8 +28,8 @@ pub(crate) fn split_operands<'a>(
     operands: &mut Vec<&'a [u8]>,
     words: &[&'a [u8]],
 ) -> Result<(), AsmCause>
-    ensures ok { OnOk result (operands_of (map (λ word. word.now) words.now) ≡ Some (map (λ word. word.now) operands.new.items)) }
-    ensures err { IfErr result (λ cause. (cause ≡ NoMemory) ⊎ (operands_of (map (λ word. word.now) words.now) ≡ None)) }
+    ensures ok { OnOk result (operands_of (texts words.now) ≡ Some (texts operands.new.items)) }
+    ensures err { OnRefusal result (operands_of (texts words.now) ≡ None) }
 {
     operands.clear();
     if words.is_empty() {
@@ -61,7 +62,9 @@ pub(crate) fn number_operand(word: &[u8]) -> Result<u32, AsmCause>
 /// Puts the registers of the words into the first places.
 fn put_registers(places: &mut [u8], words: &[&[u8]]) -> Result<(), AsmCause>
     requires { length words.now ≤ length places.old }
-    ensures { option_map (λ _. places.new) (result_ok result) ≡ option_map (λ registers. registers ++ drop (length registers) places.old) (all_of register_of (map (λ word. word.now) words.now)) }
+    ensures { option_map (λ _. places.new) (result_ok result) ≡ option_map
+        (λ registers. registers ++ drop (length registers) places.old)
+        (all_of register_of (texts words.now)) }
 {
     for (i, word) in words.iter().enumerate() {
         let Some(register) = register(word) else {
@@ -88,14 +91,11 @@ pub(crate) fn misfit(word: &[u8], cause: AsmCause) -> AsmCause {
 
 /// The last eight bytes with a number and a target.
 fn tail_with<'a>(number: u32, target: u32, label: Option<&'a [u8]>) -> Tail<'a>
-    ensures { tail_value result ≡ tail number target (option_map (λ name. name.now) label.entry) }
+    ensures { tail_value result
+        ≡ tail number target (option_map (λ name. name.now) label.entry) }
 {
-    let [i0, i1, i2, i3] = number.to_le_bytes();
-    let [t0, t1, t2, t3] = target.to_le_bytes();
-    Tail {
-        bytes: [i0, i1, i2, i3, t0, t1, t2, t3],
-        label,
-    }
+    let bytes = InstrBytes::numbers(number, target);
+    Tail { bytes, label }
 }
 
 /// The last eight bytes with a number and a target, which is a number or the name of a label.
@@ -111,7 +111,7 @@ fn tail_to<'a>(number: u32, target: &'a [u8]) -> Result<Tail<'a>, AsmCause>
 
 /// The last eight bytes with the registers of at most eight handles.
 fn handles<'a>(words: &[&'a [u8]]) -> Result<Tail<'a>, AsmCause>
-    ensures { option_map tail_value (result_ok result) ≡ tail_of ending.Handles (map (λ word. word.now) words.now) }
+    ensures { option_map tail_value (result_ok result) ≡ tail_of ending.Handles (texts words.now) }
 {
     if words.len() > HandleList::MOST {
         return Err(AsmCause::Operand);
@@ -124,7 +124,7 @@ fn handles<'a>(words: &[&'a [u8]]) -> Result<Tail<'a>, AsmCause>
 /// The last eight bytes by the operands behind the registers.
 #[tactic(auto, unfolding(crate::specs::Lines::tail_of))]
 fn tail_of<'a>(ending: Ending, operands: &[&'a [u8]]) -> Result<Tail<'a>, AsmCause>
-    ensures { option_map tail_value (result_ok result) ≡ tail_of ending (map (λ word. word.now) operands.now) }
+    ensures { option_map tail_value (result_ok result) ≡ tail_of ending (texts operands.now) }
 {
     match (ending, operands) {
         (Ending::Nothing, []) => Ok(tail_with(0, 0, None)),
@@ -136,33 +136,29 @@ fn tail_of<'a>(ending: Ending, operands: &[&'a [u8]]) -> Result<Tail<'a>, AsmCau
     }
 }
 
-/// The 16 bytes of an instruction.
-fn instruction_bytes(
-    opcode: u8,
-    registers: [u8; 7],
-    last: [u8; HandleList::MOST],
-) -> [u8; Instr::LEN]
-    ensures { result ≡ opcode ∷ (registers ++ last) }
-{
-    let [a, b, c, d, e, f, g] = registers;
-    let [l0, l1, l2, l3, l4, l5, l6, l7] = last;
-    [opcode, a, b, c, d, e, f, g, l0, l1, l2, l3, l4, l5, l6, l7]
-}
-
 /// The instruction of the row with these operands, its registers first.
 pub(crate) fn source_of<'a>(row: &Row, operands: &[&'a [u8]]) -> Result<Source<'a>, AsmCause>
-    requires { row.now.registers ≤ 7 }
-    ensures { option_map source_value (result_ok result) ≡ source_with row.now.opcode (registers_of row.now.registers (take row.now.registers (map (λ word. word.now) operands.now))) (tail_of row.now.ending (drop row.now.registers (map (λ word. word.now) operands.now))) }
+    requires { row.now.registers ≤ most_registers }
+    ensures { option_map source_value (result_ok result) ≡ source_with row.now.opcode
+        (registers_of row.now.registers (take row.now.registers (texts operands.now)))
+        (tail_of row.now.ending (drop row.now.registers (texts operands.now))) }
 {
     if operands.len() < row.registers {
         return Err(AsmCause::Operand);
     }
     let (registers, rest) = operands.split_at(row.registers);
-    let mut places = [0; 7];
+    let mut places = [0; InstrBytes::REGISTERS];
     put_registers(&mut places, registers)?;
     let tail = tail_of(row.ending, rest)?;
+    let last = tail.bytes;
+    let parts = InstrBytes {
+        opcode: row.opcode,
+        registers: places,
+        last,
+    };
+    let bytes = parts.join();
     Ok(Source {
-        bytes: instruction_bytes(row.opcode, places, tail.bytes),
+        bytes,
         label: tail.label,
     })
 }

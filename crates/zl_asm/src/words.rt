@@ -1,5 +1,6 @@
 //! Lines cut into words.
-ghost use Rattle.std.specs.Prelude.{◌≡◌, ◌++◌, [], OnOk, map};
+ghost use Rattle.std.specs.Prelude.{◌≡◌, ◌++◌, [], OnOk};
+ghost use Rattle.zl_asm.specs.Values.{texts};
 ghost use Rattle.zl_asm.specs.Words.{is_ascii, is_word, word_before, words_of};
 
 use std::alloc::AllocError;
@@ -22,7 +23,7 @@ pub(crate) fn is(word: &[u8], bytes: &[u8]) -> bool
 /// Puts the words of the line into `words`, in place of what it held. Spaces part words, a comma
 /// is a word of its own, and a semicolon ends the line.
 pub(crate) fn split_words<'a>(words: &mut Vec<&'a [u8]>, line: &'a [u8]) -> Result<(), AllocError>
-    ensures { OnOk result (map (λ word. word.now) words.new.items ≡ words_of line.now) }
+    ensures { OnOk result (texts words.new.items ≡ words_of line.now) }
 {
     words.clear();
     let mut start = 0;
@@ -46,7 +47,8 @@ pub(crate) fn split_words<'a>(words: &mut Vec<&'a [u8]>, line: &'a [u8]) -> Resu
 
 /// Adds the word, if it has a byte.
 fn push_word<'a>(words: &mut Vec<&'a [u8]>, word: &'a [u8]) -> Result<(), AllocError>
-    ensures { OnOk result (map (λ word. word.now) words.new.items ≡ map (λ word. word.now) words.old.items ++ word_before word.now []) }
+    ensures { OnOk result
+        (texts words.new.items ≡ texts words.old.items ++ word_before word.now []) }
 {
     if !word.is_empty() {
         words.push(word)?;

@@ -1,6 +1,8 @@
--- Lists of seven and of eight numbers by their cells.
-use Rattle.std.proofs.Common.{◌≡◌, ℕ, ◌/◌, ◌%◌, List, [], ◌∷◌, ◌++◌, length, get_or, refl, ap, ◌∙◌, arith, append-nil}
-use Rattle.zl_code.specs.Spells.{bytes_of}
+-- Lists of seven and of eight numbers by their cells, and registers in seven places.
+use Rattle.std.proofs.Common.{◌≡◌, ℕ, suc, ◌+◌, ◌<◌, ◌≤◌, List, [], ◌∷◌, ◌++◌, length, get_or, set, take, drop, replicate, refl, sym, ap, ◌∙◌, arith, append-nil, take-append-drop}
+use Rattle.std.proofs.Math.Seq.{take-suc-set}
+use Rattle.std.proofs.lemmas.List.{take_all, take_more}
+use Rattle.zl_code.specs.Spells.{seven}
 
 pub cells_7 : (xs rest : List ℕ) → length xs ≡ 7 → get_or xs 0 0 ∷ get_or xs 1 0 ∷ get_or xs 2 0 ∷ get_or xs 3 0 ∷ get_or xs 4 0 ∷ get_or xs 5 0 ∷ get_or xs 6 0 ∷ rest ≡ xs ++ rest
 cells_7 (a ∷ b ∷ c ∷ d ∷ e ∷ f ∷ g ∷ []) rest len = refl
@@ -17,19 +19,28 @@ pub cells_8 : (xs : List ℕ) → length xs ≡ 8 → get_or xs 0 0 ∷ get_or x
 cells_8 [] len = absurd (omega (arith, len))
 cells_8 (a ∷ xs) len = (let short : length xs ≡ 7 = omega (arith, len) in ap (λ (r : List ℕ). a ∷ r) (cells_7 xs [] short ∙ append-nil xs))
 
--- the sixteen cells that are written are those of the fields
-pub fields_by_cells : (opcode imm target : ℕ) (registers i t : List ℕ) → length registers ≡ 7 → i ≡ bytes_of 4 imm → t ≡ bytes_of 4 target
-    → opcode ∷ get_or registers 0 0 ∷ get_or registers 1 0 ∷ get_or registers 2 0 ∷ get_or registers 3 0 ∷ get_or registers 4 0 ∷ get_or registers 5 0 ∷ get_or registers 6 0
-    ∷ get_or i 0 0 ∷ get_or i 1 0 ∷ get_or i 2 0 ∷ get_or i 3 0 ∷ get_or t 0 0 ∷ get_or t 1 0 ∷ get_or t 2 0 ∷ get_or t 3 0 ∷ []
-    ≡ opcode ∷ (registers ++ (bytes_of 4 imm ++ bytes_of 4 target))
-fields_by_cells opcode imm target registers i t len p q =
-    (λ k. opcode ∷ get_or registers 0 0 ∷ get_or registers 1 0 ∷ get_or registers 2 0 ∷ get_or registers 3 0 ∷ get_or registers 4 0 ∷ get_or registers 5 0 ∷ get_or registers 6 0
-    ∷ get_or (p k) 0 0 ∷ get_or (p k) 1 0 ∷ get_or (p k) 2 0 ∷ get_or (p k) 3 0 ∷ get_or (q k) 0 0 ∷ get_or (q k) 1 0 ∷ get_or (q k) 2 0 ∷ get_or (q k) 3 0 ∷ [])
-    ∙ ap (λ (r : List ℕ). opcode ∷ r) (cells_7 registers (bytes_of 4 imm ++ bytes_of 4 target) len)
+-- ---- the seven registers
 
--- the bytes of a number of 32 bits, each by one division
-pub word_bytes : (n : ℕ) → n % 256 ∷ (n / 256) % 256 ∷ (n / 65536) % 256 ∷ (n / 16777216) % 256 ∷ [] ≡ bytes_of 4 n
-word_bytes n =
-    let third : n / 65536 ≡ n / 256 / 256 = omega arith in
-    let fourth : n / 16777216 ≡ n / 256 / 256 / 256 = omega arith in
-    λ i. n % 256 ∷ (n / 256) % 256 ∷ third i % 256 ∷ fourth i % 256 ∷ []
+-- registers, with what is left of seven zeros behind them
+pub seven_places : (registers : List ℕ) → length registers ≤ 7 → registers ++ drop (length registers) (replicate 7 0) ≡ seven registers
+seven_places [] few = refl
+seven_places (a ∷ []) few = refl
+seven_places (a ∷ b ∷ []) few = refl
+seven_places (a ∷ b ∷ c ∷ []) few = refl
+seven_places (a ∷ b ∷ c ∷ d ∷ []) few = refl
+seven_places (a ∷ b ∷ c ∷ d ∷ e ∷ []) few = refl
+seven_places (a ∷ b ∷ c ∷ d ∷ e ∷ f ∷ []) few = refl
+seven_places (a ∷ b ∷ c ∷ d ∷ e ∷ f ∷ g ∷ []) few = refl
+seven_places (a ∷ b ∷ c ∷ d ∷ e ∷ f ∷ g ∷ h ∷ registers) few = absurd (omega arith)
+
+module _ (used places : List ℕ) (i : ℕ) (front : take i places ≡ take i used) where
+  -- one register more is in its place
+  pub one_placed : (r d : ℕ) → i < length used → i < length places → r ≡ get_or used i d → take (i + 1) (set places i r) ≡ take (i + 1) used
+  one_placed r d within inside same =
+      let next : i + 1 ≡ suc i = omega arith in
+      ap (λ (n : ℕ). take n (set places i r)) next ∙ take-suc-set places i r inside ∙ (λ k. front k ++ same k ∷ []) ∙ sym (take_more used i d within)
+
+  -- all of them are
+  pub all_placed : length used ≤ 7 → i ≡ length used → drop i places ≡ drop i (replicate 7 0) → places ≡ seven used
+  all_placed few all behind =
+      sym (take-append-drop i places) ∙ (λ k. front k ++ behind k) ∙ (λ k. take_all i used (omega arith) k ++ drop (all k) (replicate 7 0)) ∙ seven_places used few

@@ -21,6 +21,7 @@ use Rattle.zl_code.specs.declared.instr.LocalInstr.{LocalInstr}
 use Rattle.zl_code.specs.declared.instr.LocalInstr.TheVariants as local
 use Rattle.zl_code.specs.declared.instr.CallInstr.{CallInstr}
 use Rattle.zl_code.specs.declared.instr.CallInstr.TheVariants as call
+use Rattle.zl_code.specs.Limits.{most_instructions, most_memory, most_budget, most_starts, most_slot_arrays, most_places, register_count, most_registers, most_handles, no_register, header_length, declaration_length, instruction_length}
 use Rattle.zl_code.specs.Image.{Image, is_among}
 use Rattle.zl_code.specs.Instructions.{Layout, layout_of}
 
@@ -113,7 +114,7 @@ call_parts (call.JobSetPolicy a b c d e) = parts 86 (a ∷ b ∷ c ∷ d ∷ e �
 
 -- the seven registers, 0 where none is used
 abbrev pub seven : List ℕ → List ℕ
-seven registers = take 7 (registers ++ replicate 7 0)
+seven registers = take most_registers (registers ++ replicate most_registers 0)
 
 -- opcode, seven registers, imm, target
 abbrev pub fields : ℕ → List ℕ → ℕ → ℕ → List ℕ
@@ -147,7 +148,7 @@ instr_bytes (instr.Unknown bytes) = bytes
 
 -- each names one of the 32 registers
 abbrev pub are_registers : List ℕ → Bool
-are_registers rs = list_all (λ r. nat_lt r 32) rs
+are_registers rs = list_all (λ r. nat_lt r register_count) rs
 
 -- the number has 32 bits at most
 abbrev pub is_32_bits : ℕ → Bool
@@ -155,27 +156,27 @@ is_32_bits n = nat_lt n 4294967296
 
 -- room for n handles in triples of registers, from the register first on
 abbrev pub is_room : ℕ → ℕ → Bool
-is_room first n = nat_le n 8 && nat_le (first + 3 * n) 32
+is_room first n = nat_le n most_handles && nat_le (first + 3 * n) register_count
 
 -- each byte is a register, or ff for none
 abbrev pub are_places : List ℕ → Bool
-are_places places = list_all (λ b. nat_lt b 32 || (b == 0xff)) places
+are_places places = list_all (λ b. nat_lt b register_count || (b == no_register)) places
 
 -- no register stands after an ff
 abbrev pub is_packed : List ℕ → Bool
 is_packed [] = true
-is_packed (b ∷ bs) = if b == 0xff then list_all (λ x. x == 0xff) bs else is_packed bs
+is_packed (b ∷ bs) = if b == no_register then list_all (λ x. x == no_register) bs else is_packed bs
 
 -- the register of a place, if one stands there
 abbrev pub register_in : Option ℕ → Option ℕ
 register_in None = None
-register_in (Some b) = if nat_lt b 32 then Some b else None
+register_in (Some b) = if nat_lt b register_count then Some b else None
 
 -- the last eight bytes have room for what stands there, and each register that they name is one
 abbrev pub is_last_in_range : List ℕ → Last → Bool
 is_last_in_range registers (Numbers imm target) = is_32_bits imm && is_32_bits target
 is_last_in_range registers (Room handles) = is_room (slice_index registers 6) handles
-is_last_in_range registers (Places places) = (length places == 8) && (are_places places && is_packed places)
+is_last_in_range registers (Places places) = (length places == most_handles) && (are_places places && is_packed places)
 
 -- an instruction with these parts can stand in an image
 abbrev pub are_parts_in_range : Parts → Bool
@@ -194,7 +195,7 @@ abbrev pub is_instr_in_range : Bool → Instr → Bool
 is_instr_in_range raw (instr.Local i) = is_local_in_range i
 is_instr_in_range raw (instr.Call i) = is_call_in_range i
 is_instr_in_range raw (instr.Unknown bytes) =
-    raw && ((length bytes == 16) && (list_all (λ b. nat_lt b 256) bytes && not (is_some (layout_of (slice_index bytes 0)))))
+    raw && ((length bytes == instruction_length) && (list_all (λ b. nat_lt b 256) bytes && not (is_some (layout_of (slice_index bytes 0)))))
 
 -- ---- declarations
 
@@ -222,7 +223,7 @@ is_start_in_range s = within (bits s.rights) (rights_allowed s.kind)
 
 -- an image can declare the slot array: 1 to 256 places, and rights that its kind allows
 abbrev pub is_slot_in_range : SlotArray → Bool
-is_slot_in_range s = nat_lt 0 s.length && (nat_le s.length 256 && within (bits s.rights) (rights_allowed s.kind))
+is_slot_in_range s = nat_lt 0 s.length && (nat_le s.length most_places && within (bits s.rights) (rights_allowed s.kind))
 
 -- the bit of a need that the image has, else 0
 abbrev pub bit_if : List Condition → Condition → ℕ → ℕ
@@ -273,13 +274,13 @@ spelling i = header i ++ body_bytes i.starts i.slots (flat_map instr_bytes i.cod
 -- each field is in its range
 abbrev pub is_in_range : Image → Bool
 is_in_range i =
-    nat_le (length i.code) 4096
-    && (nat_le i.memory 65536
+    nat_le (length i.code) most_instructions
+    && (nat_le i.memory most_memory
     && (nat_lt 0 i.budget
-    && (nat_le i.budget 1000000
+    && (nat_le i.budget most_budget
     && (are_needs i.needs
-    && (nat_le (length i.starts) 7
-    && (nat_le (length i.slots) 8
+    && (nat_le (length i.starts) most_starts
+    && (nat_le (length i.slots) most_slot_arrays
     && (list_all is_start_in_range i.starts
     && (list_all is_slot_in_range i.slots
     && list_all (is_instr_in_range i.raw) i.code))))))))
@@ -319,23 +320,24 @@ is_needs_byte b = nat_lt b 32 && (b / 4 % 2 == 0)
 abbrev pub is_header_in_range : List ℕ → Bool
 is_header_in_range bytes =
     nat_le (slice_index bytes 5) 1
-    && (nat_le (count_at bytes) 4096
-    && (nat_le (number_at bytes 8 4) 65536
+    && (nat_le (count_at bytes) most_instructions
+    && (nat_le (number_at bytes 8 4) most_memory
     && (nat_lt 0 (number_at bytes 12 4)
-    && (nat_le (number_at bytes 12 4) 1000000
+    && (nat_le (number_at bytes 12 4) most_budget
     && (is_needs_byte (slice_index bytes 16)
-    && (nat_le (starts_at bytes) 7
-    && (nat_le (slots_at bytes) 8
+    && (nat_le (starts_at bytes) most_starts
+    && (nat_le (slots_at bytes) most_slot_arrays
     && (slice_index bytes 19 == 0))))))))
 
 -- how many bytes the header says that there are
 abbrev pub length_at : List ℕ → ℕ
-length_at bytes = 20 + 8 * starts_at bytes + 8 * slots_at bytes + 16 * count_at bytes
+length_at bytes =
+    header_length + declaration_length * starts_at bytes + declaration_length * slots_at bytes + instruction_length * count_at bytes
 
 -- the first fault of the header, or a length that isn't what the header says
 unfoldable pub header_fault : List ℕ → Option DecodeFault
 header_fault bytes = first_some (
-    then_some (nat_lt (length bytes) 20) fault.Short
+    then_some (nat_lt (length bytes) header_length) fault.Short
     ∷ then_some (not (starts_with ◌==◌ bytes magic)) fault.Magic
     ∷ then_some (not (slice_index bytes 4 == 1)) fault.Version
     ∷ then_some (not (is_header_in_range bytes)) fault.BadHeader
@@ -368,7 +370,7 @@ start_fault bytes = then_some (not (list_all (λ b. b == 0) (take 3 (drop 1 byte
 
 -- a byte 0, and behind it the length of a slot array
 abbrev pub has_length : List ℕ → Bool
-has_length bytes = (slice_index bytes 1 == 0) && (nat_lt 0 (number_at bytes 2 2) && nat_le (number_at bytes 2 2) 256)
+has_length bytes = (slice_index bytes 1 == 0) && (nat_lt 0 (number_at bytes 2 2) && nat_le (number_at bytes 2 2) most_places)
 
 -- the fault of the 8 bytes of a slot array
 unfoldable pub slot_fault : List ℕ → Option DecodeFault
@@ -378,7 +380,7 @@ slot_fault bytes = then_some (not (has_length bytes && has_rights bytes)) fault.
 
 -- the seven registers in the 16 bytes of an instruction
 abbrev pub registers_at : List ℕ → List ℕ
-registers_at bytes = take 7 (drop 1 bytes)
+registers_at bytes = take most_registers (drop 1 bytes)
 
 -- what is read of the 16 bytes of an instruction behind its opcode
 pub record Reading : Type 0 where
@@ -444,15 +446,18 @@ pieces size (suc n) bytes = take size bytes ∷ pieces size n (drop size bytes)
 
 -- the bytes of each start handle
 abbrev pub start_pieces : List ℕ → List (List ℕ)
-start_pieces bytes = pieces 8 (starts_at bytes) (drop 20 bytes)
+start_pieces bytes = pieces declaration_length (starts_at bytes) (drop header_length bytes)
 
 -- the bytes of each slot array
 abbrev pub slot_pieces : List ℕ → List (List ℕ)
-slot_pieces bytes = pieces 8 (slots_at bytes) (drop (20 + 8 * starts_at bytes) bytes)
+slot_pieces bytes =
+    pieces declaration_length (slots_at bytes) (drop (header_length + declaration_length * starts_at bytes) bytes)
 
 -- the bytes of each instruction
 abbrev pub code_pieces : List ℕ → List (List ℕ)
-code_pieces bytes = pieces 16 (count_at bytes) (drop (20 + 8 * starts_at bytes + 8 * slots_at bytes) bytes)
+code_pieces bytes =
+    pieces instruction_length (count_at bytes)
+    (drop (header_length + declaration_length * starts_at bytes + declaration_length * slots_at bytes) bytes)
 
 -- the fault that is met first, where bytes spell no image
 unfoldable pub first_fault : List ℕ → Option DecodeFault

@@ -1,6 +1,7 @@
 //! An image under construction: an empty one, and then one thing after the other.
 
 ghost use Rattle.std.specs.Prelude.{◌≡◌, ◌≤◌, ◌<◌, ◌++◌, ◌∷◌, [], true, false, length, OnOk, OnErr, IsTrue};
+ghost use Rattle.zl_code.specs.Limits.{most_instructions, most_memory, most_budget, most_starts, most_slot_arrays};
 ghost use Rattle.zl_code.specs.Image.{needs_named};
 ghost use Rattle.zl_code.specs.Spells.{is_start_in_range, is_slot_in_range, is_instr_in_range};
 
@@ -13,7 +14,15 @@ impl Image {
     /// An image of no instruction that declares nothing: no raw mark, no data memory, and the
     /// budget 1.
     pub fn new(alloc: Global) -> Image
-        ensures { result ≡ record { raw = false; memory = 0; budget = 1; needs = []; starts = []; slots = []; code = [] } }
+        ensures { result ≡ record {
+          raw = false;
+          memory = 0;
+          budget = 1;
+          needs = [];
+          starts = [];
+          slots = [];
+          code = [];
+        } }
     {
         Image {
             raw: false,
@@ -40,7 +49,7 @@ impl Image {
 
     /// Sets how many bytes of data memory the program has, at most 65,536.
     pub fn set_memory(&mut self, memory: u32)
-        requires { memory ≤ 65536 }
+        requires { memory ≤ most_memory }
         ensures { self.new ≡ record self.old { memory = memory } }
     {
         self.memory = memory;
@@ -49,7 +58,7 @@ impl Image {
     /// Sets the budget, 1 to 1,000,000.
     pub fn set_budget(&mut self, budget: u32)
         requires least { 1 ≤ budget }
-        requires most { budget ≤ 1000000 }
+        requires most { budget ≤ most_budget }
         ensures { self.new ≡ record self.old { budget = budget } }
     {
         self.budget = budget;
@@ -73,8 +82,9 @@ impl Image {
     /// memory was refused; the image is then as it was.
     pub fn push_start(&mut self, start: Start) -> Result<(), AllocError>
         requires in_range { IsTrue (is_start_in_range start) }
-        requires room { length self.old.starts < 7 }
-        ensures ok { OnOk result (self.new ≡ record self.old { starts = self.old.starts ++ (start ∷ []) }) }
+        requires room { length self.old.starts < most_starts }
+        ensures ok { OnOk result
+            (self.new ≡ record self.old { starts = self.old.starts ++ (start ∷ []) }) }
         ensures err { OnErr result (self.new ≡ self.old) }
     {
         self.starts.push(start)?;
@@ -85,8 +95,9 @@ impl Image {
     /// memory was refused; the image is then as it was.
     pub fn push_slot_array(&mut self, array: SlotArray) -> Result<(), AllocError>
         requires in_range { IsTrue (is_slot_in_range array) }
-        requires room { length self.old.slots < 8 }
-        ensures ok { OnOk result (self.new ≡ record self.old { slots = self.old.slots ++ (array ∷ []) }) }
+        requires room { length self.old.slots < most_slot_arrays }
+        ensures ok { OnOk result
+            (self.new ≡ record self.old { slots = self.old.slots ++ (array ∷ []) }) }
         ensures err { OnErr result (self.new ≡ self.old) }
     {
         self.slots.push(array)?;
@@ -97,8 +108,9 @@ impl Image {
     /// that memory was refused; the image is then as it was.
     pub fn push_instr(&mut self, instr: Instr) -> Result<(), AllocError>
         requires in_range { IsTrue (is_instr_in_range self.old.raw instr) }
-        requires room { length self.old.code < 4096 }
-        ensures ok { OnOk result (self.new ≡ record self.old { code = self.old.code ++ (instr ∷ []) }) }
+        requires room { length self.old.code < most_instructions }
+        ensures ok { OnOk result
+            (self.new ≡ record self.old { code = self.old.code ++ (instr ∷ []) }) }
         ensures err { OnErr result (self.new ≡ self.old) }
     {
         // Not `push`, whose error would hand the instruction back.

@@ -1,8 +1,10 @@
 //! The declarations of an image: start handles and slot arrays.
 
-ghost use Rattle.std.specs.Prelude.{map, ◌≡◌, ◌⊎◌, ◌==◌, IsTrue, IfOk, IfErr, IfSome, IfNone, OnOk, OnSome, MatchResult, true, false, ◌&&◌, nat_lt, nat_le, Some, None, slice_index};
+ghost use Rattle.std.specs.Prelude.{map, ◌≡◌, ◌⊎◌, ◌==◌, IsTrue, IfOk, IfErr, IfSome, IfNone, OnOk, OnSome, true, false, ◌&&◌, nat_lt, nat_le, Some, None, slice_index};
 ghost use Rattle.std.specs.List.{list_all};
+ghost use Rattle.std.specs.Result.{result_err};
 ghost use Rattle.zl_code.specs.First.{first_some};
+ghost use Rattle.zl_code.specs.Limits.{most_places};
 ghost use Rattle.zl_rights.specs.Numbers.{bits, within};
 ghost use Rattle.zl_code.specs.declared.image.DecodeFault.TheVariants as faults;
 ghost use Rattle.zl_code.specs.Spells.{number_at, kind_byte, kind_at, rights_allowed, has_rights, has_length, start_bytes, slot_bytes, is_start_in_range, is_slot_in_range, start_fault, slot_fault};
@@ -50,7 +52,8 @@ fn is_allowed(kind: Option<Kind>, rights: Rights) -> bool
 fn rights_of(kind: Option<Kind>, number: u32) -> Result<Rights, DecodeFault>
     ensures value { IfOk result (λ rights. bits rights ≡ number) }
     ensures ok { OnOk result (within number (rights_allowed kind) ≡ true) }
-    ensures err { IfErr result (λ fault. (fault ≡ faults.BadHeader) × (within number (rights_allowed kind) ≡ false)) }
+    ensures err { IfErr result (λ fault.
+        (fault ≡ faults.BadHeader) × (within number (rights_allowed kind) ≡ false)) }
 {
     let rights = Rights::from_bits_retain(number);
     if is_allowed(kind, rights) {
@@ -72,9 +75,11 @@ struct Declared {
 fn declared_of(bytes: [u8; DECLARATION_LEN]) -> Result<Declared, DecodeFault>
     ensures kind { IfOk result (λ declared. kind_byte declared.kind ≡ slice_index bytes 0) }
     ensures rights { IfOk result (λ declared. bits declared.rights ≡ number_at bytes 4 4) }
-    ensures allowed { IfOk result (λ declared. within (bits declared.rights) (rights_allowed declared.kind) ≡ true) }
+    ensures allowed { IfOk result (λ declared.
+        within (bits declared.rights) (rights_allowed declared.kind) ≡ true) }
     ensures ok { OnOk result (has_rights bytes ≡ true) }
-    ensures err { IfErr result (λ fault. (fault ≡ faults.BadHeader) × (has_rights bytes ≡ false)) }
+    ensures err { IfErr result (λ fault.
+        (fault ≡ faults.BadHeader) × (has_rights bytes ≡ false)) }
 {
     let [kind, _, _, _, r0, r1, r2, r3] = bytes;
     let kind = kind_of(kind)?;
@@ -86,7 +91,7 @@ fn declared_of(bytes: [u8; DECLARATION_LEN]) -> Result<Declared, DecodeFault>
 fn start_of(bytes: [u8; DECLARATION_LEN]) -> Result<Start, DecodeFault>
     ensures bytes { IfOk result (λ start. start_bytes start ≡ bytes) }
     ensures in_range { IfOk result (λ start. IsTrue (is_start_in_range start)) }
-    ensures fault { MatchResult result (λ _. start_fault bytes ≡ None) (λ fault. start_fault bytes ≡ Some fault) }
+    ensures fault { start_fault bytes ≡ result_err result }
 {
     if !is_all_zero(&bytes[1..4]) {
         return Err(DecodeFault::BadHeader);
@@ -112,7 +117,7 @@ impl Start {
 }
 
 fn is_slot_array_length(length: u16) -> bool
-    ensures { result ≡ (nat_lt 0 length && nat_le length 256) }
+    ensures { result ≡ (nat_lt 0 length && nat_le length most_places) }
 {
     length > 0 && length <= SlotArray::MOST_PLACES
 }
@@ -145,7 +150,7 @@ fn length_of(bytes: [u8; DECLARATION_LEN]) -> Option<u16>
 fn slot_array_of(bytes: [u8; DECLARATION_LEN]) -> Result<SlotArray, DecodeFault>
     ensures bytes { IfOk result (λ array. slot_bytes array ≡ bytes) }
     ensures in_range { IfOk result (λ array. IsTrue (is_slot_in_range array)) }
-    ensures fault { MatchResult result (λ _. slot_fault bytes ≡ None) (λ fault. slot_fault bytes ≡ Some fault) }
+    ensures fault { slot_fault bytes ≡ result_err result }
 {
     let Some(length) = length_of(bytes) else {
         return Err(DecodeFault::BadHeader);
@@ -166,7 +171,8 @@ pub(crate) fn starts_of(
     ensures bytes { IfOk result (λ starts. map start_bytes starts.items ≡ pieces.now) }
     ensures in_range { IfOk result (λ starts. IsTrue (list_all is_start_in_range starts.items)) }
     ensures none { OnOk result (first_some (map start_fault pieces.now) ≡ None) }
-    ensures fault { IfErr result (λ fault. (fault ≡ faults.NoMemory) ⊎ (first_some (map start_fault pieces.now) ≡ Some fault)) }
+    ensures fault { IfErr result (λ fault.
+        (fault ≡ faults.NoMemory) ⊎ (first_some (map start_fault pieces.now) ≡ Some fault)) }
 {
     let mut starts = Vec::with_capacity(alloc, pieces.len())?;
     for piece in pieces {
@@ -184,7 +190,8 @@ pub(crate) fn slots_of(
     ensures bytes { IfOk result (λ slots. map slot_bytes slots.items ≡ pieces.now) }
     ensures in_range { IfOk result (λ slots. IsTrue (list_all is_slot_in_range slots.items)) }
     ensures none { OnOk result (first_some (map slot_fault pieces.now) ≡ None) }
-    ensures fault { IfErr result (λ fault. (fault ≡ faults.NoMemory) ⊎ (first_some (map slot_fault pieces.now) ≡ Some fault)) }
+    ensures fault { IfErr result (λ fault.
+        (fault ≡ faults.NoMemory) ⊎ (first_some (map slot_fault pieces.now) ≡ Some fault)) }
 {
     let mut slots = Vec::with_capacity(alloc, pieces.len())?;
     for piece in pieces {

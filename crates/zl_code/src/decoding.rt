@@ -1,6 +1,8 @@
-ghost use Rattle.std.specs.Prelude.{drop, length, ◌+◌, ◌*◌, ◌≡◌, ◌<◌, ◌≤◌, ◌⊎◌, IsTrue, IfOk, OnOk, MatchResult, Some, None, slice_index};
+ghost use Rattle.std.specs.Prelude.{drop, length, ◌+◌, ◌*◌, ◌≡◌, ◌≤◌, ◌⊎◌, IsTrue, IfOk, OnOk, MatchResult, Some, None, slice_index};
+ghost use Rattle.std.specs.Result.{result_err};
 ghost use Rattle.zl_code.specs.declared.image.DecodeFault.TheVariants as faults;
 ghost use Rattle.zl_code.specs.Spells.{needs_byte, is_needs_byte, number_at, header_fault, is_header_in_range, first_fault, is_raw_at, count_at, starts_at, slots_at, length_at, pieces, Spells};
+ghost use Rattle.zl_code.specs.Limits.{header_length, declaration_length, instruction_length};
 ghost use Rattle.zl_code.specs.Image.{Image as ImageValue, needs_value};
 
 use crate::declarations::{slots_of, starts_of};
@@ -68,7 +70,7 @@ fn needs_of(byte: u8) -> Needs
 
 /// Whether the fields of the header from offset 5 on are in their ranges.
 fn is_header_in_range(bytes: &[u8]) -> bool
-    requires { HEADER_LEN ≤ length bytes.now }
+    requires { header_length ≤ length bytes.now }
     ensures { result ≡ is_header_in_range bytes.now }
 {
     let budget = word_at(bytes, 12);
@@ -90,11 +92,12 @@ fn header_of(bytes: &[u8]) -> Result<Header, DecodeFault>
     ensures count { IfOk result (λ header. header.count ≡ count_at bytes.now) }
     ensures memory { IfOk result (λ header. header.memory ≡ number_at bytes.now 8 4) }
     ensures budget { IfOk result (λ header. header.budget ≡ number_at bytes.now 12 4) }
-    ensures needs { IfOk result (λ header. needs_byte (needs_value header.needs) ≡ slice_index bytes.now 16) }
+    ensures needs { IfOk result (λ header.
+        needs_byte (needs_value header.needs) ≡ slice_index bytes.now 16) }
     ensures starts { IfOk result (λ header. header.starts ≡ starts_at bytes.now) }
     ensures slots { IfOk result (λ header. header.slots ≡ slots_at bytes.now) }
     ensures len { OnOk result (length bytes.now ≡ length_at bytes.now) }
-    ensures fault { MatchResult result (λ _. header_fault bytes.now ≡ None) (λ fault. header_fault bytes.now ≡ Some fault) }
+    ensures fault { header_fault bytes.now ≡ result_err result }
 {
     if bytes.len() < HEADER_LEN {
         return Err(DecodeFault::Short);
@@ -126,8 +129,8 @@ fn header_of(bytes: &[u8]) -> Result<Header, DecodeFault>
 
 /// So many declarations, from the offset on.
 fn declarations_at(bytes: &[u8], offset: usize, count: usize) -> &[[u8; DECLARATION_LEN]]
-    requires { offset + DECLARATION_LEN * count ≤ length bytes.now }
-    ensures { result.now ≡ pieces DECLARATION_LEN count (drop offset bytes.now) }
+    requires { offset + declaration_length * count ≤ length bytes.now }
+    ensures { result.now ≡ pieces declaration_length count (drop offset bytes.now) }
 {
     let (pieces, _) = bytes[offset..].as_chunks::<DECLARATION_LEN>();
     &pieces[..count]
@@ -135,8 +138,8 @@ fn declarations_at(bytes: &[u8], offset: usize, count: usize) -> &[[u8; DECLARAT
 
 /// So many instructions, from the offset on.
 fn instrs_at(bytes: &[u8], offset: usize, count: usize) -> &[[u8; Instr::LEN]]
-    requires { offset + 16 * count ≤ length bytes.now }
-    ensures { result.now ≡ pieces 16 count (drop offset bytes.now) }
+    requires { offset + instruction_length * count ≤ length bytes.now }
+    ensures { result.now ≡ pieces instruction_length count (drop offset bytes.now) }
 {
     let (pieces, _) = bytes[offset..].as_chunks::<{ Instr::LEN }>();
     &pieces[..count]
@@ -145,7 +148,9 @@ fn instrs_at(bytes: &[u8], offset: usize, count: usize) -> &[[u8; Instr::LEN]]
 /// The image that the bytes spell, or the first fault.
 fn image_of(alloc: Global, bytes: &[u8]) -> Result<Image, DecodeFault>
     ensures found { IfOk result (λ image. Spells bytes.now image) }
-    ensures first { MatchResult result (λ _. first_fault bytes.now ≡ None) (λ fault. (fault ≡ faults.NoMemory) ⊎ (first_fault bytes.now ≡ Some fault)) }
+    ensures first { MatchResult result
+        (λ _. first_fault bytes.now ≡ None)
+        (λ fault. (fault ≡ faults.NoMemory) ⊎ (first_fault bytes.now ≡ Some fault)) }
 {
     let header = header_of(bytes)?;
     let slots_offset = HEADER_LEN + DECLARATION_LEN * header.starts;
@@ -178,9 +183,12 @@ pub fn decode(alloc: Global, bytes: &[u8]) -> Result<Image, DecodeFault>
     // What is read is spelled so.
     ensures found { IfOk result (λ image. Spells bytes.now image) }
     // What is spelled so is read, unless memory is refused.
-    ensures only { (i : ImageValue) → Spells bytes.now i → MatchResult result (λ image. image ≡ i) (λ fault. fault ≡ faults.NoMemory) }
+    ensures only { (i : ImageValue) → Spells bytes.now i
+        → MatchResult result (λ image. image ≡ i) (λ fault. fault ≡ faults.NoMemory) }
     // Which fault it is.
-    ensures first { MatchResult result (λ _. first_fault bytes.now ≡ None) (λ fault. (fault ≡ faults.NoMemory) ⊎ (first_fault bytes.now ≡ Some fault)) }
+    ensures first { MatchResult result
+        (λ _. first_fault bytes.now ≡ None)
+        (λ fault. (fault ≡ faults.NoMemory) ⊎ (first_fault bytes.now ≡ Some fault)) }
 {
     image_of(alloc, bytes)
 }

@@ -32,7 +32,8 @@ fn put_instr(out: &mut Vec<u8>, instr: Instr) -> Result<(), AllocError>
 
 /// Adds the numbers of the header.
 fn put_numbers(out: &mut Vec<u8>, count: u16, memory: u32, budget: u32) -> Result<(), AllocError>
-    ensures { OnOk result (out.new.items ≡ out.old.items ++ (bytes_of 2 count ++ (bytes_of 4 memory ++ bytes_of 4 budget))) }
+    ensures { OnOk result (out.new.items ≡
+        out.old.items ++ (bytes_of 2 count ++ (bytes_of 4 memory ++ bytes_of 4 budget))) }
 {
     out.extend_from_slice(&count.to_le_bytes())?;
     out.extend_from_slice(&memory.to_le_bytes())?;
@@ -58,7 +59,8 @@ fn needs_byte(needs: Needs) -> u8
 
 /// The bytes that say what is declared, of which the last is always 0.
 fn put_counts(out: &mut Vec<u8>, needs: Needs, starts: u8, slots: u8) -> Result<(), AllocError>
-    ensures { OnOk result (out.new.items ≡ out.old.items ++ (needs_byte (needs_value needs) ∷ starts ∷ slots ∷ 0 ∷ [])) }
+    ensures { OnOk result (out.new.items ≡
+        out.old.items ++ (needs_byte (needs_value needs) ∷ starts ∷ slots ∷ 0 ∷ [])) }
 {
     out.extend_from_slice(&[needs_byte(needs), starts, slots, 0])
 }
@@ -131,7 +133,8 @@ fn put_declarations(
     starts: &[Start],
     slots: &[SlotArray],
 ) -> Result<(), AllocError>
-    ensures { OnOk result (out.new.items ≡ out.old.items ++ (flat_map start_bytes starts.now ++ flat_map slot_bytes slots.now)) }
+    ensures { OnOk result (out.new.items ≡
+        out.old.items ++ (flat_map start_bytes starts.now ++ flat_map slot_bytes slots.now)) }
 {
     put_starts(out, starts)?;
     put_slots(out, slots)

@@ -3,12 +3,14 @@
 ghost use Rattle.std.specs.Prelude.{◌≡◌, ◌<◌, ◌≤◌, ◌==◌, true, false, IfOk, IfErr, OnOk, drop, slice_index};
 ghost use Rattle.std.specs.List.{list_all};
 ghost use Rattle.zl_code.specs.declared.image.DecodeFault.TheVariants as faults;
+ghost use Rattle.zl_code.specs.Limits.{register_count, most_registers, no_register};
 ghost use Rattle.zl_code.specs.Instructions.{layout as layout_with};
 ghost use Rattle.zl_code.specs.Spells.{are_registers, registers_at, number_at, are_places, is_packed, is_room, names_registers, is_ending_clear, is_unused_zero};
 ghost use Rattle.zl_code.specs.Fields.{read_in};
 
 use crate::image::DecodeFault;
 use crate::instr::{HandleList, Instr};
+use crate::instr_bytes::InstrBytes;
 use crate::layout::{Ending, Row};
 use crate::register::Register;
 
@@ -32,8 +34,9 @@ pub(crate) struct Fields {
 /// The register of this number.
 fn register(number: u8) -> Result<Register, DecodeFault>
     ensures found { IfOk result (λ register. register ≡ number) }
-    ensures below { OnOk result (number < 32) }
-    ensures fault { IfErr result (λ fault. (fault ≡ faults.BadRegister) × (32 ≤ number)) }
+    ensures below { OnOk result (number < register_count) }
+    ensures fault { IfErr result (λ fault.
+        (fault ≡ faults.BadRegister) × (register_count ≤ number)) }
 {
     Register::new(number).ok_or(DecodeFault::BadRegister)
 }
@@ -46,11 +49,13 @@ pub(crate) fn fields_of(bytes: [u8; Instr::LEN]) -> Result<Fields, DecodeFault>
     ensures target { IfOk result (λ fields. fields.target ≡ number_at bytes 12 4) }
     ensures places { IfOk result (λ fields. fields.places ≡ drop 8 bytes) }
     ensures in_range { OnOk result (are_registers (registers_at bytes) ≡ true) }
-    ensures fault { IfErr result (λ fault. (fault ≡ faults.BadRegister) × (are_registers (registers_at bytes) ≡ false)) }
+    ensures fault { IfErr result (λ fault.
+        (fault ≡ faults.BadRegister) × (are_registers (registers_at bytes) ≡ false)) }
 {
-    let [opcode, a, b, c, d, e, f, g, i0, i1, i2, i3, t0, t1, t2, t3] = bytes;
+    let parts = InstrBytes::split(bytes);
+    let [a, b, c, d, e, f, g] = parts.registers;
     Ok(Fields {
-        opcode,
+        opcode: parts.opcode,
         a: register(a)?,
         b: register(b)?,
         c: register(c)?,
@@ -58,9 +63,9 @@ pub(crate) fn fields_of(bytes: [u8; Instr::LEN]) -> Result<Fields, DecodeFault>
         e: register(e)?,
         f: register(f)?,
         g: register(g)?,
-        imm: u32::from_le_bytes([i0, i1, i2, i3]),
-        target: u32::from_le_bytes([t0, t1, t2, t3]),
-        places: [i0, i1, i2, i3, t0, t1, t2, t3],
+        imm: parts.imm(),
+        target: parts.target(),
+        places: parts.last,
     })
 }
 
@@ -98,7 +103,7 @@ fn are_zero(registers: &[Register]) -> bool
 
 /// Whether no place has a register.
 fn are_empty(places: &[u8]) -> bool
-    ensures { result ≡ list_all (λ place. place == 0xff) places.now }
+    ensures { result ≡ list_all (λ place. place == no_register) places.now }
 {
     places.iter().all(|place| *place == HandleList::NONE)
 }
@@ -129,8 +134,9 @@ fn is_ending_clear(ending: Ending, fields: &Fields) -> bool
 
 /// Whether the fields that the row doesn't use are 0.
 pub(crate) fn is_unused_zero(row: Row, fields: &Fields) -> bool
-    requires { row.registers ≤ 7 }
-    ensures { result ≡ is_unused_zero (layout_with row.registers row.ending) (read_in fields.now) }
+    requires { row.registers ≤ most_registers }
+    ensures { result ≡
+        is_unused_zero (layout_with row.registers row.ending) (read_in fields.now) }
 {
     let registers: &[Register] = &[
         fields.a, fields.b, fields.c, fields.d, fields.e, fields.f, fields.g,

@@ -1,4 +1,5 @@
 ghost use Rattle.std.specs.Prelude.{◌≡◌, ◌≤◌, ◌<◌, ◌==◌, length, OnSome, IsTrue};
+ghost use Rattle.zl_code.specs.Limits.{most_instructions, most_memory, most_budget, most_starts, most_slot_arrays};
 ghost use Rattle.zl_code.specs.Image.{instr_at, local_at, call_at, is_among, can_be_needed, needs_value};
 ghost use Rattle.zl_code.specs.Spells.{is_in_range};
 ghost use Rattle.zl_code.specs.declared.image.DecodeFault.TheVariants.{NoMemory};
@@ -86,9 +87,25 @@ impl Model for Image {
 
     ghost use Rattle.zl_code.specs.Spells.{is_in_range};
 
-    ghost view = { λ i. record { raw = i.raw; memory = i.memory; budget = i.budget; needs = needs_value i.needs; starts = i.starts.items; slots = i.slots.items; code = i.code.items } };
+    ghost view = { λ i. record {
+      raw = i.raw;
+      memory = i.memory;
+      budget = i.budget;
+      needs = needs_value i.needs;
+      starts = i.starts.items;
+      slots = i.slots.items;
+      code = i.code.items;
+    } };
 
-    ghost invariant = { λ i. IsTrue (is_in_range (record { raw = i.raw; memory = i.memory; budget = i.budget; needs = needs_value i.needs; starts = i.starts.items; slots = i.slots.items; code = i.code.items })) };
+    ghost invariant = { λ i. IsTrue (is_in_range (record {
+      raw = i.raw;
+      memory = i.memory;
+      budget = i.budget;
+      needs = needs_value i.needs;
+      starts = i.starts.items;
+      slots = i.slots.items;
+      code = i.code.items;
+    })) };
 }
 
 impl Image {
@@ -117,7 +134,7 @@ impl Image {
     /// How many bytes of data memory the program has, at most 65,536.
     pub fn memory(&self) -> u32
         ensures value { result ≡ self.now.memory }
-        ensures most { result ≤ 65536 }
+        ensures most { result ≤ most_memory }
     {
         self.memory
     }
@@ -127,7 +144,7 @@ impl Image {
     pub fn budget(&self) -> u32
         ensures value { result ≡ self.now.budget }
         ensures least { 1 ≤ result }
-        ensures most { result ≤ 1000000 }
+        ensures most { result ≤ most_budget }
     {
         self.budget
     }
@@ -151,7 +168,7 @@ impl Image {
     /// The handles with which a process of a checked program starts, at most 7.
     pub fn starts(&self) -> &[Start]
         ensures value { result.now ≡ self.now.starts }
-        ensures most { length result.now ≤ 7 }
+        ensures most { length result.now ≤ most_starts }
     {
         &self.starts
     }
@@ -159,7 +176,7 @@ impl Image {
     /// The slot arrays of a process, at most 8.
     pub fn slots(&self) -> &[SlotArray]
         ensures value { result.now ≡ self.now.slots }
-        ensures most { length result.now ≤ 8 }
+        ensures most { length result.now ≤ most_slot_arrays }
     {
         &self.slots
     }
@@ -167,7 +184,7 @@ impl Image {
     /// How many instructions there are, at most 4,096.
     pub fn len(&self) -> usize
         ensures value { result ≡ length self.now.code }
-        ensures most { result ≤ 4096 }
+        ensures most { result ≤ most_instructions }
         // What is public of the invariant: callers learn it here of any image.
         ensures in_range { IsTrue (is_in_range self.now) }
     {
@@ -184,7 +201,7 @@ impl Image {
     /// The instructions in their order, at most 4,096.
     pub fn code(&self) -> &[Instr]
         ensures value { result.now ≡ self.now.code }
-        ensures most { length result.now ≤ 4096 }
+        ensures most { length result.now ≤ most_instructions }
         // What is public of the invariant: each field is in its range.
         ensures in_range { IsTrue (is_in_range self.now) }
     {
@@ -201,7 +218,7 @@ impl Image {
     /// The n-th instruction, if it is a local one.
     pub fn local_at(&self, n: usize) -> Option<LocalInstr>
         ensures value { result ≡ local_at self.now n }
-        ensures within { OnSome result (n < 4096) }
+        ensures within { OnSome result (n < most_instructions) }
     {
         match self.code.get(n) {
             Some(Instr::Local(local)) => Some(*local),
@@ -212,7 +229,7 @@ impl Image {
     /// The n-th instruction, if it is a system call.
     pub fn call_at(&self, n: usize) -> Option<CallInstr>
         ensures value { result ≡ call_at self.now n }
-        ensures within { OnSome result (n < 4096) }
+        ensures within { OnSome result (n < most_instructions) }
     {
         match self.code.get(n) {
             Some(Instr::Call(call)) => Some(*call),

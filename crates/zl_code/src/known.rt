@@ -1,8 +1,10 @@
 //! The instruction that 16 bytes spell: the table of instructions, from bytes.
 
-ghost use Rattle.std.specs.Prelude.{map, ◌<◌, ◌≤◌, ◌≡◌, ◌⊎◌, IsTrue, IfOk, IfErr, IfSome, OnOk, MatchResult, slice_index, true, is_some, Bool, Some, None};
+ghost use Rattle.std.specs.Prelude.{map, ◌<◌, ◌≤◌, ◌≡◌, ◌⊎◌, IsTrue, IfOk, IfErr, IfSome, OnOk, slice_index, true, is_some, Bool, Some, None};
 ghost use Rattle.std.specs.List.{list_all};
+ghost use Rattle.std.specs.Result.{result_err};
 ghost use Rattle.zl_code.specs.First.{first_some};
+ghost use Rattle.zl_code.specs.Limits.{first_call};
 ghost use Rattle.zl_code.specs.declared.image.DecodeFault.TheVariants as faults;
 ghost use Rattle.zl_code.specs.Instructions.{layout_of};
 ghost use Rattle.zl_code.specs.Spells.{are_registers, names_registers, is_unused_zero, row_bytes, local_bytes, call_bytes, instr_bytes, is_local_in_range, is_call_in_range, is_instr_in_range, instr_fault};
@@ -21,9 +23,10 @@ const FIRST_CALL: u8 = 64;
 #[tactic(auto, unfolding(crate::specs::Instructions::row_of, crate::specs::Spells::local_parts))]
 fn known_local(fields: Fields) -> LocalInstr
     requires opcode { IsTrue (is_some (layout_of fields.opcode)) }
-    requires below { fields.opcode < FIRST_CALL }
+    requires below { fields.opcode < first_call }
     requires registers { are_registers (read_in fields).registers ≡ true }
-    ensures bytes { IfSome (layout_of fields.opcode) (λ l. local_bytes result ≡ row_bytes fields.opcode l (read_in fields)) }
+    ensures bytes { IfSome (layout_of fields.opcode) (λ l.
+        local_bytes result ≡ row_bytes fields.opcode l (read_in fields)) }
     ensures in_range { IsTrue (is_local_in_range result) }
 {
     let Fields {
@@ -160,10 +163,13 @@ fn known_local(fields: Fields) -> LocalInstr
 #[tactic(auto, unfolding(crate::specs::Instructions::row_of, crate::specs::Spells::call_parts))]
 fn known_call(fields: Fields) -> CallInstr
     requires opcode { IsTrue (is_some (layout_of fields.opcode)) }
-    requires from { FIRST_CALL ≤ fields.opcode }
+    requires from { first_call ≤ fields.opcode }
     requires registers { are_registers (read_in fields).registers ≡ true }
-    requires last { IfSome (layout_of fields.opcode) (λ l. (names_registers l.ending (read_in fields) ≡ true) × (is_unused_zero l (read_in fields) ≡ true)) }
-    ensures bytes { IfSome (layout_of fields.opcode) (λ l. call_bytes result ≡ row_bytes fields.opcode l (read_in fields)) }
+    requires last { IfSome (layout_of fields.opcode) (λ l.
+        (names_registers l.ending (read_in fields) ≡ true)
+        × (is_unused_zero l (read_in fields) ≡ true)) }
+    ensures bytes { IfSome (layout_of fields.opcode) (λ l.
+        call_bytes result ≡ row_bytes fields.opcode l (read_in fields)) }
     ensures in_range { IsTrue (is_call_in_range result) }
 {
     let Fields {
@@ -316,8 +322,11 @@ fn known_call(fields: Fields) -> CallInstr
 fn known(fields: Fields) -> Instr
     requires opcode { IsTrue (is_some (layout_of fields.opcode)) }
     requires registers { are_registers (read_in fields).registers ≡ true }
-    requires last { IfSome (layout_of fields.opcode) (λ l. (names_registers l.ending (read_in fields) ≡ true) × (is_unused_zero l (read_in fields) ≡ true)) }
-    ensures bytes { IfSome (layout_of fields.opcode) (λ l. instr_bytes result ≡ row_bytes fields.opcode l (read_in fields)) }
+    requires last { IfSome (layout_of fields.opcode) (λ l.
+        (names_registers l.ending (read_in fields) ≡ true)
+        × (is_unused_zero l (read_in fields) ≡ true)) }
+    ensures bytes { IfSome (layout_of fields.opcode) (λ l.
+        instr_bytes result ≡ row_bytes fields.opcode l (read_in fields)) }
     ensures in_range { (raw : Bool) → IsTrue (is_instr_in_range raw result) }
 {
     if fields.opcode < FIRST_CALL {
@@ -332,7 +341,7 @@ fn unknown(raw: bool, bytes: [u8; Instr::LEN]) -> Result<Instr, DecodeFault>
     requires { layout_of (slice_index bytes 0) ≡ None }
     ensures bytes { IfOk result (λ instr. instr_bytes instr ≡ bytes) }
     ensures in_range { IfOk result (λ instr. IsTrue (is_instr_in_range raw instr)) }
-    ensures fault { MatchResult result (λ _. instr_fault raw bytes ≡ None) (λ fault. instr_fault raw bytes ≡ Some fault) }
+    ensures fault { instr_fault raw bytes ≡ result_err result }
 {
     if raw {
         Ok(Instr::Unknown(bytes))
@@ -349,7 +358,7 @@ impl Instr {
     pub fn from_bytes(raw: bool, bytes: [u8; Instr::LEN]) -> Result<Instr, DecodeFault>
         ensures bytes { IfOk result (λ instr. instr_bytes instr ≡ bytes) }
         ensures in_range { IfOk result (λ instr. IsTrue (is_instr_in_range raw instr)) }
-        ensures fault { MatchResult result (λ _. instr_fault raw bytes ≡ None) (λ fault. instr_fault raw bytes ≡ Some fault) }
+        ensures fault { instr_fault raw bytes ≡ result_err result }
     {
         match Row::of_opcode(bytes[0]) {
             Some(row) => {
@@ -376,7 +385,9 @@ pub(crate) fn code_of(
     ensures bytes { IfOk result (λ code. map instr_bytes code.items ≡ pieces.now) }
     ensures in_range { IfOk result (λ code. IsTrue (list_all (is_instr_in_range raw) code.items)) }
     ensures none { OnOk result (first_some (map (instr_fault raw) pieces.now) ≡ None) }
-    ensures fault { IfErr result (λ fault. (fault ≡ faults.NoMemory) ⊎ (first_some (map (instr_fault raw) pieces.now) ≡ Some fault)) }
+    ensures fault { IfErr result (λ fault.
+        (fault ≡ faults.NoMemory)
+        ⊎ (first_some (map (instr_fault raw) pieces.now) ≡ Some fault)) }
 {
     let mut code = Vec::with_capacity(alloc, pieces.len())?;
     for piece in pieces {

@@ -1,5 +1,6 @@
 ghost use Rattle.std.specs.Prelude.{◌≡◌, ◌≤◌, IfSome, length};
 ghost use Rattle.std.specs.Option.{option_map};
+ghost use Rattle.zl_code.specs.Limits.{most_registers};
 ghost use Rattle.zl_code.specs.Instructions.{layout as layout_with, layout_of, row_of, row_named};
 
 use crate::history::CallName;
@@ -41,9 +42,11 @@ impl Row {
     #[tactic(auto, unfolding(crate::specs::Instructions::row_of))]
     pub fn of_opcode(opcode: u8) -> Option<Row>
         ensures opcode { IfSome result (λ row. row.opcode ≡ opcode) }
-        ensures name { option_map (λ row. row.name.now) result ≡ option_map (λ row. row.name) (row_of opcode) }
-        ensures layout { option_map (λ row. layout_with row.registers row.ending) result ≡ layout_of opcode }
-        ensures registers { IfSome result (λ row. row.registers ≤ 7) }
+        ensures name { option_map (λ row. row.name.now) result
+            ≡ option_map (λ row. row.name) (row_of opcode) }
+        ensures layout { option_map (λ row. layout_with row.registers row.ending) result
+            ≡ layout_of opcode }
+        ensures registers { IfSome result (λ row. row.registers ≤ most_registers) }
     {
         let (name, registers, ending) = match opcode {
             1 => ("const", 1, Ending::Number),
@@ -106,10 +109,13 @@ impl Row {
 
     /// The row with this name, if an instruction has it. It goes over all opcodes.
     pub fn named(name: &[u8]) -> Option<Row>
-        ensures opcode { option_map (λ row. row.opcode) result ≡ option_map (λ row. row.opcode) (row_named name.now) }
-        ensures name { option_map (λ row. row.name.now) result ≡ option_map (λ row. row.name) (row_named name.now) }
-        ensures layout { option_map (λ row. layout_with row.registers row.ending) result ≡ option_map (λ row. layout_with (length row.fields) row.ending) (row_named name.now) }
-        ensures registers { IfSome result (λ row. row.registers ≤ 7) }
+        ensures opcode { option_map (λ row. row.opcode) result
+            ≡ option_map (λ row. row.opcode) (row_named name.now) }
+        ensures name { option_map (λ row. row.name.now) result
+            ≡ option_map (λ row. row.name) (row_named name.now) }
+        ensures layout { option_map (λ row. layout_with row.registers row.ending) result
+            ≡ option_map (λ row. layout_with (length row.fields) row.ending) (row_named name.now) }
+        ensures registers { IfSome result (λ row. row.registers ≤ most_registers) }
     {
         for opcode in 0..OPCODE_END {
             let Some(row) = Row::of_opcode(opcode) else {

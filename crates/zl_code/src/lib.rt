@@ -31,5 +31,6 @@ pub use encoding::encode;
 pub use history::{CallName, Outcome, ProcState, TraceItem};
 pub use image::{DecodeFault, Image, SlotArray, Start};
 pub use instr::{CallInstr, HandleList, Instr, LocalInstr};
+pub use instr_bytes::InstrBytes;
 pub use layout::{Ending, Row};
 pub use register::Register;

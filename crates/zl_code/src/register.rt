@@ -1,4 +1,5 @@
 ghost use Rattle.std.specs.Prelude.{ℕ, ◌≡◌, ◌<◌, ◌≤◌, IfSome, IfNone};
+ghost use Rattle.zl_code.specs.Limits.{register_count};
 
 use std::marker::Model;
 
@@ -13,7 +14,7 @@ impl Model for Register {
 
     ghost view = { λ r. r.number };
 
-    ghost invariant = { λ r. r.number < 32 };
+    ghost invariant = { λ r. r.number < register_count };
 
     ghost inverse = { λ n. record { number = n } };
 }
@@ -25,7 +26,7 @@ impl Register {
     /// The register of this number, 0 to 31; nothing for another number.
     pub fn new(number: u8) -> Option<Register>
         ensures found { IfSome result (λ register. register ≡ number) }
-        ensures missing { IfNone result (32 ≤ number) }
+        ensures missing { IfNone result (register_count ≤ number) }
     {
         if usize::from(number) < Register::COUNT {
             Some(Register { number })
@@ -37,7 +38,7 @@ impl Register {
     /// The number of the register, 0 to 31.
     pub fn number(self) -> u8
         ensures value { result ≡ self }
-        ensures below { result < 32 }
+        ensures below { result < register_count }
     {
         self.number
     }

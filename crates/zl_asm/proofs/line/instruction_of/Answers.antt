@@ -7,7 +7,8 @@ use Rattle.zl_asm.specs.Lines.{operands_of, instruction_of, then_with, registers
 use Rattle.zl_asm.specs.Values.{source_value}
 use Rattle.zl_asm.proofs.Answered.{value_if_ok, none_if_err}
 use Rattle.zl_asm.proofs.LineNames.{by_row}
-use Rattle.zl_asm.proofs.LineOperands.{Text, texts}
+use Rattle.zl_asm.proofs.LineOperands.{Text}
+use Rattle.zl_asm.specs.Values.{texts}
 use Rattle.zl_asm.proofs.line.instruction_of.Goals as goal
 
 whole : (c : goal.After-source_of) → instruction_of c.args.name.now (texts c.args.words.now) ≡ option_map source_value (result_ok c.source_of.result)

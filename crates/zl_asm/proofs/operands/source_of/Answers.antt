@@ -5,5 +5,5 @@ use Rattle.zl_asm.proofs.operands.source_of.Goals as goal
 pub returns : goal.returns
 returns c =
     assembled c.args.row.now.opcode c.args.row.now.registers c.args.row.now.ending c.args.operands.now c.split_at.result.0.now c.split_at.result.1.now c.put_registers.new.places
-    (tail_value c.in_ok-tail.tail) c.instruction_bytes.result c.split_at.ensures.front c.split_at.ensures.back c.split_at.ensures.front_len c.requires
-    (c.in_ok-put_registers.ensures {u = tt}) (c.in_ok-tail.ensures {u = tt}) c.instruction_bytes.ensures
+    (tail_value c.in_ok-tail.tail) c.join-bytes.result c.split_at.ensures.front c.split_at.ensures.back c.split_at.ensures.front_len c.requires
+    (c.in_ok-put_registers.ensures {u = tt}) (c.in_ok-tail.ensures {u = tt}) c.join-bytes.ensures

@@ -1,0 +1,16 @@
+use Rattle.std.proofs.Common.{◌∙◌, arith}
+use Rattle.std.proofs.lemmas.Grind.{common_steps}
+use Rattle.zl_code.proofs.ImageCells.{one_placed, all_placed}
+use Rattle.zl_code.proofs.instr_bytes.seven.Goals as goal
+
+pub loop-place-preserved : goal.loop-place-preserved
+loop-place-preserved c = record {
+  front =
+      one_placed c.args.used.now c.loop-place.registers c.loop-place.place c.loop-place.invariant.front c.number.result c.index-used-place.result (omega arith) (omega arith)
+      (c.number.ensures.value ∙ c.index-used-place.is);
+  behind = grind (arith, common_steps, c.loop-place.invariant.behind);
+  size = grind (arith, common_steps);
+}
+
+pub returns : goal.returns
+returns c = all_placed c.args.used.now c.loop-place.registers c.loop-place.place c.loop-place.invariant.front c.requires (omega arith) c.loop-place.invariant.behind

@@ -55,8 +55,8 @@ stops_here s p us ready = record { taken = []; next = p; left = us; are_all = re
 pub limited_walks : (s : Tracked) (p : ℕ) (us : List ℕ) → IsTrue (is_ready_in s.lab p) → s.limit ≤ length s.items → Walks s (p ∷ us) end.Limit s
 limited_walks s p us ready full = record { more = []; adds = adds_nothing s; room = omega arith; ends = (stops_here s p us ready, omega (arith, full)) }
 
-pub wanting_walks : (s : Tracked) (p : ℕ) (us : List ℕ) → IsTrue (is_ready_in s.lab p) → Walks s (p ∷ us) end.Memory s
-wanting_walks s p us ready = record { more = []; adds = adds_nothing s; room = omega arith; ends = stops_here s p us ready }
+pub wanting_walks : (s : Tracked) (p : ℕ) (us : List ℕ) → IsTrue (is_ready_in s.lab p) → length s.items < s.limit → Walks s (p ∷ us) end.Memory s
+wanting_walks s p us ready room = record { more = []; adds = adds_nothing s; room = omega arith; ends = (stops_here s p us ready, omega (arith, room)) }
 
 -- ---- one walk after another
 
@@ -77,7 +77,7 @@ module _ (s mid s2 : Tracked) (ts us : List ℕ) (first : Walks s ts end.Schedul
   ends_then : (e : End) (ys : List TraceItem) (w2 : World) → EndsBy mid.lab.programs mid.lab.world us (room_of mid) ys w2 e → EndsBy s.lab.programs s.lab.world (ts ++ us) (room_of s) (first.more ++ ys) w2 e
   ends_then end.Schedule ys w2 follows = follows_then s.lab.programs s.lab.world mid.lab.world w2 ts us first.more ys first.ends (subst (λ (lib : Library). Follows lib mid.lab.world us ys w2) first.adds.programs follows)
   ends_then end.Limit ys w2 stops = (stops_then ys w2 stops.0, omega (arith, stops.1, counts, first.adds.limit, first.room, length-append first.more ys))
-  ends_then end.Memory ys w2 stops = stops_then ys w2 stops
+  ends_then end.Memory ys w2 stops = (stops_then ys w2 stops.0, omega (arith, stops.1, counts, first.adds.limit, first.room, length-append first.more ys))
 
   pub walks_then : (e : End) → Walks mid us e s2 → Walks s (ts ++ us) e s2
   walks_then e second = record {
@@ -104,9 +104,9 @@ module _ (s mid s2 : Tracked) (p n count : ℕ) (first : Walks s (replicate n p)
   no_room some same ready full = subst (λ (x : Tracked). Walks s (replicate count p) end.Limit x) same
       (subst (λ (turns : List ℕ). Walks s turns end.Limit mid) (turns_left some) (walks_then s mid mid (replicate n p) (p ∷ replicate (count - (n + 1)) p) first end.Limit (limited_walks mid p (replicate (count - (n + 1)) p) ready full)))
 
-  pub no_memory : n < count → (mid ≡ s2) → IsTrue (is_ready_in mid.lab p) → Walks s (replicate count p) end.Memory s2
-  no_memory some same ready = subst (λ (x : Tracked). Walks s (replicate count p) end.Memory x) same
-      (subst (λ (turns : List ℕ). Walks s turns end.Memory mid) (turns_left some) (walks_then s mid mid (replicate n p) (p ∷ replicate (count - (n + 1)) p) first end.Memory (wanting_walks mid p (replicate (count - (n + 1)) p) ready)))
+  pub no_memory : n < count → (mid ≡ s2) → IsTrue (is_ready_in mid.lab p) → length mid.items < mid.limit → Walks s (replicate count p) end.Memory s2
+  no_memory some same ready room = subst (λ (x : Tracked). Walks s (replicate count p) end.Memory x) same
+      (subst (λ (turns : List ℕ). Walks s turns end.Memory mid) (turns_left some) (walks_then s mid mid (replicate n p) (p ∷ replicate (count - (n + 1)) p) first end.Memory (wanting_walks mid p (replicate (count - (n + 1)) p) ready room)))
 
 -- ---- the pairs of a schedule
 
@@ -149,4 +149,4 @@ module _ (s mid s2 : Tracked) (schedule : List (ℕ × ℕ)) (n : ℕ) (default 
       by_end : (e : End) → (e ≡ end.Schedule → ⊥) → (ts us : List ℕ) (xs : List TraceItem) (w2 : World) → EndsBy s.lab.programs s.lab.world ts (room_of s) xs w2 e → EndsBy s.lab.programs s.lab.world (ts ++ us) (room_of s) xs w2 e
       by_end end.Schedule early ts us xs w2 stops = absurd (early refl)
       by_end end.Limit early ts us xs w2 stops = (stops_more s.lab.programs s.lab.world w2 ts us xs stops.0, stops.1)
-      by_end end.Memory early ts us xs w2 stops = stops_more s.lab.programs s.lab.world w2 ts us xs stops
+      by_end end.Memory early ts us xs w2 stops = (stops_more s.lab.programs s.lab.world w2 ts us xs stops.0, stops.1)

@@ -35,7 +35,7 @@ abbrev pub Turns : Tracked → ℕ → Stepped → Tracked → Type 0
 Turns s pid stepped.Ran s2 = Runs s pid s2
 Turns s pid stepped.NotReady s2 = (s2 ≡ s) × (is_ready_in s.lab pid ≡ false)
 Turns s pid stepped.Limit s2 = (s2 ≡ s) × IsTrue (is_ready_in s.lab pid) × (s.limit ≤ length s.items)
-Turns s pid stepped.NoMemory s2 = (s2 ≡ s) × IsTrue (is_ready_in s.lab pid)
+Turns s pid stepped.NoMemory s2 = (s2 ≡ s) × IsTrue (is_ready_in s.lab pid) × (length s.items < s.limit)
 
 -- ---- many turns
 

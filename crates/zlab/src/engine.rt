@@ -161,10 +161,6 @@ fn write_run<W: Write>(
 }
 
 /// Writes the lines of all processes, but for the last of them, which stay in the block.
-///
-/// The world tells its n-th process and no count of them, so the loop ends where there is none. It is
-/// a `for`, which ends in any case and whose `n` can't overflow; there are never more processes than
-/// `usize::MAX`.
 fn write_states<W: Write>(
     writer: &mut W,
     block: &mut String,
@@ -176,7 +172,7 @@ fn write_states<W: Write>(
         (string_bytes block.old ++ flat_map (λ p. state_line p.0 p.1) (states_of world.now.world))) }
     ensures fault { IfErr result (λ fault. fault ≢ EngineFault.Read) }
 {
-    for n in 0..usize::MAX {
+    for n in 0..world.process_count() {
         let Some(pid) = world.process_at(n) else {
             break;
         };

@@ -39,7 +39,7 @@ module _ {A E : Type 0} where
 module _ (text : List ℕ) (s : Tracked) (pairs : List (ℕ × ℕ)) (start : IsStart text s pairs) where
   run_of : (e : End) (last : Tracked) (walks : Walks s (turns_of pairs) e last) → IsRunOf text walks.more last.lab.world e
   run_of e last walks = record {
-    few = start.few;
+    fits = start.fits;
     no_fault = start.no_fault;
     library = s.lab.programs;
     programs = start.programs;

@@ -17,11 +17,11 @@ use Rattle.zlab.specs.declared.fault.Cause.TheVariants as cause
 use Rattle.zlab.specs.declared.fault.LineFault.{LineFault}
 use Rattle.zlab.specs.declared.fault.Verdict.{Verdict}
 use Rattle.zlab.specs.declared.fault.Verdict.TheVariants as verdict
-use Rattle.zlab.specs.declared.input.TheConstants.{MOST_INPUT}
 use Rattle.zlab.specs.declared.system.End.{End}
 use Rattle.zlab.specs.Follows.{turns_of, EndsBy}
 use Rattle.zlab.specs.Output.{AppendsBeginning}
 use Rattle.zlab.specs.Reading.{Lists}
+use Rattle.zlab.specs.Input.{MOST_INPUT, FitsInput}
 use Rattle.zlab.specs.Scenario.{Said, reading_of}
 use Rattle.zlab.specs.System.{Tracked, Walks}
 use Rattle.zlab.specs.Text.{history_text, cause_name, refused_line}
@@ -39,7 +39,7 @@ states_of w = map (λ p. (p.0, seen_in p.1.state)) w.processes
 -- The items are a legal history from a boot world of the scenario in the text, along its schedule, up to
 -- this end and within the limit. Neither the text nor a line of it is at fault.
 pub record IsRunOf (text : List ℕ) (items : List TraceItem) (w : World) (e : End) : Type 0 where
-  pub few : length text ≤ MOST_INPUT
+  pub fits : FitsInput text
   pub no_fault : (reading_of text).fault ≡ None
   pub library : Library
   pub programs : Lists (said_in text).programs library
@@ -66,10 +66,10 @@ line_cause boot.Conflict = Some cause.Conflict
 pub data IsFirstFault (text : List ℕ) : LineFault → Type 0 where
   too_long : MOST_INPUT < length text → IsFirstFault text (record { line = 0; cause = cause.Limit })
   of_statement : (library : Library) (n : ℕ) (found : BootCause) (fault : LineFault)
-      → length text ≤ MOST_INPUT → Lists (said_in text).programs library → FirstFault library (said_in text).statements (said_in text).limit n found
+      → FitsInput text → Lists (said_in text).programs library → FirstFault library (said_in text).statements (said_in text).limit n found
       → slice_get (said_in text).lines n ≡ Some fault.line → line_cause found ≡ Some fault.cause → IsFirstFault text fault
   of_reading : (library : Library) (w : World) (fault : LineFault)
-      → length text ≤ MOST_INPUT → Lists (said_in text).programs library → IsBoot library (said_in text).statements w
+      → FitsInput text → Lists (said_in text).programs library → IsBoot library (said_in text).statements w
       → (reading_of text).fault ≡ Some fault → IsFirstFault text fault
 
 -- ---- the answer
@@ -110,7 +110,7 @@ pub record BeginsReader (told old new : Option (List ℕ)) : Type 0 where
 
 -- the system stands before the first turn of the text's schedule
 pub record IsStart (text : List ℕ) (s : Tracked) (pairs : List (ℕ × ℕ)) : Type 0 where
-  pub few : length text ≤ MOST_INPUT
+  pub fits : FitsInput text
   pub no_fault : (reading_of text).fault ≡ None
   pub programs : Lists (said_in text).programs s.lab.programs
   pub boots : IsBoot s.lab.programs (said_in text).statements s.lab.world

@@ -3,12 +3,12 @@ ghost use Rattle.std.specs.Prelude.{◌≡◌, ◌≢◌, ◌++◌, ◌+◌, ◌
 ghost use Rattle.std.specs.List.{flat_map};
 ghost use Rattle.std.specs.Io.KnownBytes.{Appends};
 ghost use Rattle.zlab.specs.Engine.{AnswersReader, BeginsReader, Answers, BeginsAnswer, Starts, WritesRun, BeginsRun, states_of, line_cause};
-ghost use Rattle.zlab.specs.Input.{TakesAtMost};
+ghost use Rattle.zlab.specs.Input.{FitsInput, TakesNoMore};
 ghost use Rattle.zlab.specs.Output.{AppendsBeginning, Gathers};
 ghost use Rattle.zlab.specs.Text.{cause_name, refused_line, state_line};
 
 use crate::fault::{Cause, EngineFault, LineFault, Verdict};
-use crate::input::{Input, MOST_INPUT, read_input};
+use crate::input::{Input, read_input};
 use crate::output::{empty_block, write_block, write_if_full, write_items};
 use crate::scenario::{Reading, Scenario, read_scenario};
 use crate::system::System;
@@ -36,7 +36,7 @@ pub fn step_engine<R: Read, W: Write>(
     ensures ok { IfOk result (λ verdict. AnswersReader (R.remaining reader.old) verdict (W.contents writer.old) (W.contents writer.new)) }
     ensures err { OnErr result (BeginsReader (R.remaining reader.old) (W.contents writer.old) (W.contents writer.new)) }
     ensures read { IfErr result (λ fault. fault ≡ EngineFault.Read → W.contents writer.new ≡ W.contents writer.old) }
-    ensures taken { TakesAtMost (R.remaining reader.old) (R.remaining reader.new) (MOST_INPUT + 1) }
+    ensures taken { TakesNoMore (R.remaining reader.old) (R.remaining reader.new) }
 {
     match read_input(alloc, reader)? {
         Input::Text(text) => answer(alloc, writer, text.as_slice()),
@@ -57,7 +57,7 @@ enum Booted {
 }
 
 fn answer<W: Write>(alloc: Global, writer: &mut W, text: &[u8]) -> Result<Verdict, EngineFault>
-    requires few { length text.now ≤ MOST_INPUT }
+    requires fits { FitsInput text.now }
     ensures ok { IfOk result (λ verdict. Answers text.now verdict (W.contents writer.old) (W.contents writer.new)) }
     ensures err { OnErr result (BeginsAnswer text.now (W.contents writer.old) (W.contents writer.new)) }
     ensures fault { IfErr result (λ fault. fault ≢ EngineFault.Read) }
@@ -76,7 +76,7 @@ fn answer<W: Write>(alloc: Global, writer: &mut W, text: &[u8]) -> Result<Verdic
 /// Reads the text and boots what it says. A fault of booting is in an earlier line than one of
 /// reading.
 fn boot(alloc: Global, text: &[u8]) -> Result<Booted, EngineFault>
-    requires few { length text.now ≤ MOST_INPUT }
+    requires fits { FitsInput text.now }
     ensures ok { IfOk result (Starts text.now) }
     ensures err { IfErr result (λ fault. fault ≡ EngineFault.NoMemory) }
 {

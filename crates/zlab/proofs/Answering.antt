@@ -3,6 +3,7 @@ use Rattle.std.proofs.Common.{◌≡◌, ℕ, List, [], ◌++◌, length, Option
 use Rattle.std.specs.Prelude.{IfOk, OnOk, OnErr}
 use Rattle.std.specs.Io.KnownBytes.{Appends}
 use Rattle.zl_code.specs.declared.history.TraceItem.{TraceItem}
+use Rattle.zl_code.specs.Steps.{IsLegalHistory}
 use Rattle.zlab.specs.declared.fault.Cause.TheVariants as cause
 use Rattle.zlab.specs.declared.fault.LineFault.{LineFault}
 use Rattle.zlab.specs.declared.fault.Verdict.{Verdict}
@@ -18,6 +19,7 @@ use Rattle.zlab.specs.Output.{AppendsBeginning}
 use Rattle.zlab.specs.System.{Tracked, Walks, room_of}
 use Rattle.zlab.specs.Text.{history_text, cause_name, refused_line}
 use Rattle.zlab.proofs.Legal.{ends_legal}
+use Rattle.zlab.proofs.SoundWorlds.{always_named, always_sound}
 
 -- ---- facts of a result
 
@@ -45,12 +47,17 @@ module _ (text : List ℕ) (s : Tracked) (pairs : List (ℕ × ℕ)) (start : Is
     programs = start.programs;
     boot = s.lab.world;
     boots = start.boots;
-    legal = ends_legal s.lab.programs s.lab.world (turns_of pairs) (room_of s) walks.more last.lab.world e walks.ends;
+    legal = legal;
+    sound = always_sound s.lab.programs (said_in text).statements s.lab.world last.lab.world walks.more start.boots legal;
+    named = always_named s.lab.programs (said_in text).statements s.lab.world last.lab.world walks.more start.boots legal;
     room = omega (arith, walks.room, start.limit, ap length start.items);
     ends = subst (λ (turns : List (ℕ × ℕ)). EndsBy s.lab.programs s.lab.world (turns_of turns) (said_in text).limit walks.more last.lab.world e) start.schedule
         (subst (λ (limit : ℕ). EndsBy s.lab.programs s.lab.world (turns_of pairs) limit walks.more last.lab.world e) room walks.ends);
   }
     where
+      legal : IsLegalHistory s.lab.programs s.lab.world walks.more last.lab.world
+      legal = ends_legal s.lab.programs s.lab.world (turns_of pairs) (room_of s) walks.more last.lab.world e walks.ends
+
       room : room_of s ≡ (said_in text).limit
       room = omega (arith, start.limit, ap length start.items)
 

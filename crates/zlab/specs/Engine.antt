@@ -1,5 +1,6 @@
 -- What the step engine answers to the bytes that it has read.
 use Rattle.std.specs.Prelude.{ℕ, ◌≡◌, ◌<◌, ◌≤◌, List, [], length, map, Option, Some, None, IfSome, slice_get}
+use Rattle.std.specs.List.{flat_map}
 use Rattle.std.specs.Io.KnownBytes.{Appends}
 use Rattle.zl_rights.specs.World.{World}
 use Rattle.zl_code.specs.declared.boot.BootCause.{BootCause}
@@ -8,7 +9,8 @@ use Rattle.zl_code.specs.declared.history.ProcState.{ProcState}
 use Rattle.zl_code.specs.declared.history.TraceItem.{TraceItem}
 use Rattle.zl_code.specs.Boot.{IsBoot, FirstFault}
 use Rattle.zl_code.specs.Image.{Library}
-use Rattle.zl_code.specs.Steps.{IsLegalHistory}
+use Rattle.zl_code.specs.Steps.{IsLegalHistory, single}
+use Rattle.zl_code.specs.Handles.{HandlesAreNamed, HandlesAreSound, Throughout}
 use Rattle.zl_calls.specs.World.{seen_in}
 use Rattle.zlab.specs.declared.engine.Booted.{Booted}
 use Rattle.zlab.specs.declared.engine.Booted.TheVariants as booted
@@ -19,9 +21,9 @@ use Rattle.zlab.specs.declared.fault.Verdict.{Verdict}
 use Rattle.zlab.specs.declared.fault.Verdict.TheVariants as verdict
 use Rattle.zlab.specs.declared.system.End.{End}
 use Rattle.zlab.specs.Follows.{turns_of, EndsBy}
+use Rattle.zlab.specs.Input.{MOST_INPUT, FitsInput}
 use Rattle.zlab.specs.Output.{AppendsBeginning}
 use Rattle.zlab.specs.Reading.{Lists}
-use Rattle.zlab.specs.Input.{MOST_INPUT, FitsInput}
 use Rattle.zlab.specs.Scenario.{Said, reading_of}
 use Rattle.zlab.specs.System.{Tracked, Walks}
 use Rattle.zlab.specs.Text.{history_text, cause_name, refused_line}
@@ -36,6 +38,10 @@ said_in text = (reading_of text).said
 abbrev pub states_of : World → List (ℕ × ProcState)
 states_of w = map (λ p. (p.0, seen_in p.1.state)) w.processes
 
+-- P is true of every world of the history, from the first to the last
+abbrev pub InEachWorld : (World → Type 0) → (lib : Library) (first : World) (items : List TraceItem) (last : World) → IsLegalHistory lib first items last → Type 0
+InEachWorld P lib first items last legal = Throughout P lib first (flat_map single items) last legal.run × P last
+
 -- The items are a legal history from a boot world of the scenario in the text, along its schedule, up to
 -- this end and within the limit. Neither the text nor a line of it is at fault.
 pub record IsRunOf (text : List ℕ) (items : List TraceItem) (w : World) (e : End) : Type 0 where
@@ -46,6 +52,10 @@ pub record IsRunOf (text : List ℕ) (items : List TraceItem) (w : World) (e : E
   pub boot : World
   pub boots : IsBoot library (said_in text).statements boot
   pub legal : IsLegalHistory library boot items w
+  -- no two handles stand at one place, and none has a right that its kind doesn't give
+  pub sound : InEachWorld HandlesAreSound library boot items w legal
+  -- each handle names an object that is there, of the kind that the handle has
+  pub named : InEachWorld HandlesAreNamed library boot items w legal
   pub room : length items ≤ (said_in text).limit
   pub ends : EndsBy library boot (turns_of (said_in text).schedule) (said_in text).limit items w e
 

@@ -1,5 +1,5 @@
 //! The engine: an input is read, and its answer written.
-ghost use Rattle.std.specs.Prelude.{◌≡◌, ◌≢◌, ◌++◌, ◌+◌, ◌≤◌, length, slice_index_or, Some, IfOk, IfErr, OnOk, OnErr, string_bytes};
+ghost use Rattle.std.specs.Prelude.{◌≡◌, ◌≢◌, ◌++◌, slice_index_or, Some, IfOk, IfErr, OnOk, OnErr, string_bytes};
 ghost use Rattle.std.specs.List.{flat_map};
 ghost use Rattle.std.specs.Io.KnownBytes.{Appends};
 ghost use Rattle.zlab.specs.Engine.{AnswersReader, BeginsReader, Answers, BeginsAnswer, Starts, WritesRun, BeginsRun, states_of, line_cause};
@@ -22,10 +22,9 @@ use zl_rights::Pid;
 /// Reads a scenario with a schedule, and writes the trace along the schedule or the line of the
 /// first fault. All input is read before anything is written.
 ///
-/// The trace is the text of a legal history. In all worlds of such a history handles are sound and
-/// name objects of their kind (`histories_keep_handles_sound` and `histories_keep_handles_named` of
-/// `zl_code::laws`). It has as many items as the scenario's limit at most, and no more is read than
-/// one byte past 4,194,304.
+/// The trace is the text of a legal history, in each world of which handles are sound and name
+/// objects of their kind. It has as many items as the scenario's limit at most, and no more is read
+/// than one byte past 4,194,304.
 /// A fault of the reader is `Read`, with nothing written. A fault of the writer, and a want of memory,
 /// leave nothing or a beginning of such an answer.
 pub fn step_engine<R: Read, W: Write>(
@@ -174,7 +173,7 @@ fn write_states<W: Write>(
 {
     for n in 0..world.process_count() {
         let Some(pid) = world.process_at(n) else {
-            break;
+            unreachable!()
         };
         write_state(writer, block, pid, world.state_of(pid))?;
     }

@@ -2,7 +2,7 @@
 ghost use Rattle.std.specs.Prelude.{◌≡◌, [], ◌++◌, codes, Ok, IfOk, IsTrue};
 ghost use Rattle.zl_code.specs.Spells.{spelling, is_in_range};
 ghost use Rattle.zlab.specs.Lines.{digits_of};
-ghost use Rattle.zlab.specs.Scenario.{Hex, digits_said, body_said, bytes_said, digits_spelled, text_spelled, is_text_body};
+ghost use Rattle.zlab.specs.Scenario.{Hex, digits_said, body_said, bytes_said, digits_spelled, text_spelled};
 ghost use Rattle.zlab.specs.Reading.{Tells, Decodes, body_with};
 ghost use Rattle.zl_asm.specs.Denotes.{image_bytes_of};
 
@@ -16,7 +16,7 @@ use zl_asm::{AsmCause, assemble_bytes};
 use zl_code::{DecodeFault, Image, decode};
 
 /// How a program is written.
-#[derive(Clone, Copy, PartialEq, Eq)]
+#[derive(Clone, Copy)]
 pub enum Form {
     /// The bytes of its image, in hexadecimal digits.
     Hex,
@@ -60,13 +60,6 @@ impl Body {
         self.form = form;
         self.digits.clear();
         self.text.clear();
-    }
-
-    /// Whether it holds the assembler's text.
-    pub fn is_text(&self) -> bool
-        ensures { result ≡ is_text_body self.now }
-    {
-        self.form == Form::Asm
     }
 
     /// Adds a line. After a fault a part of it may be there.

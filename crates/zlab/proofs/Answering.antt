@@ -17,7 +17,7 @@ use Rattle.zlab.specs.Follows.{turns_of, EndsBy}
 use Rattle.zlab.specs.Input.{IsInputOf}
 use Rattle.zlab.specs.Output.{AppendsBeginning}
 use Rattle.zlab.specs.Scenario.{none_refused}
-use Rattle.zlab.specs.System.{Tracked, Walks, room_of}
+use Rattle.zlab.specs.System.{System, Walks, room_of}
 use Rattle.zlab.specs.Text.{history_text, cause_name, refused_line}
 use Rattle.zlab.proofs.Legal.{ends_legal}
 use Rattle.zlab.proofs.SoundWorlds.{always_named, always_sound}
@@ -39,8 +39,8 @@ module _ {A E : Type 0} where
 
 -- ---- a run
 
-module _ (text : List ℕ) (s : Tracked) (pairs : List (ℕ × ℕ)) (start : IsStart text s pairs) where
-  run_of : (e : End) (last : Tracked) (walks : Walks s (turns_of pairs) e last) → IsRunOf none_refused text walks.more last.lab.world e
+module _ (text : List ℕ) (s : System) (pairs : List (ℕ × ℕ)) (start : IsStart text s pairs) where
+  run_of : (e : End) (last : System) (walks : Walks s (turns_of pairs) e last) → IsRunOf none_refused text walks.more last.lab.world e
   run_of e last walks = record {
     fits = start.fits;
     no_fault = start.no_fault;

@@ -14,7 +14,7 @@ use Rattle.zlab.specs.Engine.{IsFirstFault, of_statement, of_reading, line_cause
 use Rattle.zlab.specs.Input.{FitsInput}
 use Rattle.zlab.specs.Reading.{IsScenario}
 use Rattle.zlab.specs.Scenario.{none_refused, reading_of, IsInOrder}
-use Rattle.zlab.specs.System.{Tracked}
+use Rattle.zlab.specs.System.{System}
 
 -- only a want of memory has no line
 other_than_memory : (found : BootCause) (c : Cause) → line_cause found ≡ Some c → found ≡ boot.NoMemory → ⊥
@@ -40,7 +40,7 @@ module _ (text : List ℕ) (fits : FitsInput text) (scenario : Made) (is : IsSce
   pub reading_fault : (w : World) (fault : LineFault) → IsBoot scenario.library scenario.boot.statements.items w → (reading_of none_refused text).fault ≡ Some fault → IsFirstFault none_refused text fault
   reading_fault w fault boots faulty = of_reading scenario.library w fault fits is.programs (subst (λ (ss : List Statement). IsBoot scenario.library ss w) is.statements boots) faulty
 
-  pub is_start : (s : Tracked) (pairs : List (ℕ × ℕ)) → (reading_of none_refused text).fault ≡ None → s.lab.programs ≡ scenario.library → IsBoot scenario.library scenario.boot.statements.items s.lab.world
+  pub is_start : (s : System) (pairs : List (ℕ × ℕ)) → (reading_of none_refused text).fault ≡ None → s.lab.programs ≡ scenario.library → IsBoot scenario.library scenario.boot.statements.items s.lab.world
       → s.items ≡ [] → s.limit ≡ scenario.boot.limit → pairs ≡ scenario.schedule.items → IsStart text s pairs
   is_start s pairs no_fault programs boots items limit schedule = record {
     fits = fits;

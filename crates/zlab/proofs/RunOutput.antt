@@ -17,7 +17,7 @@ use Rattle.zl_calls.specs.World.{Lab, seen_in, seen_of, state_in}
 use Rattle.zlab.specs.declared.system.End.{End}
 use Rattle.zlab.specs.Engine.{states_of, IsRun, WritesRun, BeginsRun, some_lines}
 use Rattle.zlab.specs.Output.{AppendsBeginning, Gathers}
-use Rattle.zlab.specs.System.{Tracked, Walks}
+use Rattle.zlab.specs.System.{System, Walks}
 use Rattle.zlab.specs.Follows.{turns_of}
 use Rattle.zlab.specs.Text.{item_line, state_line, end_line, history_text}
 use Rattle.zlab.proofs.KnownOutput.{gathers_both, begun_after, gathers_line, begun_line}
@@ -111,7 +111,7 @@ module _ (l : Lab) (n : ℕ) (a c : Option (List ℕ)) (b d : List ℕ) (so_far 
 
 -- ---- the whole text
 
-module _ (s last : Tracked) (pairs : List (ℕ × ℕ)) (e : End) (walks : Walks s (turns_of pairs) e last) where
+module _ (s last : System) (pairs : List (ℕ × ℕ)) (e : End) (walks : Walks s (turns_of pairs) e last) where
   abbrev items_text : List ℕ
   items_text = flat_map item_line last.items
 

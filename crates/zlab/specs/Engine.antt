@@ -25,7 +25,7 @@ use Rattle.zlab.specs.Input.{MOST_INPUT, FitsInput}
 use Rattle.zlab.specs.Output.{AppendsBeginning}
 use Rattle.zlab.specs.Reading.{Lists}
 use Rattle.zlab.specs.Scenario.{Scenario, Refusals, none_refused, reading_of}
-use Rattle.zlab.specs.System.{Tracked, Walks}
+use Rattle.zlab.specs.System.{System, Walks}
 use Rattle.zlab.specs.Text.{history_text, cause_name, refused_line}
 
 -- what the text says, where these of its checked programs are refused
@@ -119,7 +119,7 @@ pub record BeginsReader (told old new : Option (List ℕ)) : Type 0 where
 -- ---- what the parts of the engine do
 
 -- the system stands before the first turn of the text's schedule
-pub record IsStart (text : List ℕ) (s : Tracked) (pairs : List (ℕ × ℕ)) : Type 0 where
+pub record IsStart (text : List ℕ) (s : System) (pairs : List (ℕ × ℕ)) : Type 0 where
   pub fits : FitsInput text
   pub no_fault : (reading_of none_refused text).fault ≡ None
   pub programs : Lists (said_in none_refused text).programs s.lab.programs
@@ -134,19 +134,19 @@ Starts text (booted.Runs system schedule) = IsStart text system schedule.items
 Starts text (booted.Refused fault) = IsFirstFault none_refused text fault
 
 -- the system ran along the schedule
-pub record IsRun (s : Tracked) (schedule : List (ℕ × ℕ)) (lines : List ℕ) : Type 0 where
-  pub last : Tracked
+pub record IsRun (s : System) (schedule : List (ℕ × ℕ)) (lines : List ℕ) : Type 0 where
+  pub last : System
   pub end : End
   pub walks : Walks s (turns_of schedule) end last
   pub lines_are : lines ≡ history_text last.items (states_of last.lab.world) end
 
 -- the writer got the trace of a run along the schedule
-pub record WritesRun (s : Tracked) (schedule : List (ℕ × ℕ)) (old new : Option (List ℕ)) : Type 0 where
+pub record WritesRun (s : System) (schedule : List (ℕ × ℕ)) (old new : Option (List ℕ)) : Type 0 where
   pub lines : List ℕ
   pub is_run : IsRun s schedule lines
   pub written : Appends old new lines
 
 -- the writer got a beginning of such a trace, or nothing
-pub data BeginsRun (s : Tracked) (schedule : List (ℕ × ℕ)) (old : Option (List ℕ)) : Option (List ℕ) → Type 0 where
+pub data BeginsRun (s : System) (schedule : List (ℕ × ℕ)) (old : Option (List ℕ)) : Option (List ℕ) → Type 0 where
   no_line : BeginsRun s schedule old old
   some_lines : (lines : List ℕ) (new : Option (List ℕ)) → IsRun s schedule lines → AppendsBeginning old new lines → BeginsRun s schedule old new

@@ -42,9 +42,13 @@ pub fn asm_engine<R: Read, I: Write, L: Write>(
     image: &mut I,
     line: &mut L,
 ) -> Result<Verdict, EngineFault>
-    ensures ok { IfOk result (λ verdict. AssemblesReader (R.remaining text.old) verdict (I.contents image.old) (I.contents image.new) (L.contents line.old) (L.contents line.new)) }
-    ensures err { OnErr result (BeginsAssembly (R.remaining text.old) (I.contents image.old) (I.contents image.new) (L.contents line.old) (L.contents line.new)) }
-    ensures read { IfErr result (λ fault. fault ≡ EngineFault.Read → (I.contents image.new ≡ I.contents image.old) × (L.contents line.new ≡ L.contents line.old)) }
+    ensures ok { IfOk result (λ verdict. AssemblesReader (R.remaining text.old) verdict
+        (I.contents image.old) (I.contents image.new) (L.contents line.old) (L.contents line.new)) }
+    ensures err { OnErr result (BeginsAssembly (R.remaining text.old) (I.contents image.old)
+        (I.contents image.new) (L.contents line.old) (L.contents line.new)) }
+    ensures read { IfErr result (λ fault. fault ≡ EngineFault.Read
+        → (I.contents image.new ≡ I.contents image.old)
+        × (L.contents line.new ≡ L.contents line.old)) }
     ensures taken { TakesNoMore (R.remaining text.old) (R.remaining text.new) }
 {
     match read_text(alloc, text)? {
@@ -87,8 +91,10 @@ fn assemble_text(alloc: Global, text: &[u8]) -> Result<Assembled, EngineFault>
 
 /// Writes the line of the fault.
 fn write_fault<W: Write>(alloc: Global, writer: &mut W, fault: AsmFault) -> Result<(), EngineFault>
-    ensures ok { OnOk result (Appends (W.contents writer.old) (W.contents writer.new) (refused_line fault.line (cause_name fault.cause))) }
-    ensures err { OnErr result (AppendsBeginning (W.contents writer.old) (W.contents writer.new) (refused_line fault.line (cause_name fault.cause))) }
+    ensures ok { OnOk result (Appends (W.contents writer.old) (W.contents writer.new)
+        (refused_line fault.line (cause_name fault.cause))) }
+    ensures err { OnErr result (AppendsBeginning (W.contents writer.old) (W.contents writer.new)
+        (refused_line fault.line (cause_name fault.cause))) }
     ensures fault { IfErr result (λ fault. fault ≢ EngineFault.Read) }
 {
     let mut block = String::new(alloc);

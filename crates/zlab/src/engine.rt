@@ -32,9 +32,12 @@ pub fn step_engine<R: Read, W: Write>(
     reader: &mut R,
     writer: &mut W,
 ) -> Result<Verdict, EngineFault>
-    ensures ok { IfOk result (λ verdict. AnswersReader (R.remaining reader.old) verdict (W.contents writer.old) (W.contents writer.new)) }
-    ensures err { OnErr result (BeginsReader (R.remaining reader.old) (W.contents writer.old) (W.contents writer.new)) }
-    ensures read { IfErr result (λ fault. fault ≡ EngineFault.Read → W.contents writer.new ≡ W.contents writer.old) }
+    ensures ok { IfOk result (λ verdict. AnswersReader (R.remaining reader.old) verdict
+        (W.contents writer.old) (W.contents writer.new)) }
+    ensures err { OnErr result (BeginsReader (R.remaining reader.old) (W.contents writer.old)
+        (W.contents writer.new)) }
+    ensures read { IfErr result (λ fault. fault ≡ EngineFault.Read → W.contents writer.new
+        ≡ W.contents writer.old) }
     ensures taken { TakesNoMore (R.remaining reader.old) (R.remaining reader.new) }
 {
     match read_input(alloc, reader)? {
@@ -57,8 +60,10 @@ enum Booted {
 
 fn answer<W: Write>(alloc: Global, writer: &mut W, text: &[u8]) -> Result<Verdict, EngineFault>
     requires fits { FitsInput text.now }
-    ensures ok { IfOk result (λ verdict. Answers text.now verdict (W.contents writer.old) (W.contents writer.new)) }
-    ensures err { OnErr result (BeginsAnswer text.now (W.contents writer.old) (W.contents writer.new)) }
+    ensures ok { IfOk result (λ verdict. Answers text.now verdict (W.contents writer.old)
+        (W.contents writer.new)) }
+    ensures err { OnErr result (BeginsAnswer text.now (W.contents writer.old)
+        (W.contents writer.new)) }
     ensures fault { IfErr result (λ fault. fault ≢ EngineFault.Read) }
 {
     match boot(alloc, text)? {
@@ -98,8 +103,10 @@ fn boot(alloc: Global, text: &[u8]) -> Result<Booted, EngineFault>
 /// The fault of the line of a statement, by the lines of all statements.
 fn fault_of_boot(lines: &[u64], refused: BootFault) -> Result<LineFault, EngineFault>
     ensures cause { IfOk result (λ fault. line_cause refused.cause ≡ Some fault.cause) }
-    ensures line { IfOk result (λ fault. fault.line ≡ slice_index_or lines.now refused.statement 0) }
-    ensures err { IfErr result (λ fault. (fault ≡ EngineFault.NoMemory) × (refused.cause ≡ BootCause.NoMemory)) }
+    ensures line { IfOk result (λ fault.
+        fault.line ≡ slice_index_or lines.now refused.statement 0) }
+    ensures err { IfErr result (λ fault. (fault ≡ EngineFault.NoMemory)
+        × (refused.cause ≡ BootCause.NoMemory)) }
 {
     let cause = cause_of_boot(refused.cause)?;
     let line = lines.get(refused.statement).copied().unwrap_or(0);
@@ -108,7 +115,8 @@ fn fault_of_boot(lines: &[u64], refused: BootFault) -> Result<LineFault, EngineF
 
 fn cause_of_boot(cause: BootCause) -> Result<Cause, EngineFault>
     ensures ok { IfOk result (λ found. line_cause cause ≡ Some found) }
-    ensures err { IfErr result (λ fault. (fault ≡ EngineFault.NoMemory) × (cause ≡ BootCause.NoMemory)) }
+    ensures err { IfErr result (λ fault. (fault ≡ EngineFault.NoMemory)
+        × (cause ≡ BootCause.NoMemory)) }
 {
     match cause {
         BootCause::BadHandleList => Ok(Cause::BadHandleList),
@@ -127,8 +135,10 @@ fn write_refusal<W: Write>(
     fault: LineFault,
 ) -> Result<Verdict, EngineFault>
     ensures verdict { IfOk result (λ verdict. verdict ≡ Verdict.Refused) }
-    ensures ok { OnOk result (Appends (W.contents writer.old) (W.contents writer.new) (refused_line fault.line (cause_name fault.cause))) }
-    ensures err { OnErr result (AppendsBeginning (W.contents writer.old) (W.contents writer.new) (refused_line fault.line (cause_name fault.cause))) }
+    ensures ok { OnOk result (Appends (W.contents writer.old) (W.contents writer.new)
+        (refused_line fault.line (cause_name fault.cause))) }
+    ensures err { OnErr result (AppendsBeginning (W.contents writer.old) (W.contents writer.new)
+        (refused_line fault.line (cause_name fault.cause))) }
     ensures fault { IfErr result (λ fault. fault ≢ EngineFault.Read) }
 {
     let mut block = String::new(alloc);
@@ -146,8 +156,10 @@ fn write_run<W: Write>(
     schedule: &[(Pid, u32)],
 ) -> Result<Verdict, EngineFault>
     ensures verdict { IfOk result (λ verdict. verdict ≡ Verdict.Done) }
-    ensures ok { OnOk result (WritesRun system.old schedule.now (W.contents writer.old) (W.contents writer.new)) }
-    ensures err { OnErr result (BeginsRun system.old schedule.now (W.contents writer.old) (W.contents writer.new)) }
+    ensures ok { OnOk result (WritesRun system.old schedule.now (W.contents writer.old)
+        (W.contents writer.new)) }
+    ensures err { OnErr result (BeginsRun system.old schedule.now (W.contents writer.old)
+        (W.contents writer.new)) }
     ensures fault { IfErr result (λ fault. fault ≢ EngineFault.Read) }
 {
     let mut block = empty_block(alloc)?;
@@ -165,10 +177,12 @@ fn write_states<W: Write>(
     block: &mut String,
     world: &World,
 ) -> Result<(), EngineFault>
-    ensures ok { OnOk result (Gathers (W.contents writer.old) (string_bytes block.old) (W.contents writer.new) (string_bytes block.new)
+    ensures ok { OnOk result (Gathers (W.contents writer.old) (string_bytes block.old)
+        (W.contents writer.new) (string_bytes block.new)
         (flat_map (λ p. state_line p.0 p.1) (states_of world.now.world))) }
     ensures err { OnErr result (AppendsBeginning (W.contents writer.old) (W.contents writer.new)
-        (string_bytes block.old ++ flat_map (λ p. state_line p.0 p.1) (states_of world.now.world))) }
+        (string_bytes block.old
+        ++ flat_map (λ p. state_line p.0 p.1) (states_of world.now.world))) }
     ensures fault { IfErr result (λ fault. fault ≢ EngineFault.Read) }
 {
     for n in 0..world.process_count() {
@@ -187,8 +201,10 @@ fn write_state<W: Write>(
     pid: Pid,
     state: ProcState,
 ) -> Result<(), EngineFault>
-    ensures ok { OnOk result (Gathers (W.contents writer.old) (string_bytes block.old) (W.contents writer.new) (string_bytes block.new) (state_line pid state)) }
-    ensures err { OnErr result (AppendsBeginning (W.contents writer.old) (W.contents writer.new) (string_bytes block.old ++ state_line pid state)) }
+    ensures ok { OnOk result (Gathers (W.contents writer.old) (string_bytes block.old)
+        (W.contents writer.new) (string_bytes block.new) (state_line pid state)) }
+    ensures err { OnErr result (AppendsBeginning (W.contents writer.old) (W.contents writer.new)
+        (string_bytes block.old ++ state_line pid state)) }
     ensures fault { IfErr result (λ fault. fault ≢ EngineFault.Read) }
 {
     push_state(block, pid, state)?;

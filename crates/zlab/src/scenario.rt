@@ -45,8 +45,10 @@ pub struct Reading {
 
 /// Reads the scenario and the schedule up to the first fault. `NoMemory` is the only error.
 pub fn read_scenario(alloc: Global, text: &[u8]) -> Result<Reading, EngineFault>
-    ensures scenario { IfOk result (λ reading. IsScenario (reading_of none_refused text.now).said reading.scenario) }
-    ensures fault { IfOk result (λ reading. reading.fault ≡ (reading_of none_refused text.now).fault) }
+    ensures scenario { IfOk result (λ reading. IsScenario (reading_of none_refused text.now).said
+        reading.scenario) }
+    ensures fault { IfOk result (λ reading. reading.fault
+        ≡ (reading_of none_refused text.now).fault) }
     ensures err { IfErr result (λ fault. fault ≡ NoMemory) }
     // Of two faults, one in a statement and the reader's, that of the statement is in an earlier line.
     ensures in_order { (is_refused : Refusals) → IsInOrder (reading_of is_refused text.now) }

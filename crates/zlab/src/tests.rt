@@ -129,8 +129,14 @@ fn refuses_texts_without_programs(rt: HostRuntime) {
         ),
         ("program raw asm\n# \u{e9}\nend\n", "refused 1 Syntax\n"),
         ("program raw asm\n# end\n", "refused 1 Syntax\n"),
-        ("program raw asm\n # no comment\nend\n", "refused 1 Program\n"),
-        ("\nprogram raw asm\n# foo\nfoo\nend\n", "refused 2 Program\n"),
+        (
+            "program raw asm\n # no comment\nend\n",
+            "refused 1 Program\n",
+        ),
+        (
+            "\nprogram raw asm\n# foo\nfoo\nend\n",
+            "refused 2 Program\n",
+        ),
     ];
     for (input, line) in refused {
         assert_answer(&rt, rt.alloc(), input.as_bytes(), Verdict::Refused, line);

@@ -76,7 +76,7 @@ impl Body {
     /// The image that the whole block gives: `Syntax` for an odd count of digits, and `Program`
     /// where the bytes spell no image, or the text denotes none.
     pub fn image(&self, alloc: Global) -> Result<Image, Fault>
-        ensures told { Tells result (λ image. spelling image) (bytes_said self.now) }
+        ensures answer { Tells result (λ image. spelling image) (bytes_said self.now) }
         ensures in_range { IfOk result (λ image. IsTrue (is_in_range image)) }
     {
         match self.form {
@@ -113,7 +113,7 @@ fn push_text(text: &mut Vec<u8>, line: &[u8]) -> Result<(), Fault>
 /// The image that the digits spell.
 #[tactic(auto, unfolding(crate::specs::Scenario::digits_spelled))]
 fn image_of_digits(alloc: Global, digits: &Digits) -> Result<Image, Fault>
-    ensures told { Tells result (λ image. spelling image) (digits_spelled digits.now) }
+    ensures answer { Tells result (λ image. spelling image) (digits_spelled digits.now) }
     ensures in_range { IfOk result (λ image. IsTrue (is_in_range image)) }
 {
     let Some(bytes) = digits.bytes() else {
@@ -135,7 +135,8 @@ fn decode_program(alloc: Global, bytes: &[u8]) -> Result<Image, Fault>
 
 /// The image that the text denotes; `Program` where it denotes none.
 fn image_of_text(alloc: Global, text: &[u8]) -> Result<Image, Fault>
-    ensures told { Tells result (λ image. spelling image) (text_spelled (image_bytes_of text.now)) }
+    ensures answer { Tells result (λ image. spelling image)
+        (text_spelled (image_bytes_of text.now)) }
     ensures in_range { IfOk result (λ image. IsTrue (is_in_range image)) }
 {
     match assemble_bytes(alloc, text) {

@@ -76,7 +76,8 @@ impl Draft {
         program: u64,
         word: u64,
     ) -> Result<(), AllocError>
-        ensures { OnOk result (self.new ≡ with_statement self.old line (statement.Process job program word)) }
+        ensures { OnOk result (self.new ≡ with_statement self.old line
+            (statement.Process job program word)) }
     {
         self.scenario.lines.push(line)?;
         let statement = Statement::Process { job, program, word };

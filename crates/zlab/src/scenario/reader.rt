@@ -87,8 +87,9 @@ impl Reader {
         line: &'a [u8],
         words: &mut Vec<&'a [u8]>,
     ) -> Result<(), Fault>
-        ensures told { Tells result (λ _. self.new) (line_said none_refused number self.old line.now) }
-        ensures kept { Keeps result self.old.said self.new.said }
+        ensures answer { Tells result (λ _. self.new)
+            (line_said none_refused number self.old line.now) }
+        ensures unchanged { Keeps result self.old.said self.new.said }
     {
         if !is_ascii(line) {
             return Err(Fault::Refused(Cause::Syntax));
@@ -108,8 +109,10 @@ impl Reader {
         line: &[u8],
         words: &[&[u8]],
     ) -> Result<(), Fault>
-        ensures told { Tells result (λ _. self.new) (part_said none_refused number self.old.said self.old.part line.now (map (λ word. word.now) words.now)) }
-        ensures kept { Keeps result self.old.said self.new.said }
+        ensures answer { Tells result (λ _. self.new)
+            (part_said none_refused number self.old.said self.old.part line.now
+            (map (λ word. word.now) words.now)) }
+        ensures unchanged { Keeps result self.old.said self.new.said }
     {
         self.part = match self.part {
             Part::Statements => { read_statement(&mut self.draft, &mut self.body, number, words)? }
@@ -131,7 +134,8 @@ impl Reader {
         alloc: Global,
         text: &[u8],
     ) -> Result<Option<LineFault>, EngineFault>
-        ensures ok { IfOk result (λ fault. reading_from none_refused 1 self.old (lines_of text.now) ≡ record { said = self.new.said; fault = fault }) }
+        ensures ok { IfOk result (λ fault. reading_from none_refused 1 self.old (lines_of text.now)
+            ≡ record { said = self.new.said; fault = fault }) }
         ensures err { IfErr result (λ fault. fault ≡ NoMemory) }
     {
         let mut words = Vec::new(alloc);

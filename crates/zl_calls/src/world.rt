@@ -1,4 +1,4 @@
-ghost use Rattle.std.specs.Prelude.{length, ◌<◌, ◌^◌, ◌≡◌, ◌≢◌, ◌≤◌, false, IsSome, IsTrue, IfSome, IfNone, IfOk, OnOk, IfErr, None, slice_get, map};
+ghost use Rattle.std.specs.Prelude.{length, ◌≡◌, ◌≢◌, ◌≤◌, false, IsSome, IsTrue, IfSome, IfNone, IfOk, OnOk, IfErr, None, slice_get, map};
 ghost use Rattle.std.specs.Ordering.{nat_cmp};
 ghost use Rattle.std.specs.FinMap.Entries.{is_sorted};
 ghost use Rattle.zl_code.specs.declared.boot.BootCause.TheVariants.{NoMemory};
@@ -84,12 +84,17 @@ impl World {
         })
     }
 
+    /// How many processes were ever made.
+    pub fn process_count(&self) -> usize
+        ensures { result ≡ length self.now.world.processes }
+    {
+        self.processes.len()
+    }
+
     /// The koid of the n-th process ever made, from 0.
     pub fn process_at(&self, n: usize) -> Option<Pid>
         ensures koid { result ≡ slice_get (map (λ p. p.0) self.now.world.processes) n }
         ensures in_order { IsTrue (is_sorted nat_cmp self.now.world.processes) }
-        // A loop that counts `n` up to the largest `usize` meets every process.
-        ensures few { length self.now.world.processes < 2 ^ 64 }
     {
         Some(self.processes.get(n)?.pid)
     }

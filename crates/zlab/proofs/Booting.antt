@@ -9,41 +9,41 @@ use Rattle.zl_code.specs.Boot.{IsBoot, FirstFault, at_statement, at_limit}
 use Rattle.zl_rights.specs.World.{World}
 use Rattle.zlab.specs.declared.fault.Cause.{Cause}
 use Rattle.zlab.specs.declared.fault.LineFault.{LineFault}
-use Rattle.zlab.specs.declared.input.TheConstants.{MOST_INPUT}
-use Rattle.zlab.specs.declared.scenario.Scenario.{Scenario}
+use Rattle.zlab.specs.declared.scenario.Scenario.{Scenario as Made}
 use Rattle.zlab.specs.Engine.{IsFirstFault, of_statement, of_reading, line_cause, said_in, IsStart}
+use Rattle.zlab.specs.Input.{FitsInput}
 use Rattle.zlab.specs.Reading.{IsScenario}
-use Rattle.zlab.specs.Scenario.{reading_of, IsInOrder}
-use Rattle.zlab.specs.System.{Tracked}
+use Rattle.zlab.specs.Scenario.{none_refused, reading_of, IsInOrder}
+use Rattle.zlab.specs.System.{System}
 
 -- only a want of memory has no line
 other_than_memory : (found : BootCause) (c : Cause) → line_cause found ≡ Some c → found ≡ boot.NoMemory → ⊥
 other_than_memory found c named is = none-some c (sym (ap line_cause is) ∙ named)
 
-module _ (text : List ℕ) (few : length text ≤ MOST_INPUT) (scenario : Scenario) (is : IsScenario (said_in text) scenario) (order : IsInOrder (reading_of text)) where
-  line_at : (n line : ℕ) → n < length (said_in text).statements → line ≡ slice_index_or scenario.lines.items n 0 → slice_get (said_in text).lines n ≡ Some line
-  line_at n line some read = slice_get-get_or (said_in text).lines n 0 (omega (arith, some, order.placed)) ∙ ap (λ (x : ℕ). Some x) (sym (read ∙ ap (λ (xs : List ℕ). get_or xs n 0) is.lines))
+module _ (text : List ℕ) (fits : FitsInput text) (scenario : Made) (is : IsScenario (said_in none_refused text) scenario) (order : IsInOrder (reading_of none_refused text)) where
+  line_at : (n line : ℕ) → n < length (said_in none_refused text).statements → line ≡ slice_index_or scenario.lines.items n 0 → slice_get (said_in none_refused text).lines n ≡ Some line
+  line_at n line some read = slice_get-get_or (said_in none_refused text).lines n 0 (omega (arith, some, order.placed)) ∙ ap (λ (x : ℕ). Some x) (sym (read ∙ ap (λ (xs : List ℕ). get_or xs n 0) is.lines))
 
   pub statement_fault : (n : ℕ) (found : BootCause) (fault : LineFault)
       → ((found ≡ boot.NoMemory → ⊥) → FirstFault scenario.library scenario.boot.statements.items scenario.boot.limit n found)
-      → line_cause found ≡ Some fault.cause → fault.line ≡ slice_index_or scenario.lines.items n 0 → IsFirstFault text fault
+      → line_cause found ≡ Some fault.cause → fault.line ≡ slice_index_or scenario.lines.items n 0 → IsFirstFault none_refused text fault
   statement_fault n found fault first named read =
-      let faulty : FirstFault scenario.library (said_in text).statements (said_in text).limit n found
-      = subst (λ (limit : ℕ). FirstFault scenario.library (said_in text).statements limit n found) is.limit
+      let faulty : FirstFault scenario.library (said_in none_refused text).statements (said_in none_refused text).limit n found
+      = subst (λ (limit : ℕ). FirstFault scenario.library (said_in none_refused text).statements limit n found) is.limit
       (subst (λ (ss : List Statement). FirstFault scenario.library ss scenario.boot.limit n found) is.statements (first (other_than_memory found fault.cause named))) in
-      of_statement scenario.library n found fault few is.programs faulty (line_at n fault.line (at_some n found faulty) read) named
+      of_statement scenario.library n found fault fits is.programs faulty (line_at n fault.line (at_some n found faulty) read) named
     where
-      at_some : (n : ℕ) (found : BootCause) → FirstFault scenario.library (said_in text).statements (said_in text).limit n found → n < length (said_in text).statements
-      at_some _ _ (at_statement made n s c boots at faulty) = slice_get_within (said_in text).statements n s at
+      at_some : (n : ℕ) (found : BootCause) → FirstFault scenario.library (said_in none_refused text).statements (said_in none_refused text).limit n found → n < length (said_in none_refused text).statements
+      at_some _ _ (at_statement made n s c boots at faulty) = slice_get_within (said_in none_refused text).statements n s at
       at_some _ _ (at_limit made boots above) = absurd (omega (arith, above, order.limit))
 
-  pub reading_fault : (w : World) (fault : LineFault) → IsBoot scenario.library scenario.boot.statements.items w → (reading_of text).fault ≡ Some fault → IsFirstFault text fault
-  reading_fault w fault boots faulty = of_reading scenario.library w fault few is.programs (subst (λ (ss : List Statement). IsBoot scenario.library ss w) is.statements boots) faulty
+  pub reading_fault : (w : World) (fault : LineFault) → IsBoot scenario.library scenario.boot.statements.items w → (reading_of none_refused text).fault ≡ Some fault → IsFirstFault none_refused text fault
+  reading_fault w fault boots faulty = of_reading scenario.library w fault fits is.programs (subst (λ (ss : List Statement). IsBoot scenario.library ss w) is.statements boots) faulty
 
-  pub is_start : (s : Tracked) (pairs : List (ℕ × ℕ)) → (reading_of text).fault ≡ None → s.lab.programs ≡ scenario.library → IsBoot scenario.library scenario.boot.statements.items s.lab.world
+  pub is_start : (s : System) (pairs : List (ℕ × ℕ)) → (reading_of none_refused text).fault ≡ None → s.lab.programs ≡ scenario.library → IsBoot scenario.library scenario.boot.statements.items s.lab.world
       → s.items ≡ [] → s.limit ≡ scenario.boot.limit → pairs ≡ scenario.schedule.items → IsStart text s pairs
   is_start s pairs no_fault programs boots items limit schedule = record {
-    few = few;
+    fits = fits;
     no_fault = no_fault;
     programs = rw programs is.programs;
     boots = rw programs (subst (λ (ss : List Statement). IsBoot scenario.library ss s.lab.world) is.statements boots);

@@ -5,7 +5,7 @@ use Rattle.zl_code.specs.Boot.{MOST_ITEMS}
 use Rattle.zlab.specs.declared.fault.Cause.{Cause}
 use Rattle.zlab.specs.declared.fault.Cause.TheVariants as cause
 use Rattle.zlab.specs.Lines.{words_of}
-use Rattle.zlab.specs.Scenario.{Said, Body, Part, Statements, Block, Schedule, Place, at, start, onto, opened_by, body_named, onto_block, bytes_said, body_said, with_program, MOST_PROGRAMS, process_said, limit_said, statement_said, program_said, block_said, pair_said, turns_said, part_said, line_said, told_line, Reading, refused, fault_at_end, reading_from, Rises, IsInOrder}
+use Rattle.zlab.specs.Scenario.{Scenario, Body, Part, Statements, Block, Schedule, Place, Refusals, at, start, onto, opened_by, body_named, onto_block, bytes_said, body_said, with_program, MOST_PROGRAMS, process_said, limit_said, statement_said, program_said, block_said, pair_said, turns_said, part_said, line_said, told_line, Reading, refused_at, fault_at_end, reading_from, Rises, IsInOrder}
 
 -- ---- rising lines
 
@@ -20,12 +20,12 @@ Rises-push low (line ∷ lines) n r = (r.0, Rises-push (line + 1) lines n r.1)
 -- ---- what was said
 
 -- what was said in lines below this one
-record IsBelow (line : ℕ) (said : Said) : Type 0 where
+record IsBelow (line : ℕ) (said : Scenario) : Type 0 where
   limit : said.limit ≤ MOST_ITEMS
   placed : length said.lines ≡ length said.statements
   rising : Rises 1 said.lines line
 
-below_more : (a b : ℕ) (said : Said) → IsBelow a said → a ≤ b → IsBelow b said
+below_more : (a b : ℕ) (said : Scenario) → IsBelow a said → a ≤ b → IsBelow b said
 below_more a b said h e = record { limit = h.limit; placed = h.placed; rising = Rises-more 1 said.lines a b h.rising e }
 
 -- where line n stands
@@ -47,13 +47,13 @@ else_ok : {S : Type 0} (t : Bool) (r : Result S Cause) (new : S) (c : Cause) →
 else_ok true r new c e = absurd (cc)
 else_ok false r new c e = e
 
-onto_ok : (part : Part) (r : Result Said Cause) (next : Place) → onto part r ≡ Ok next → (said : Said) × (r ≡ Ok said) × (at said part ≡ next)
+onto_ok : (part : Part) (r : Result Scenario Cause) (next : Place) → onto part r ≡ Ok next → (said : Scenario) × (r ≡ Ok said) × (at said part ≡ next)
 onto_ok part (Ok said) next e = (said, refl, cc)
 onto_ok part (Err c) next e = absurd (cc)
 
 -- ---- the kinds of lines
 
-process_below : (n : ℕ) (said new : Said) (job program word : Option ℕ) → IsBelow n said → process_said n said job program word ≡ Ok new → IsBelow (n + 1) new
+process_below : (n : ℕ) (said new : Scenario) (job program word : Option ℕ) → IsBelow n said → process_said n said job program word ≡ Ok new → IsBelow (n + 1) new
 unfolding process_said
 process_below n said new (Some job) (Some program) (Some word) h e =
     subst (IsBelow (n + 1)) (if_ok _ _ new _ e).1 (record {
@@ -65,7 +65,7 @@ process_below n said new (Some job) (Some program) None h e = absurd (cc)
 process_below n said new (Some job) None word h e = absurd (cc)
 process_below n said new None program word h e = absurd (cc)
 
-limit_below : (n : ℕ) (said new : Said) (most : Option ℕ) → IsBelow n said → limit_said said most ≡ Ok new → IsBelow (n + 1) new
+limit_below : (n : ℕ) (said new : Scenario) (most : Option ℕ) → IsBelow n said → limit_said said most ≡ Ok new → IsBelow (n + 1) new
 unfolding limit_said
 limit_below n said new (Some limit) h e =
     let read = if_ok _ _ new _ e in
@@ -75,14 +75,14 @@ limit_below n said new (Some limit) h e =
 limit_below n said new None h e = absurd (cc)
 
 -- after line n, in no block
-next_line : (n : ℕ) (part : Part) (next : Place) (said : Said) → told_line (n + 1) part ≡ n + 1 → IsBelow (n + 1) said → at said part ≡ next → IsPlaced (n + 1) next
+next_line : (n : ℕ) (part : Part) (next : Place) (said : Scenario) → told_line (n + 1) part ≡ n + 1 → IsBelow (n + 1) said → at said part ≡ next → IsPlaced (n + 1) next
 next_line n part next said out h e = subst (IsPlaced (n + 1)) e (record { below = rw out h; told = omega (arith, out) })
 
-opened_placed : (n : ℕ) (said : Said) (body : Option Body) (next : Place) → IsBelow n said → opened_by n said body ≡ Ok next → IsPlaced (n + 1) next
-opened_placed n said (Some body) next h e = let same : at said (Block n body) ≡ next = cc in subst (IsPlaced (n + 1)) same (record { below = h; told = omega arith })
+opened_placed : (n : ℕ) (said : Scenario) (body : Option Body) (next : Place) → IsBelow n said → opened_by n said body ≡ Ok next → IsPlaced (n + 1) next
+opened_placed n said (Some body) next h e = let same : at said (Block n false body) ≡ next = cc in subst (IsPlaced (n + 1)) same (record { below = h; told = omega arith })
 opened_placed n said None next h e = absurd (cc)
 
-statement_placed : (n : ℕ) (said : Said) (words : List (List ℕ)) (next : Place) → IsBelow n said → statement_said n said words ≡ Ok next → IsPlaced (n + 1) next
+statement_placed : (n : ℕ) (said : Scenario) (words : List (List ℕ)) (next : Place) → IsBelow n said → statement_said n said words ≡ Ok next → IsPlaced (n + 1) next
 unfolding statement_said
 statement_placed n said [] next h e = next_line n Statements next said refl (below_more n (n + 1) said h (omega arith)) (cc)
 statement_placed n said (name ∷ []) next h e = next_line n Schedule next said refl (below_more n (n + 1) said h (omega arith)) (if_ok _ _ next _ e).1
@@ -95,33 +95,35 @@ statement_placed n said (name ∷ job ∷ program ∷ word ∷ []) next h e =
     next_line n Statements next read.0 refl (process_below n said read.0 _ _ _ h read.1) read.2
 statement_placed n said (name ∷ job ∷ program ∷ word ∷ more ∷ rest) next h e = absurd (cc)
 
-program_below : (n : ℕ) (said new : Said) (bytes : Result (List ℕ) Cause) → IsBelow n said → program_said said bytes ≡ Ok new → IsBelow n new
+program_below : (is_refused : Refusals) (n : ℕ) (said new : Scenario) (checked : Bool) (bytes : Result (List ℕ) Cause) → IsBelow n said → program_said is_refused said checked bytes ≡ Ok new → IsBelow n new
 unfolding program_said
-program_below n said new (Ok bytes) h e =
-    subst (IsBelow n) (if_ok (ltb (length said.programs) MOST_PROGRAMS) (with_program said bytes) new cause.Limit e).1 (record { limit = h.limit; placed = h.placed; rising = h.rising })
-program_below n said new (Err c) h e = absurd (cc)
+program_below is_refused n said new checked (Ok bytes) h e =
+    let fits = else_ok _ (cond (ltb (length said.programs) MOST_PROGRAMS) (Ok (with_program said checked bytes)) (Err cause.Limit)) new cause.Check e in
+    subst (IsBelow n) (if_ok (ltb (length said.programs) MOST_PROGRAMS) (with_program said checked bytes) new cause.Limit fits).1 (record { limit = h.limit; placed = h.placed; rising = h.rising })
+program_below is_refused n said new checked (Err c) h e = absurd (cc)
 
-body_placed : (n opened : ℕ) (said : Said) (r : Result Body Cause) (next : Place) → IsBelow opened said → opened ≤ n → onto_block said opened r ≡ Ok next → IsPlaced (n + 1) next
-body_placed n opened said (Ok body) next h before e = let same : at said (Block opened body) ≡ next = cc in subst (IsPlaced (n + 1)) same (record { below = h; told = omega arith })
-body_placed n opened said (Err c) next h before e = absurd (cc)
+body_placed : (n opened : ℕ) (said : Scenario) (checked : Bool) (r : Result Body Cause) (next : Place) → IsBelow opened said → opened ≤ n → onto_block said opened checked r ≡ Ok next → IsPlaced (n + 1) next
+body_placed n opened said checked (Ok body) next h before e = let same : at said (Block opened checked body) ≡ next = cc in subst (IsPlaced (n + 1)) same (record { below = h; told = omega arith })
+body_placed n opened said checked (Err c) next h before e = absurd (cc)
 
-block_placed : (n opened : ℕ) (said : Said) (body : Body) (line : List ℕ) (words : List (List ℕ)) (next : Place) → IsBelow opened said → opened ≤ n → block_said said opened body line words ≡ Ok next → IsPlaced (n + 1) next
+block_placed : (is_refused : Refusals) (n opened : ℕ) (said : Scenario) (checked : Bool) (body : Body) (line : List ℕ) (words : List (List ℕ)) (next : Place) → IsBelow opened said → opened ≤ n
+    → block_said is_refused said opened checked body line words ≡ Ok next → IsPlaced (n + 1) next
 unfolding block_said
-block_placed n opened said body line words next h before e = go _ e
+block_placed is_refused n opened said checked body line words next h before e = go _ e
   where
-    go : (t : Bool) → cond t (onto Statements (program_said said (bytes_said body))) (onto_block said opened (body_said body line)) ≡ Ok next → IsPlaced (n + 1) next
+    go : (t : Bool) → cond t (onto Statements (program_said is_refused said checked (bytes_said body))) (onto_block said opened checked (body_said body line)) ≡ Ok next → IsPlaced (n + 1) next
     go true e =
         let read = onto_ok Statements _ next e in
-        next_line n Statements next read.0 refl (below_more opened (n + 1) read.0 (program_below opened said read.0 _ h read.1) (omega arith)) read.2
-    go false e = body_placed n opened said _ next h before e
+        next_line n Statements next read.0 refl (below_more opened (n + 1) read.0 (program_below is_refused opened said read.0 checked _ h read.1) (omega arith)) read.2
+    go false e = body_placed n opened said checked _ next h before e
 
-pair_below : (n : ℕ) (said new : Said) (pid count : Option ℕ) → IsBelow n said → pair_said said pid count ≡ Ok new → IsBelow n new
+pair_below : (n : ℕ) (said new : Scenario) (pid count : Option ℕ) → IsBelow n said → pair_said said pid count ≡ Ok new → IsBelow n new
 unfolding pair_said
 pair_below n said new (Some pid) (Some count) h e = subst (IsBelow n) (if_ok _ _ new _ e).1 (record { limit = h.limit; placed = h.placed; rising = h.rising })
 pair_below n said new (Some pid) None h e = absurd (cc)
 pair_below n said new None count h e = absurd (cc)
 
-turns_below : (n : ℕ) (said new : Said) (words : List (List ℕ)) → IsBelow n said → turns_said said words ≡ Ok new → IsBelow n new
+turns_below : (n : ℕ) (said new : Scenario) (words : List (List ℕ)) → IsBelow n said → turns_said said words ≡ Ok new → IsBelow n new
 unfolding turns_said
 turns_below n said new [] h e = let same : said ≡ new = cc in subst (IsBelow n) same h
 turns_below n said new (pid ∷ []) h e = absurd (cc)
@@ -130,46 +132,46 @@ turns_below n said new (pid ∷ count ∷ more ∷ rest) h e = absurd (cc)
 
 -- ---- one line, and all lines
 
-part_placed : (n : ℕ) (said : Said) (part : Part) (line : List ℕ) (words : List (List ℕ)) (next : Place) → IsPlaced n (at said part) → part_said n said part line words ≡ Ok next → IsPlaced (n + 1) next
-part_placed n said Statements line words next h e = statement_placed n said words next h.below e
-part_placed n said (Block opened body) line words next h e = block_placed n opened said body line words next h.below h.told e
-part_placed n said Schedule line words next h e =
+part_placed : (is_refused : Refusals) (n : ℕ) (said : Scenario) (part : Part) (line : List ℕ) (words : List (List ℕ)) (next : Place) → IsPlaced n (at said part) → part_said is_refused n said part line words ≡ Ok next → IsPlaced (n + 1) next
+part_placed is_refused n said Statements line words next h e = statement_placed n said words next h.below e
+part_placed is_refused n said (Block opened checked body) line words next h e = block_placed is_refused n opened said checked body line words next h.below h.told e
+part_placed is_refused n said Schedule line words next h e =
     let read = onto_ok Schedule _ next e in
     next_line n Schedule next read.0 refl (below_more n (n + 1) read.0 (turns_below n said read.0 words h.below read.1) (omega arith)) read.2
 
 -- a line that says nothing
-same_placed : (n : ℕ) (said : Said) (part : Part) → IsPlaced n (at said part) → IsPlaced (n + 1) (at said part)
+same_placed : (n : ℕ) (said : Scenario) (part : Part) → IsPlaced n (at said part) → IsPlaced (n + 1) (at said part)
 same_placed n said Statements h = record { below = below_more n (n + 1) said h.below (omega arith); told = omega arith }
-same_placed n said (Block opened body) h = record { below = h.below; told = omega (arith, h.told) }
+same_placed n said (Block opened checked body) h = record { below = h.below; told = omega (arith, h.told) }
 same_placed n said Schedule h = record { below = below_more n (n + 1) said h.below (omega arith); told = omega arith }
 
-line_placed : (n : ℕ) (place : Place) (line : List ℕ) (next : Place) → IsPlaced n place → line_said n place line ≡ Ok next → IsPlaced (n + 1) next
+line_placed : (is_refused : Refusals) (n : ℕ) (place : Place) (line : List ℕ) (next : Place) → IsPlaced n place → line_said is_refused n place line ≡ Ok next → IsPlaced (n + 1) next
 unfolding line_said
-line_placed n place line next h e = go _ (then_ok _ _ next _ e)
+line_placed is_refused n place line next h e = go _ (then_ok _ _ next _ e)
   where
-    go : (t : Bool) → cond t (Ok place) (part_said n place.said place.part line (words_of line)) ≡ Ok next → IsPlaced (n + 1) next
+    go : (t : Bool) → cond t (Ok place) (part_said is_refused n place.said place.part line (words_of line)) ≡ Ok next → IsPlaced (n + 1) next
     go true e = let same : place ≡ next = cc in subst (IsPlaced (n + 1)) same (same_placed n place.said place.part h)
-    go false e = part_placed n place.said place.part line _ next h e
+    go false e = part_placed is_refused n place.said place.part line _ next h e
 
-refused_in_order : (n : ℕ) (place : Place) (c : Cause) → IsPlaced n place → IsInOrder (refused place.said (told_line n place.part) c)
+refused_in_order : (n : ℕ) (place : Place) (c : Cause) → IsPlaced n place → IsInOrder (refused_at place.said (told_line n place.part) c)
 refused_in_order n place c h = record { limit = h.below.limit; placed = h.below.placed; rising = (told_line n place.part, h.below.rising); before_fault = h.below.rising }
 
-end_in_order : (n : ℕ) (said : Said) (part : Part) → IsPlaced n (at said part) → IsInOrder (record { said = said; fault = fault_at_end part })
+end_in_order : (n : ℕ) (said : Scenario) (part : Part) → IsPlaced n (at said part) → IsInOrder (record { said = said; fault = fault_at_end part })
 end_in_order n said Statements h = record { limit = h.below.limit; placed = h.below.placed; rising = (n, h.below.rising); before_fault = tt }
-end_in_order n said (Block opened body) h = record { limit = h.below.limit; placed = h.below.placed; rising = (opened, h.below.rising); before_fault = h.below.rising }
+end_in_order n said (Block opened checked body) h = record { limit = h.below.limit; placed = h.below.placed; rising = (opened, h.below.rising); before_fault = h.below.rising }
 end_in_order n said Schedule h = record { limit = h.below.limit; placed = h.below.placed; rising = (n, h.below.rising); before_fault = tt }
 
-rest_in_order : (n : ℕ) (place : Place) (line : List ℕ) (lines : List (List ℕ)) (r : Result Place Cause) → line_said n place line ≡ r → IsPlaced n place
-    → ((next : Place) → IsPlaced (n + 1) next → IsInOrder (reading_from (n + 1) next lines))
-    → IsInOrder (elim r as (λ _. Reading) [ Ok next ↦ reading_from (n + 1) next lines | Err c ↦ refused place.said (told_line n place.part) c ])
-rest_in_order n place line lines (Ok next) e h rest = rest next (line_placed n place line next h e)
-rest_in_order n place line lines (Err c) e h rest = refused_in_order n place c h
+rest_in_order : (is_refused : Refusals) (n : ℕ) (place : Place) (line : List ℕ) (lines : List (List ℕ)) (r : Result Place Cause) → line_said is_refused n place line ≡ r → IsPlaced n place
+    → ((next : Place) → IsPlaced (n + 1) next → IsInOrder (reading_from is_refused (n + 1) next lines))
+    → IsInOrder (elim r as (λ _. Reading) [ Ok next ↦ reading_from is_refused (n + 1) next lines | Err c ↦ refused_at place.said (told_line n place.part) c ])
+rest_in_order is_refused n place line lines (Ok next) e h rest = rest next (line_placed is_refused n place line next h e)
+rest_in_order is_refused n place line lines (Err c) e h rest = refused_in_order n place c h
 
-from_in_order : (n : ℕ) (place : Place) (lines : List (List ℕ)) → IsPlaced n place → IsInOrder (reading_from n place lines)
+from_in_order : (is_refused : Refusals) (n : ℕ) (place : Place) (lines : List (List ℕ)) → IsPlaced n place → IsInOrder (reading_from is_refused n place lines)
 unfolding reading_from
-from_in_order n place [] h = end_in_order n place.said place.part h
-from_in_order n place (line ∷ lines) h = rest_in_order n place line lines (line_said n place line) refl h (λ next g. from_in_order (n + 1) next lines g)
+from_in_order is_refused n place [] h = end_in_order n place.said place.part h
+from_in_order is_refused n place (line ∷ lines) h = rest_in_order is_refused n place line lines (line_said is_refused n place line) refl h (λ next g. from_in_order is_refused (n + 1) next lines g)
 
 -- every text
-pub text_in_order : (lines : List (List ℕ)) → IsInOrder (reading_from 1 start lines)
-text_in_order lines = from_in_order 1 start lines (record { below = record { limit = omega arith; placed = refl; rising = omega arith }; told = omega arith })
+pub text_in_order : (is_refused : Refusals) (lines : List (List ℕ)) → IsInOrder (reading_from is_refused 1 start lines)
+text_in_order is_refused lines = from_in_order is_refused 1 start lines (record { below = record { limit = omega arith; placed = refl; rising = omega arith }; told = omega arith })

@@ -47,4 +47,4 @@ follows_legal lib _ _ _ _ (goes w mid w2 p x turns items ready step rest) =
 pub ends_legal : (lib : Library) (w : World) (turns : List ℕ) (limit : ℕ) (items : List TraceItem) (w2 : World) (e : End) → EndsBy lib w turns limit items w2 e → IsLegalHistory lib w items w2
 ends_legal lib w turns limit items w2 end.Schedule follows = follows_legal lib w turns items w2 follows
 ends_legal lib w turns limit items w2 end.Limit stops = follows_legal lib w stops.0.taken items w2 stops.0.follows
-ends_legal lib w turns limit items w2 end.Memory stops = follows_legal lib w stops.taken items w2 stops.follows
+ends_legal lib w turns limit items w2 end.Memory stops = follows_legal lib w stops.0.taken items w2 stops.0.follows

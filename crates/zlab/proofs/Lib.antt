@@ -8,6 +8,7 @@ pub mod Walking
 pub mod Booting
 pub mod RunOutput
 pub mod Legal
+pub mod SoundWorlds
 pub mod Answering
 pub mod StoredRun
 pub mod RowsScenario

@@ -1,45 +1,41 @@
 -- The programs of a scenario, and the bytes that spell them.
-use Rattle.std.proofs.Common.{◌≡◌, Bool, true, false, ◌&&◌, not, [], ◌∷◌, ◌++◌, IsTrue, refl, ◌∙◌}
+use Rattle.std.proofs.Common.{◌≡◌, ℕ, ◌<◌, Bool, true, false, ◌&&◌, ltb, List, [], ◌∷◌, ◌++◌, length, Result, Ok, IsTrue, refl, sym, ap, ◌∙◌, arith}
 use Rattle.std.specs.List.{list_all}
+use Rattle.std.proofs.lemmas.Bool.{and_parts}
+use Rattle.std.proofs.lemmas.Bool.Decides.{nat_tests}
 use Rattle.std.proofs.lemmas.List.Folds.{list_all-append}
 use Rattle.zl_code.specs.Image.{Image, Library, Program}
 use Rattle.zl_code.specs.Spells.{Spells, spelling, is_in_range}
-use Rattle.zlab.specs.Reading.{Lists, spellings, is_plain}
+use Rattle.zlab.specs.declared.fault.Cause.{Cause}
+use Rattle.zlab.specs.Reading.{Lists, spellings, has_ranges}
+use Rattle.zlab.specs.Scenario.{Scenario, MOST_PROGRAMS, none_refused, with_program, program_said}
 
-first_true : (a b : Bool) → IsTrue (a && b) → a ≡ true
-first_true true b e = refl
-first_true false b e = absurd (cc)
+spelled : (p : Program) → IsTrue (has_ranges p) → Spells (spelling p.image) p.image
+unfolding has_ranges
+spelled p e = record { same = refl; in_range = e }
 
-last_true : (a b : Bool) → IsTrue (a && b) → b ≡ true
-last_true true b e = e
-last_true false b e = absurd (cc)
+-- a library lists what its bytes spell
+pub lists_all : (library : Library) → IsTrue (list_all has_ranges library) → Lists (spellings library) library
+lists_all [] e = tt
+lists_all (p ∷ library) e =
+    let both = and_parts (has_ranges p) (list_all has_ranges library) e in
+    (spelled p both.0, refl, lists_all library both.1)
 
-not_true : (a : Bool) → not a ≡ true → a ≡ false
-not_true true e = absurd (cc)
-not_true false e = refl
+ranges_by : (image : Image) → IsTrue (is_in_range image) → has_ranges (record { checked = false; image = image }) ≡ true
+unfolding has_ranges
+ranges_by image e = e
 
-plain_spells : (p : Program) → is_plain p ≡ true → Spells (spelling p.image) p.image
-unfolding is_plain
-plain_spells p e = record { same = refl; in_range = last_true (not p.checked) (is_in_range p.image) e }
+-- one more program
+pub program_pushed : (library : Library) (image : Image) → IsTrue (list_all has_ranges library) → IsTrue (is_in_range image) → IsTrue (list_all has_ranges (library ++ (record { checked = false; image = image } ∷ [])))
+program_pushed library image all here =
+    let more : list_all has_ranges (library ++ (record { checked = false; image = image } ∷ [])) ≡ (list_all has_ranges library && (has_ranges (record { checked = false; image = image }) && true)) =
+    list_all-append has_ranges library (record { checked = false; image = image } ∷ []) in
+    more ∙ rw (all, ranges_by image here) refl
 
-plain_raw : (p : Program) → is_plain p ≡ true → p.checked ≡ false
-unfolding is_plain
-plain_raw p e = not_true p.checked (first_true (not p.checked) (is_in_range p.image) e)
-
--- a library of plain programs lists what their bytes spell
-pub lists_plain : (library : Library) → IsTrue (list_all is_plain library) → Lists (spellings library) library
-lists_plain [] e = tt
-lists_plain (p ∷ library) e =
-    let here : is_plain p ≡ true = first_true (is_plain p) (list_all is_plain library) e in
-    (plain_spells p here, plain_raw p here, lists_plain library (last_true (is_plain p) (list_all is_plain library) e))
-
-plain_by : (image : Image) → IsTrue (is_in_range image) → is_plain (record { checked = false; image = image }) ≡ true
-unfolding is_plain
-plain_by image e = e
-
--- one more of them
-pub plain_pushed : (library : Library) (image : Image) → IsTrue (list_all is_plain library) → IsTrue (is_in_range image) → IsTrue (list_all is_plain (library ++ (record { checked = false; image = image } ∷ [])))
-plain_pushed library image all here =
-    let more : list_all is_plain (library ++ (record { checked = false; image = image } ∷ [])) ≡ (list_all is_plain library && (is_plain (record { checked = false; image = image }) && true)) =
-    list_all-append is_plain library (record { checked = false; image = image } ∷ []) in
-    more ∙ rw (all, plain_by image here) refl
+-- a block says one more program, where there is room for it
+pub said_more : (said new : Scenario) (bytes : List ℕ) (given : Result (List ℕ) Cause) → given ≡ Ok bytes → length said.programs < MOST_PROGRAMS → new ≡ with_program said false bytes
+    → program_said none_refused said false given ≡ Ok new
+unfolding program_said
+said_more said new bytes given is room added =
+    let test : ltb (length said.programs) MOST_PROGRAMS ≡ true = grind (arith, nat_tests) in
+    rw (is, test) (ap Ok (sym added))

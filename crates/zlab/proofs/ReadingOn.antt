@@ -5,21 +5,21 @@ use Rattle.std.specs.List.{enumerate_from}
 use Rattle.std.proofs.lemmas.List.{at_drop_more}
 use Rattle.std.proofs.lemmas.List.FromFn.{length-enumerate_from, get_or-enumerate_from}
 use Rattle.zlab.specs.declared.fault.Cause.{Cause}
-use Rattle.zlab.specs.Scenario.{Place, refused, told_line, line_said, reading_from, fault_at_end}
+use Rattle.zlab.specs.Scenario.{Place, Refusals, refused_at, told_line, line_said, reading_from, fault_at_end}
 
 -- ---- one line
 
-pub taken : (n : ℕ) (now new : Place) (line : List ℕ) (rest : List (List ℕ)) → line_said n now line ≡ Ok new → reading_from n now (line ∷ rest) ≡ reading_from (n + 1) new rest
+pub taken : (is_refused : Refusals) (n : ℕ) (now new : Place) (line : List ℕ) (rest : List (List ℕ)) → line_said is_refused n now line ≡ Ok new → reading_from is_refused n now (line ∷ rest) ≡ reading_from is_refused (n + 1) new rest
 unfolding reading_from
-taken n now new line rest said = rw (said, reading_from) refl
+taken is_refused n now new line rest said = rw (said, reading_from) refl
 
-pub stopped : (n : ℕ) (now : Place) (line : List ℕ) (rest : List (List ℕ)) (c : Cause) → line_said n now line ≡ Err c → reading_from n now (line ∷ rest) ≡ refused now.said (told_line n now.part) c
+pub stopped : (is_refused : Refusals) (n : ℕ) (now : Place) (line : List ℕ) (rest : List (List ℕ)) (c : Cause) → line_said is_refused n now line ≡ Err c → reading_from is_refused n now (line ∷ rest) ≡ refused_at now.said (told_line n now.part) c
 unfolding reading_from
-stopped n now line rest c said = rw (said, reading_from) refl
+stopped is_refused n now line rest c said = rw (said, reading_from) refl
 
-over : (n : ℕ) (now : Place) → reading_from n now [] ≡ record { said = now.said; fault = fault_at_end now.part }
+over : (is_refused : Refusals) (n : ℕ) (now : Place) → reading_from is_refused n now [] ≡ record { said = now.said; fault = fault_at_end now.part }
 unfolding reading_from
-over n now = refl
+over is_refused n now = refl
 
 -- ---- the lines that were numbered
 
@@ -39,34 +39,34 @@ turn_by lines n index line below e =
 -- ---- all lines
 
 -- one line more was read
-pub one_more : {A : Type 0} (v : A → List ℕ) (s now new : Place) (ys : List (ℕ × A)) (x : ℕ × A) (number : ℕ)
-    → ((rest : List (List ℕ)) → reading_from 1 s (map (λ p. v p.1) ys ++ rest) ≡ reading_from (length ys + 1) now rest) → number ≡ length ys + 1 → line_said number now (v x.1) ≡ Ok new
-    → (rest : List (List ℕ)) → reading_from 1 s (map (λ p. v p.1) (ys ++ x ∷ []) ++ rest) ≡ reading_from (length (ys ++ x ∷ []) + 1) new rest
-one_more v s now new ys x number so_far is said rest =
+pub one_more : {A : Type 0} (is_refused : Refusals) (v : A → List ℕ) (s now new : Place) (ys : List (ℕ × A)) (x : ℕ × A) (number : ℕ)
+    → ((rest : List (List ℕ)) → reading_from is_refused 1 s (map (λ p. v p.1) ys ++ rest) ≡ reading_from is_refused (length ys + 1) now rest) → number ≡ length ys + 1 → line_said is_refused number now (v x.1) ≡ Ok new
+    → (rest : List (List ℕ)) → reading_from is_refused 1 s (map (λ p. v p.1) (ys ++ x ∷ []) ++ rest) ≡ reading_from is_refused (length (ys ++ x ∷ []) + 1) new rest
+one_more is_refused v s now new ys x number so_far is said rest =
     let lines : map (λ p. v p.1) (ys ++ x ∷ []) ++ rest ≡ map (λ p. v p.1) ys ++ (v x.1 ∷ rest) =
     ap (λ (l : List (List ℕ)). l ++ rest) (map-append (λ p. v p.1) ys (x ∷ [])) ∙ append_assoc (map (λ p. v p.1) ys) (v x.1 ∷ []) rest in
     let count : length (ys ++ x ∷ []) + 1 ≡ number + 1 = omega (arith, length-append ys (x ∷ [])) in
-    ap (reading_from 1 s) lines
+    ap (reading_from is_refused 1 s) lines
     ∙ so_far (v x.1 ∷ rest)
-    ∙ ap (λ (n : ℕ). reading_from n now (v x.1 ∷ rest)) (sym is)
-    ∙ taken number now new (v x.1) rest said
-    ∙ ap (λ (n : ℕ). reading_from n new rest) (sym count)
+    ∙ ap (λ (n : ℕ). reading_from is_refused n now (v x.1 ∷ rest)) (sym is)
+    ∙ taken is_refused number now new (v x.1) rest said
+    ∙ ap (λ (n : ℕ). reading_from is_refused n new rest) (sym count)
 
 -- the next line is at fault
-pub at_fault : (done lines : List (List ℕ)) (s now : Place) (n index : ℕ) (line : List ℕ) (c : Cause)
-    → ((rest : List (List ℕ)) → reading_from 1 s (done ++ rest) ≡ reading_from (n + 1) now rest) → done ≡ take n lines → IsTurn lines n index line → line_said (index + 1) now line ≡ Err c
-    → reading_from 1 s lines ≡ refused now.said (told_line (index + 1) now.part) c
-at_fault done lines s now n index line c so_far front turn said =
+pub at_fault : (is_refused : Refusals) (done lines : List (List ℕ)) (s now : Place) (n index : ℕ) (line : List ℕ) (c : Cause)
+    → ((rest : List (List ℕ)) → reading_from is_refused 1 s (done ++ rest) ≡ reading_from is_refused (n + 1) now rest) → done ≡ take n lines → IsTurn lines n index line → line_said is_refused (index + 1) now line ≡ Err c
+    → reading_from is_refused 1 s lines ≡ refused_at now.said (told_line (index + 1) now.part) c
+at_fault is_refused done lines s now n index line c so_far front turn said =
     let cut : lines ≡ done ++ drop n lines = sym (take-append-drop n lines) ∙ ap (λ (l : List (List ℕ)). l ++ drop n lines) (sym front) in
-    ap (reading_from 1 s) cut
+    ap (reading_from is_refused 1 s) cut
     ∙ so_far (drop n lines)
-    ∙ at_drop_more (reading_from (n + 1) now) lines n line turn.within
-    ∙ ap (λ (l : List ℕ). reading_from (n + 1) now (l ∷ drop (n + 1) lines)) (sym turn.same)
-    ∙ ap (λ (k : ℕ). reading_from (k + 1) now (line ∷ drop (n + 1) lines)) (sym turn.number)
-    ∙ stopped (index + 1) now line (drop (n + 1) lines) c said
+    ∙ at_drop_more (reading_from is_refused (n + 1) now) lines n line turn.within
+    ∙ ap (λ (l : List ℕ). reading_from is_refused (n + 1) now (l ∷ drop (n + 1) lines)) (sym turn.same)
+    ∙ ap (λ (k : ℕ). reading_from is_refused (k + 1) now (line ∷ drop (n + 1) lines)) (sym turn.number)
+    ∙ stopped is_refused (index + 1) now line (drop (n + 1) lines) c said
 
 -- no line is left
-pub at_last : (done lines : List (List ℕ)) (s now : Place) (n : ℕ) → ((rest : List (List ℕ)) → reading_from 1 s (done ++ rest) ≡ reading_from (n + 1) now rest) → done ≡ lines
-    → reading_from 1 s lines ≡ record { said = now.said; fault = fault_at_end now.part }
-at_last done lines s now n so_far all =
-    ap (reading_from 1 s) (sym all ∙ sym (append-nil done)) ∙ so_far [] ∙ over (n + 1) now
+pub at_last : (is_refused : Refusals) (done lines : List (List ℕ)) (s now : Place) (n : ℕ) → ((rest : List (List ℕ)) → reading_from is_refused 1 s (done ++ rest) ≡ reading_from is_refused (n + 1) now rest) → done ≡ lines
+    → reading_from is_refused 1 s lines ≡ record { said = now.said; fault = fault_at_end now.part }
+at_last is_refused done lines s now n so_far all =
+    ap (reading_from is_refused 1 s) (sym all ∙ sym (append-nil done)) ∙ so_far [] ∙ over is_refused (n + 1) now

@@ -1,5 +1,5 @@
 -- Worked texts: what they say and their first faults, by computation.
-use Rattle.std.proofs.Common.{◌≡◌, ℕ, List, [], ◌∷◌, ◌++◌, Some, None, Err, replicate, refl}
+use Rattle.std.proofs.Common.{◌≡◌, ℕ, ◌==◌, true, false, List, [], ◌∷◌, ◌++◌, Some, None, Err, replicate, refl}
 use Rattle.std.specs.Prelude.{codes}
 use Rattle.std.specs.List.{flat_map}
 use Rattle.zl_code.specs.declared.boot.Statement.{Statement}
@@ -11,16 +11,20 @@ use Rattle.zlab.specs.declared.fault.Cause.{Cause}
 use Rattle.zlab.specs.declared.fault.Cause.TheVariants as cause
 use Rattle.zl_asm.specs.Words.{is_word}
 use Rattle.zlab.specs.Lines.{number_of, digits_of, bytes_of_digits, hex_digits_of_byte}
-use Rattle.zlab.specs.Scenario.{Said, Reading, refused, reading_of, reading_from, line_said, statement_said, block_said, body_said, digits_spelled, program_said, turns_said, body_named, limit_said, process_said, pair_said, is_end, digits_in}
+use Rattle.zlab.specs.Scenario.{Scenario, Listed, Reading, none_refused, refused_at, reading_of, reading_from, line_said, statement_said, block_said, body_said, digits_spelled, program_said, turns_said, body_named, limit_said, process_said, pair_said, is_end, digits_in, text_in}
 
-abbrev said : List (List ℕ) → List Statement → List ℕ → ℕ → List (ℕ × ℕ) → Said
+-- a raw program of these bytes
+abbrev raw : List ℕ → Listed
+raw bytes = record { checked = false; bytes = bytes }
+
+abbrev said : List Listed → List Statement → List ℕ → ℕ → List (ℕ × ℕ) → Scenario
 said programs statements lines limit schedule = record { programs = programs; statements = statements; lines = lines; limit = limit; schedule = schedule }
 
 -- nothing is said, and no line is at fault
-abbrev nothing : Said
+abbrev nothing : Scenario
 nothing = said [] [] [] 1000 []
 
-abbrev whole : Said → Reading
+abbrev whole : Scenario → Reading
 whole s = record { said = s; fault = None }
 
 -- the image of no instruction
@@ -29,147 +33,156 @@ empty_image = 0x5a ∷ 0x4c ∷ 0x41 ∷ 0x42 ∷ 1 ∷ 1 ∷ 0 ∷ 0 ∷ 0 ∷ 
 
 -- ---- texts without a fault
 
-empty : reading_of [] ≡ whole nothing
+empty : reading_of none_refused [] ≡ whole nothing
 unfolding reading_from line_said statement_said body_named limit_said process_said
 empty = refl
 
-blank_lines_and_comments : reading_of (codes "\n   \n# process 1\n#--\n") ≡ whole nothing
+blank_lines_and_comments : reading_of none_refused (codes "\n   \n# process 1\n#--\n") ≡ whole nothing
 unfolding reading_from line_said statement_said body_named limit_said process_said
 blank_lines_and_comments = refl
 
-last_limit_counts : reading_of (codes "limit 1000000\n  limit   0010  \n\nlimit 7") ≡ whole (said [] [] [] 7 [])
+last_limit_counts : reading_of none_refused (codes "limit 1000000\n  limit   0010  \n\nlimit 7") ≡ whole (said [] [] [] 7 [])
 unfolding reading_from line_said statement_said body_named limit_said process_said is_word number_of
 last_limit_counts = refl
 
-turns : reading_of (codes "--\n2 20\n\n# no turn\n  9 0 \n18446744073709551615 1000000") ≡ whole (said [] [] [] 1000 ((2, 20) ∷ (9, 0) ∷ (18446744073709551615, 1000000) ∷ []))
+turns : reading_of none_refused (codes "--\n2 20\n\n# no turn\n  9 0 \n18446744073709551615 1000000") ≡ whole (said [] [] [] 1000 ((2, 20) ∷ (9, 0) ∷ (18446744073709551615, 1000000) ∷ []))
 unfolding reading_from line_said statement_said body_named limit_said process_said turns_said pair_said is_word number_of
 turns = refl
 
 abbrev empty_program : List ℕ
 empty_program = codes "program raw hex\n5a4c4142 0101 0000\n# a comment\n\n 00000000 0 1\n000000 00000000\nend\n"
 
-a_program : reading_of empty_program ≡ whole (said (empty_image ∷ []) [] [] 1000 [])
+a_program : reading_of none_refused empty_program ≡ whole (said (raw empty_image ∷ []) [] [] 1000 [])
 unfolding reading_from line_said statement_said body_named limit_said process_said block_said is_end program_said digits_spelled body_said is_word digits_of bytes_of_digits first_fault header_fault pieces
 a_program = refl
 
-processes : reading_of (empty_program ++ codes "process 1 0 5\n\nprocess 77 0 0") ≡ whole (said (empty_image ∷ []) (statement.Process 1 0 5 ∷ statement.Process 77 0 0 ∷ []) (8 ∷ 10 ∷ []) 1000 [])
+processes : reading_of none_refused (empty_program ++ codes "process 1 0 5\n\nprocess 77 0 0") ≡ whole (said (raw empty_image ∷ []) (statement.Process 1 0 5 ∷ statement.Process 77 0 0 ∷ []) (8 ∷ 10 ∷ []) 1000 [])
 unfolding reading_from line_said statement_said body_named limit_said process_said block_said is_end program_said digits_spelled body_said is_word number_of digits_of bytes_of_digits first_fault header_fault pieces
 processes = refl
 
 -- the stored run
-stored_run : reading_of (codes "program raw hex\n5a4c41420101080000000000640000000000 0000\n46020300000000000000000000000000\n01050000000000000800000000000000\n47020300050000000000000000000000\n41020304000000000000008000000000\n40020300000000000000000000000000\n40020400000000000000000000000000\n40020400000000000000000000000000\n53000000000000000000000000000000\nend\nprocess 1 0 0\n--\n2 20\n")
-    ≡ whole (said (bytes ∷ []) (statement.Process 1 0 0 ∷ []) (12 ∷ []) 1000 ((2, 20) ∷ []))
+stored_run : reading_of none_refused (codes "program raw hex\n5a4c41420101080000000000640000000000 0000\n46020300000000000000000000000000\n01050000000000000800000000000000\n47020300050000000000000000000000\n41020304000000000000008000000000\n40020300000000000000000000000000\n40020400000000000000000000000000\n40020400000000000000000000000000\n53000000000000000000000000000000\nend\nprocess 1 0 0\n--\n2 20\n")
+    ≡ whole (said (raw bytes ∷ []) (statement.Process 1 0 0 ∷ []) (12 ∷ []) 1000 ((2, 20) ∷ []))
 unfolding reading_from line_said statement_said body_named limit_said process_said block_said is_end program_said digits_spelled body_said turns_said pair_said is_word number_of digits_of bytes_of_digits first_fault header_fault instr_fault row_of pieces
 stored_run = refl
 
 -- ---- first faults
 
-abbrev fails : Said → ℕ → Cause → Reading
-fails = refused
+abbrev fails : Scenario → ℕ → Cause → Reading
+fails = refused_at
 
-unknown_words : reading_of (codes "limit 1\nprocess 1 0\nlimit 2") ≡ fails (said [] [] [] 1 []) 2 cause.Syntax
+unknown_words : reading_of none_refused (codes "limit 1\nprocess 1 0\nlimit 2") ≡ fails (said [] [] [] 1 []) 2 cause.Syntax
 unfolding reading_from line_said statement_said body_named limit_said process_said is_word number_of
 unknown_words = refl
 
 -- tabs and carriage returns are parts of words
-other_blanks : reading_of (codes "limit 1\r\n") ≡ fails nothing 1 cause.Syntax
+other_blanks : reading_of none_refused (codes "limit 1\r\n") ≡ fails nothing 1 cause.Syntax
 unfolding reading_from line_said statement_said body_named limit_said process_said is_word number_of
 other_blanks = refl
 
 -- `#` counts as the first byte of a line only
-late_comment : reading_of (codes "\n #") ≡ fails nothing 2 cause.Syntax
+late_comment : reading_of none_refused (codes "\n #") ≡ fails nothing 2 cause.Syntax
 unfolding reading_from line_said statement_said body_named limit_said process_said is_word number_of
 late_comment = refl
 
-outside_ascii : reading_of (codes "\n# " ++ (195 ∷ 169 ∷ [])) ≡ fails nothing 2 cause.Syntax
+outside_ascii : reading_of none_refused (codes "\n# " ++ (195 ∷ 169 ∷ [])) ≡ fails nothing 2 cause.Syntax
 unfolding reading_from line_said statement_said body_named limit_said process_said is_word number_of
 outside_ascii = refl
 
-large_number : reading_of (codes "limit 18446744073709551616") ≡ fails nothing 1 cause.Syntax
+large_number : reading_of none_refused (codes "limit 18446744073709551616") ≡ fails nothing 1 cause.Syntax
 unfolding reading_from line_said statement_said body_named limit_said process_said is_word number_of
 large_number = refl
 
-signed_number : reading_of (codes "limit -1") ≡ fails nothing 1 cause.Syntax
+signed_number : reading_of none_refused (codes "limit -1") ≡ fails nothing 1 cause.Syntax
 unfolding reading_from line_said statement_said body_named limit_said process_said is_word number_of
 signed_number = refl
 
-large_limit : reading_of (codes "limit 1000001\nlimit 1\n--\n") ≡ fails nothing 1 cause.Limit
+large_limit : reading_of none_refused (codes "limit 1000001\nlimit 1\n--\n") ≡ fails nothing 1 cause.Limit
 unfolding reading_from line_said statement_said body_named limit_said process_said is_word number_of
 large_limit = refl
 
-missing_program : reading_of (codes "process 1 0 0\n") ≡ fails nothing 1 cause.Unknown
+missing_program : reading_of none_refused (codes "process 1 0 0\n") ≡ fails nothing 1 cause.Unknown
 unfolding reading_from line_said statement_said body_named limit_said process_said is_word number_of
 missing_program = refl
 
 -- a wrong number comes before a missing program
-wrong_number_first : reading_of (codes "process 1 0 x\n") ≡ fails nothing 1 cause.Syntax
+wrong_number_first : reading_of none_refused (codes "process 1 0 x\n") ≡ fails nothing 1 cause.Syntax
 unfolding reading_from line_said statement_said body_named limit_said process_said is_word number_of
 wrong_number_first = refl
 
 -- a block that no line ends, and `--` in a block
-open_block : reading_of (codes "\nprogram raw hex\n5a\n") ≡ fails nothing 2 cause.Syntax
+open_block : reading_of none_refused (codes "\nprogram raw hex\n5a\n") ≡ fails nothing 2 cause.Syntax
 unfolding reading_from line_said statement_said body_named limit_said process_said block_said is_end program_said digits_spelled body_said is_word digits_of bytes_of_digits first_fault
 open_block = refl
 
-dashes_in_block : reading_of (codes "\nprogram raw hex\n5a\n--\nend\n") ≡ fails nothing 2 cause.Syntax
+dashes_in_block : reading_of none_refused (codes "\nprogram raw hex\n5a\n--\nend\n") ≡ fails nothing 2 cause.Syntax
 unfolding reading_from line_said statement_said body_named limit_said process_said block_said is_end program_said digits_spelled body_said is_word digits_of bytes_of_digits first_fault
 dashes_in_block = refl
 
-capital_digit : reading_of (codes "program raw hex\n5A\nend\n") ≡ fails nothing 1 cause.Syntax
+capital_digit : reading_of none_refused (codes "program raw hex\n5A\nend\n") ≡ fails nothing 1 cause.Syntax
 unfolding reading_from line_said statement_said body_named limit_said process_said block_said is_end program_said digits_spelled body_said is_word digits_of bytes_of_digits first_fault
 capital_digit = refl
 
-odd_digits : reading_of (codes "program raw hex\n5a 4\nend\n") ≡ fails nothing 1 cause.Syntax
+odd_digits : reading_of none_refused (codes "program raw hex\n5a 4\nend\n") ≡ fails nothing 1 cause.Syntax
 unfolding reading_from line_said statement_said body_named limit_said process_said block_said is_end program_said digits_spelled body_said is_word digits_of bytes_of_digits first_fault
 odd_digits = refl
 
-outside_ascii_in_block : reading_of (codes "program raw hex\n# " ++ (195 ∷ 169 ∷ codes "\nend\n")) ≡ fails nothing 1 cause.Syntax
+outside_ascii_in_block : reading_of none_refused (codes "program raw hex\n# " ++ (195 ∷ 169 ∷ codes "\nend\n")) ≡ fails nothing 1 cause.Syntax
 unfolding reading_from line_said statement_said body_named limit_said process_said block_said is_end program_said digits_spelled body_said is_word digits_of bytes_of_digits first_fault
 outside_ascii_in_block = refl
 
-no_image : reading_of (codes "limit 5\nprogram raw hex\n5a\nend\nnonsense") ≡ fails (said [] [] [] 5 []) 2 cause.Program
+no_image : reading_of none_refused (codes "limit 5\nprogram raw hex\n5a\nend\nnonsense") ≡ fails (said [] [] [] 5 []) 2 cause.Program
 unfolding reading_from line_said statement_said body_named limit_said process_said block_said is_end program_said digits_spelled body_said is_word number_of digits_of bytes_of_digits first_fault header_fault pieces
 no_image = refl
 
 -- no block is opened by a wrong line
-checked_program : reading_of (codes "program checked hex\nend\n") ≡ fails nothing 1 cause.Syntax
+checked_program : reading_of none_refused (codes "program checked hex\nend\n") ≡ fails nothing 1 cause.Syntax
 unfolding reading_from line_said statement_said body_named limit_said process_said is_word number_of
 checked_program = refl
 
-second_dashes : reading_of (codes "--\n2 1\n--\n") ≡ fails (said [] [] [] 1000 ((2, 1) ∷ [])) 3 cause.Syntax
+second_dashes : reading_of none_refused (codes "--\n2 1\n--\n") ≡ fails (said [] [] [] 1000 ((2, 1) ∷ [])) 3 cause.Syntax
 unfolding reading_from line_said statement_said body_named limit_said process_said turns_said pair_said is_word number_of
 second_dashes = refl
 
-statement_in_schedule : reading_of (codes "--\nlimit 1\n") ≡ fails nothing 2 cause.Syntax
+statement_in_schedule : reading_of none_refused (codes "--\nlimit 1\n") ≡ fails nothing 2 cause.Syntax
 unfolding reading_from line_said statement_said body_named limit_said process_said turns_said pair_said is_word number_of
 statement_in_schedule = refl
 
-many_turns : reading_of (codes "--\n2 1000001\n") ≡ fails nothing 2 cause.Syntax
+many_turns : reading_of none_refused (codes "--\n2 1000001\n") ≡ fails nothing 2 cause.Syntax
 unfolding reading_from line_said statement_said body_named limit_said process_said turns_said pair_said is_word number_of
 many_turns = refl
 
 -- ---- the 257th program
 
-abbrev full : Said
-full = said (replicate 256 empty_image) [] [] 1000 []
+abbrev full : Scenario
+full = said (replicate 256 (raw empty_image)) [] [] 1000 []
 
 abbrev empty_digits : List ℕ
 empty_digits = flat_map hex_digits_of_byte empty_image
 
-too_many_programs : program_said full (digits_spelled empty_digits) ≡ Err cause.Limit
+too_many_programs : program_said none_refused full false (digits_spelled empty_digits) ≡ Err cause.Limit
 unfolding program_said digits_spelled body_said bytes_of_digits first_fault header_fault pieces
 too_many_programs = refl
 
 -- it is Syntax or Program before
-odd_digits_first : program_said full (digits_spelled (1 ∷ [])) ≡ Err cause.Syntax
+odd_digits_first : program_said none_refused full false (digits_spelled (1 ∷ [])) ≡ Err cause.Syntax
 unfolding program_said digits_spelled body_said
 odd_digits_first = refl
 
-no_image_first : program_said full (digits_spelled (1 ∷ 1 ∷ [])) ≡ Err cause.Program
+no_image_first : program_said none_refused full false (digits_spelled (1 ∷ 1 ∷ [])) ≡ Err cause.Program
 unfolding program_said digits_spelled body_said bytes_of_digits first_fault header_fault pieces
 no_image_first = refl
 
--- ---- the digits of lines
+-- a refused program that is marked as checked comes behind these, and before one too many
+refused_program : program_said (λ n. n == 256) full true (digits_spelled empty_digits) ≡ Err cause.Check
+unfolding program_said digits_spelled body_said bytes_of_digits first_fault header_fault pieces
+refused_program = refl
+
+no_image_before_refused : program_said (λ n. n == 256) full true (digits_spelled (1 ∷ 1 ∷ [])) ≡ Err cause.Program
+unfolding program_said digits_spelled body_said bytes_of_digits first_fault header_fault pieces
+no_image_before_refused = refl
+
+-- ---- the digits and the text of lines
 
 digits_of_lines : digits_in (codes "5a 4c4" ∷ codes "# 11" ∷ codes "" ∷ codes " 1" ∷ []) ≡ Some (5 ∷ 10 ∷ 4 ∷ 12 ∷ 4 ∷ 1 ∷ [])
 unfolding digits_in digits_of is_end is_word
@@ -182,3 +195,7 @@ no_digits = refl
 past_the_end : digits_in (codes "5a" ∷ codes " end " ∷ []) ≡ None
 unfolding digits_in digits_of is_end is_word
 past_the_end = refl
+
+text_of_lines : text_in (codes "  .raw" ∷ codes "# a comment" ∷ codes "" ∷ codes "end:" ∷ []) ≡ Some (codes "  .raw\n\nend:\n")
+unfolding text_in is_end is_word
+text_of_lines = refl

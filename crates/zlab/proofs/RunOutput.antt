@@ -1,5 +1,5 @@
 -- The text of a run, written piece by piece.
-use Rattle.std.proofs.Common.{◌≡◌, ℕ, ◌<◌, ◌≤◌, List, [], ◌∷◌, ◌++◌, length, map, take, get_or, Option, Some, None, refl, sym, ap, ◌∙◌, subst, append_assoc, append-nil, IsTrue, arith, zero, suc, inl, inr, ◌⊎◌, ◌+◌, ◌==◌, true, eq-eqb}
+use Rattle.std.proofs.Common.{◌≡◌, ℕ, ◌<◌, ◌≤◌, List, [], ◌∷◌, ◌++◌, length, map, take, get_or, Option, Some, None, refl, sym, ap, ◌∙◌, subst, append_assoc, append-nil, IsTrue, arith, zero, suc, inl, inr, ◌+◌, ◌==◌, true, eq-eqb}
 use Rattle.std.specs.Prelude.{slice_get}
 use Rattle.std.specs.List.{flat_map}
 use Rattle.std.specs.Option.{option_map}
@@ -8,7 +8,7 @@ use Rattle.std.specs.FinMap.Entries.{is_sorted, below_all}
 use Rattle.std.specs.Io.KnownBytes.{Appends}
 use Rattle.std.proofs.lemmas.Bool.{and_parts, cases_Bool, eqb-true}
 use Rattle.std.proofs.lemmas.Bool.Decides.{nat_tests}
-use Rattle.std.proofs.lemmas.Option.{slice_get-map, slice_get_within, get_or_from_slice_get, none-some, same_Some, slice_get_cases}
+use Rattle.std.proofs.lemmas.Option.{slice_get-map, slice_get_within, get_or_from_slice_get, none-some, same_Some}
 use Rattle.std.proofs.lemmas.List.{length-map, take_all}
 use Rattle.zl_rights.specs.Map.{Map, get}
 use Rattle.zl_rights.specs.World.{Process}
@@ -17,7 +17,7 @@ use Rattle.zl_calls.specs.World.{Lab, seen_in, seen_of, state_in}
 use Rattle.zlab.specs.declared.system.End.{End}
 use Rattle.zlab.specs.Engine.{states_of, IsRun, WritesRun, BeginsRun, some_lines}
 use Rattle.zlab.specs.Output.{AppendsBeginning, Gathers}
-use Rattle.zlab.specs.System.{Tracked, Walks}
+use Rattle.zlab.specs.System.{System, Walks}
 use Rattle.zlab.specs.Follows.{turns_of}
 use Rattle.zlab.specs.Text.{item_line, state_line, end_line, history_text}
 use Rattle.zlab.proofs.KnownOutput.{gathers_both, begun_after, gathers_line, begun_line}
@@ -109,16 +109,9 @@ module _ (l : Lab) (n : ℕ) (a c : Option (List ℕ)) (b d : List ℕ) (so_far 
   pub all_states : length l.world.processes ≤ n → Gathers a b c d (flat_map line_of (states_of l.world))
   all_states past = subst (λ (xs : List (ℕ × ProcState)). Gathers a b c d (flat_map line_of xs)) (take_all n (states_of l.world) (omega (arith, past, length-map {B = ℕ × ProcState} l.world.processes (λ p. (p.0, seen_in p.1.state))))) so_far
 
-  pub no_state_left : None ≡ slice_get (map (λ p. p.0) l.world.processes) n → Gathers a b c d (flat_map line_of (states_of l.world))
-  no_state_left none = all_states (by_test (slice_get_cases l.world.processes n).1)
-    where
-      by_test : ((x : ℕ × Process) × (n < length l.world.processes) × (slice_get l.world.processes n ≡ Some x) × (get_or l.world.processes n x ≡ x)) ⊎ ((length l.world.processes ≤ n) × (slice_get l.world.processes n ≡ None)) → length l.world.processes ≤ n
-      by_test (inl found) = absurd (none-some found.0.0 (none ∙ (slice_get-map (λ (p : ℕ × Process). p.0) l.world.processes n ∙ ap (option_map (λ (p : ℕ × Process). p.0)) found.2)))
-      by_test (inr past) = past.0
-
 -- ---- the whole text
 
-module _ (s last : Tracked) (pairs : List (ℕ × ℕ)) (e : End) (walks : Walks s (turns_of pairs) e last) where
+module _ (s last : System) (pairs : List (ℕ × ℕ)) (e : End) (walks : Walks s (turns_of pairs) e last) where
   abbrev items_text : List ℕ
   items_text = flat_map item_line last.items
 

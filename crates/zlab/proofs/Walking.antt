@@ -10,7 +10,7 @@ use Rattle.zl_calls.specs.World.{is_ready_in}
 use Rattle.zlab.specs.declared.system.End.{End}
 use Rattle.zlab.specs.declared.system.End.TheVariants as end
 use Rattle.zlab.specs.Follows.{Follows, ends, skips, goes, StopsBefore, EndsBy, turns_of}
-use Rattle.zlab.specs.System.{Tracked, Adds, Runs, Walks, room_of}
+use Rattle.zlab.specs.System.{System, Adds, Runs, Walks, room_of}
 
 -- ---- what follows a schedule
 
@@ -25,20 +25,20 @@ follows_skipping lib w p (suc n) not_ready = skips w w p (replicate n p) [] not_
 
 -- ---- walks
 
-adds_nothing : (s : Tracked) → Adds s [] s
+adds_nothing : (s : System) → Adds s [] s
 adds_nothing s = record { programs = refl; items = sym (append-nil s.items); limit = refl }
 
-adds_both : (s mid s2 : Tracked) (xs ys : List TraceItem) → Adds s xs mid → Adds mid ys s2 → Adds s (xs ++ ys) s2
+adds_both : (s mid s2 : System) (xs ys : List TraceItem) → Adds s xs mid → Adds mid ys s2 → Adds s (xs ++ ys) s2
 adds_both s mid s2 xs ys first second = record {
   programs = second.programs ∙ first.programs;
   items = second.items ∙ (ap (λ (zs : List TraceItem). zs ++ ys) first.items ∙ append_assoc s.items xs ys);
   limit = second.limit ∙ first.limit;
 }
 
-pub walks_nowhere : (s : Tracked) → Walks s [] end.Schedule s
+pub walks_nowhere : (s : System) → Walks s [] end.Schedule s
 walks_nowhere s = record { more = []; adds = adds_nothing s; room = omega arith; ends = ends s.lab.world }
 
-pub ran_walks : (s : Tracked) (p : ℕ) (s2 : Tracked) → Runs s p s2 → Walks s (p ∷ []) end.Schedule s2
+pub ran_walks : (s : System) (p : ℕ) (s2 : System) → Runs s p s2 → Walks s (p ∷ []) end.Schedule s2
 ran_walks s p s2 runs = record {
   more = runs.item ∷ [];
   adds = runs.adds;
@@ -46,21 +46,21 @@ ran_walks s p s2 runs = record {
   ends = goes s.lab.world s2.lab.world s2.lab.world p runs.item [] [] runs.ready runs.step (ends s2.lab.world);
 }
 
-pub skipped_walks : (s : Tracked) (p n : ℕ) → is_ready_in s.lab p ≡ false → Walks s (replicate n p) end.Schedule s
+pub skipped_walks : (s : System) (p n : ℕ) → is_ready_in s.lab p ≡ false → Walks s (replicate n p) end.Schedule s
 skipped_walks s p n not_ready = record { more = []; adds = adds_nothing s; room = omega arith; ends = follows_skipping s.lab.programs s.lab.world p n not_ready }
 
-stops_here : (s : Tracked) (p : ℕ) (us : List ℕ) → IsTrue (is_ready_in s.lab p) → StopsBefore s.lab.programs s.lab.world (p ∷ us) [] s.lab.world
+stops_here : (s : System) (p : ℕ) (us : List ℕ) → IsTrue (is_ready_in s.lab p) → StopsBefore s.lab.programs s.lab.world (p ∷ us) [] s.lab.world
 stops_here s p us ready = record { taken = []; next = p; left = us; are_all = refl; follows = ends s.lab.world; is_ready = ready }
 
-pub limited_walks : (s : Tracked) (p : ℕ) (us : List ℕ) → IsTrue (is_ready_in s.lab p) → s.limit ≤ length s.items → Walks s (p ∷ us) end.Limit s
+pub limited_walks : (s : System) (p : ℕ) (us : List ℕ) → IsTrue (is_ready_in s.lab p) → s.limit ≤ length s.items → Walks s (p ∷ us) end.Limit s
 limited_walks s p us ready full = record { more = []; adds = adds_nothing s; room = omega arith; ends = (stops_here s p us ready, omega (arith, full)) }
 
-pub wanting_walks : (s : Tracked) (p : ℕ) (us : List ℕ) → IsTrue (is_ready_in s.lab p) → Walks s (p ∷ us) end.Memory s
-wanting_walks s p us ready = record { more = []; adds = adds_nothing s; room = omega arith; ends = stops_here s p us ready }
+pub wanting_walks : (s : System) (p : ℕ) (us : List ℕ) → IsTrue (is_ready_in s.lab p) → length s.items < s.limit → Walks s (p ∷ us) end.Memory s
+wanting_walks s p us ready room = record { more = []; adds = adds_nothing s; room = omega arith; ends = (stops_here s p us ready, omega (arith, room)) }
 
 -- ---- one walk after another
 
-module _ (s mid s2 : Tracked) (ts us : List ℕ) (first : Walks s ts end.Schedule mid) where
+module _ (s mid s2 : System) (ts us : List ℕ) (first : Walks s ts end.Schedule mid) where
   stops_then : (ys : List TraceItem) (w2 : World) → StopsBefore mid.lab.programs mid.lab.world us ys w2 → StopsBefore s.lab.programs s.lab.world (ts ++ us) (first.more ++ ys) w2
   stops_then ys w2 stops = record {
     taken = ts ++ stops.taken;
@@ -77,7 +77,7 @@ module _ (s mid s2 : Tracked) (ts us : List ℕ) (first : Walks s ts end.Schedul
   ends_then : (e : End) (ys : List TraceItem) (w2 : World) → EndsBy mid.lab.programs mid.lab.world us (room_of mid) ys w2 e → EndsBy s.lab.programs s.lab.world (ts ++ us) (room_of s) (first.more ++ ys) w2 e
   ends_then end.Schedule ys w2 follows = follows_then s.lab.programs s.lab.world mid.lab.world w2 ts us first.more ys first.ends (subst (λ (lib : Library). Follows lib mid.lab.world us ys w2) first.adds.programs follows)
   ends_then end.Limit ys w2 stops = (stops_then ys w2 stops.0, omega (arith, stops.1, counts, first.adds.limit, first.room, length-append first.more ys))
-  ends_then end.Memory ys w2 stops = stops_then ys w2 stops
+  ends_then end.Memory ys w2 stops = (stops_then ys w2 stops.0, omega (arith, stops.1, counts, first.adds.limit, first.room, length-append first.more ys))
 
   pub walks_then : (e : End) → Walks mid us e s2 → Walks s (ts ++ us) e s2
   walks_then e second = record {
@@ -89,7 +89,7 @@ module _ (s mid s2 : Tracked) (ts us : List ℕ) (first : Walks s ts end.Schedul
 
 -- ---- turns of one process
 
-module _ (s mid s2 : Tracked) (p n count : ℕ) (first : Walks s (replicate n p) end.Schedule mid) where
+module _ (s mid s2 : System) (p n count : ℕ) (first : Walks s (replicate n p) end.Schedule mid) where
   pub once_more : Runs mid p s2 → Walks s (replicate (n + 1) p) end.Schedule s2
   once_more runs = subst (λ (turns : List ℕ). Walks s turns end.Schedule s2) (replicate_more n p) (walks_then s mid s2 (replicate n p) (p ∷ []) first end.Schedule (ran_walks mid p s2 runs))
 
@@ -97,20 +97,20 @@ module _ (s mid s2 : Tracked) (p n count : ℕ) (first : Walks s (replicate n p)
   turns_left some = replicate-append-replicate n (suc (count - (n + 1))) p ∙ ap (λ (k : ℕ). replicate k p) (omega (arith, some))
 
   pub no_more : n < count → (mid ≡ s2) → is_ready_in mid.lab p ≡ false → Walks s (replicate count p) end.Schedule s2
-  no_more some same busy = subst (λ (x : Tracked). Walks s (replicate count p) end.Schedule x) same
+  no_more some same busy = subst (λ (x : System). Walks s (replicate count p) end.Schedule x) same
       (subst (λ (turns : List ℕ). Walks s turns end.Schedule mid) (turns_left some) (walks_then s mid mid (replicate n p) (p ∷ replicate (count - (n + 1)) p) first end.Schedule (skipped_walks mid p (suc (count - (n + 1))) busy)))
 
   pub no_room : n < count → (mid ≡ s2) → IsTrue (is_ready_in mid.lab p) → mid.limit ≤ length mid.items → Walks s (replicate count p) end.Limit s2
-  no_room some same ready full = subst (λ (x : Tracked). Walks s (replicate count p) end.Limit x) same
+  no_room some same ready full = subst (λ (x : System). Walks s (replicate count p) end.Limit x) same
       (subst (λ (turns : List ℕ). Walks s turns end.Limit mid) (turns_left some) (walks_then s mid mid (replicate n p) (p ∷ replicate (count - (n + 1)) p) first end.Limit (limited_walks mid p (replicate (count - (n + 1)) p) ready full)))
 
-  pub no_memory : n < count → (mid ≡ s2) → IsTrue (is_ready_in mid.lab p) → Walks s (replicate count p) end.Memory s2
-  no_memory some same ready = subst (λ (x : Tracked). Walks s (replicate count p) end.Memory x) same
-      (subst (λ (turns : List ℕ). Walks s turns end.Memory mid) (turns_left some) (walks_then s mid mid (replicate n p) (p ∷ replicate (count - (n + 1)) p) first end.Memory (wanting_walks mid p (replicate (count - (n + 1)) p) ready)))
+  pub no_memory : n < count → (mid ≡ s2) → IsTrue (is_ready_in mid.lab p) → length mid.items < mid.limit → Walks s (replicate count p) end.Memory s2
+  no_memory some same ready room = subst (λ (x : System). Walks s (replicate count p) end.Memory x) same
+      (subst (λ (turns : List ℕ). Walks s turns end.Memory mid) (turns_left some) (walks_then s mid mid (replicate n p) (p ∷ replicate (count - (n + 1)) p) first end.Memory (wanting_walks mid p (replicate (count - (n + 1)) p) ready room)))
 
 -- ---- the pairs of a schedule
 
-module _ (s mid s2 : Tracked) (schedule : List (ℕ × ℕ)) (n : ℕ) (default : ℕ × ℕ) (some : n < length schedule) (first : Walks s (turns_of (take n schedule)) end.Schedule mid) where
+module _ (s mid s2 : System) (schedule : List (ℕ × ℕ)) (n : ℕ) (default : ℕ × ℕ) (some : n < length schedule) (first : Walks s (turns_of (take n schedule)) end.Schedule mid) where
   abbrev pair : ℕ × ℕ
   pair = get_or schedule n default
 
@@ -149,4 +149,4 @@ module _ (s mid s2 : Tracked) (schedule : List (ℕ × ℕ)) (n : ℕ) (default 
       by_end : (e : End) → (e ≡ end.Schedule → ⊥) → (ts us : List ℕ) (xs : List TraceItem) (w2 : World) → EndsBy s.lab.programs s.lab.world ts (room_of s) xs w2 e → EndsBy s.lab.programs s.lab.world (ts ++ us) (room_of s) xs w2 e
       by_end end.Schedule early ts us xs w2 stops = absurd (early refl)
       by_end end.Limit early ts us xs w2 stops = (stops_more s.lab.programs s.lab.world w2 ts us xs stops.0, stops.1)
-      by_end end.Memory early ts us xs w2 stops = stops_more s.lab.programs s.lab.world w2 ts us xs stops
+      by_end end.Memory early ts us xs w2 stops = (stops_more s.lab.programs s.lab.world w2 ts us xs stops.0, stops.1)

@@ -1,5 +1,5 @@
 -- The answer of the assembler to a text, for one writer or for the other.
-use Rattle.std.specs.Prelude.{ℕ, ◌≡◌, ◌≢◌, ◌⊎◌, ◌<◌, ◌≤◌, List, length, Option, None}
+use Rattle.std.specs.Prelude.{ℕ, ◌≡◌, ◌≢◌, ◌⊎◌, ◌<◌, List, length, Option, None}
 use Rattle.std.specs.Io.KnownBytes.{Appends}
 use Rattle.zl_code.specs.Image.{Image}
 use Rattle.zl_code.specs.Spells.{Spells}
@@ -8,25 +8,25 @@ use Rattle.zl_asm.specs.declared.fault.AsmCause.TheVariants as cause
 use Rattle.zl_asm.specs.Causes.{cause_name}
 use Rattle.zl_asm.specs.Listing.{listing_of}
 use Rattle.zl_asm.specs.Denotes.{Denotes}
-use Rattle.zlab.specs.declared.input.TheConstants.{MOST_INPUT}
 use Rattle.zlab.specs.declared.assembling.Assembled.{Assembled}
 use Rattle.zlab.specs.declared.assembling.Assembled.TheVariants as assembled
 use Rattle.zlab.specs.declared.fault.Verdict.{Verdict}
 use Rattle.zlab.specs.declared.fault.Verdict.TheVariants as verdict
 use Rattle.zlab.specs.Engine.{IsTextOf}
+use Rattle.zlab.specs.Input.{MOST_INPUT, FitsInput}
 use Rattle.zlab.specs.Output.{AppendsBeginning}
 use Rattle.zlab.specs.Text.{refused_line}
 
 -- the bytes are those of the image that the text denotes
 pub record IsImageOf (text bytes : List ℕ) : Type 0 where
-  pub few : length text ≤ MOST_INPUT
+  pub fits : FitsInput text
   pub image : Image
   pub denoted : Denotes text image
   pub spelled : Spells bytes image
 
 -- the text is too long, of which line 0 is told, or it denotes no image, of which a want of memory isn't told
 abbrev pub DenotesNone : List ℕ → AsmFault → Type 0
-DenotesNone text f = ((MOST_INPUT < length text) × (f.line ≡ 0) × (f.cause ≡ cause.Limit)) ⊎ ((length text ≤ MOST_INPUT) × (listing_of text ≡ None) × (f.cause ≢ cause.NoMemory))
+DenotesNone text f = ((MOST_INPUT < length text) × (f.line ≡ 0) × (f.cause ≡ cause.Limit)) ⊎ (FitsInput text × (listing_of text ≡ None) × (f.cause ≢ cause.NoMemory))
 
 -- what the text leads to
 abbrev pub Leads : List ℕ → Assembled → Type 0

@@ -1,5 +1,6 @@
 -- What the step engine answers to the bytes that it has read.
 use Rattle.std.specs.Prelude.{ℕ, ◌≡◌, ◌<◌, ◌≤◌, List, [], length, map, Option, Some, None, IfSome, slice_get}
+use Rattle.std.specs.List.{flat_map}
 use Rattle.std.specs.Io.KnownBytes.{Appends}
 use Rattle.zl_rights.specs.World.{World}
 use Rattle.zl_code.specs.declared.boot.BootCause.{BootCause}
@@ -8,7 +9,8 @@ use Rattle.zl_code.specs.declared.history.ProcState.{ProcState}
 use Rattle.zl_code.specs.declared.history.TraceItem.{TraceItem}
 use Rattle.zl_code.specs.Boot.{IsBoot, FirstFault}
 use Rattle.zl_code.specs.Image.{Library}
-use Rattle.zl_code.specs.Steps.{IsLegalHistory}
+use Rattle.zl_code.specs.Steps.{IsLegalHistory, single}
+use Rattle.zl_code.specs.Handles.{HandlesAreNamed, HandlesAreSound, Throughout}
 use Rattle.zl_calls.specs.World.{seen_in}
 use Rattle.zlab.specs.declared.engine.Booted.{Booted}
 use Rattle.zlab.specs.declared.engine.Booted.TheVariants as booted
@@ -17,18 +19,18 @@ use Rattle.zlab.specs.declared.fault.Cause.TheVariants as cause
 use Rattle.zlab.specs.declared.fault.LineFault.{LineFault}
 use Rattle.zlab.specs.declared.fault.Verdict.{Verdict}
 use Rattle.zlab.specs.declared.fault.Verdict.TheVariants as verdict
-use Rattle.zlab.specs.declared.input.TheConstants.{MOST_INPUT}
 use Rattle.zlab.specs.declared.system.End.{End}
 use Rattle.zlab.specs.Follows.{turns_of, EndsBy}
+use Rattle.zlab.specs.Input.{MOST_INPUT, FitsInput}
 use Rattle.zlab.specs.Output.{AppendsBeginning}
 use Rattle.zlab.specs.Reading.{Lists}
-use Rattle.zlab.specs.Scenario.{Said, reading_of}
-use Rattle.zlab.specs.System.{Tracked, Walks}
+use Rattle.zlab.specs.Scenario.{Scenario, Refusals, none_refused, reading_of}
+use Rattle.zlab.specs.System.{System, Walks}
 use Rattle.zlab.specs.Text.{history_text, cause_name, refused_line}
 
--- what the text says
-abbrev pub said_in : List ℕ → Said
-said_in text = (reading_of text).said
+-- what the text says, where these of its checked programs are refused
+abbrev pub said_in : Refusals → List ℕ → Scenario
+said_in is_refused text = (reading_of is_refused text).said
 
 -- ---- a trace
 
@@ -36,18 +38,26 @@ said_in text = (reading_of text).said
 abbrev pub states_of : World → List (ℕ × ProcState)
 states_of w = map (λ p. (p.0, seen_in p.1.state)) w.processes
 
+-- P is true of every world of the history, from the first to the last
+abbrev pub InEachWorld : (World → Type 0) → (lib : Library) (first : World) (items : List TraceItem) (last : World) → IsLegalHistory lib first items last → Type 0
+InEachWorld P lib first items last legal = Throughout P lib first (flat_map single items) last legal.run × P last
+
 -- The items are a legal history from a boot world of the scenario in the text, along its schedule, up to
 -- this end and within the limit. Neither the text nor a line of it is at fault.
-pub record IsRunOf (text : List ℕ) (items : List TraceItem) (w : World) (e : End) : Type 0 where
-  pub few : length text ≤ MOST_INPUT
-  pub no_fault : (reading_of text).fault ≡ None
+pub record IsRunOf (is_refused : Refusals) (text : List ℕ) (items : List TraceItem) (w : World) (e : End) : Type 0 where
+  pub fits : FitsInput text
+  pub no_fault : (reading_of is_refused text).fault ≡ None
   pub library : Library
-  pub programs : Lists (said_in text).programs library
+  pub programs : Lists (said_in is_refused text).programs library
   pub boot : World
-  pub boots : IsBoot library (said_in text).statements boot
+  pub boots : IsBoot library (said_in is_refused text).statements boot
   pub legal : IsLegalHistory library boot items w
-  pub room : length items ≤ (said_in text).limit
-  pub ends : EndsBy library boot (turns_of (said_in text).schedule) (said_in text).limit items w e
+  -- no two handles stand at one place, and none has a right that its kind doesn't give
+  pub sound : InEachWorld HandlesAreSound library boot items w legal
+  -- each handle names an object that is there, of the kind that the handle has
+  pub named : InEachWorld HandlesAreNamed library boot items w legal
+  pub room : length items ≤ (said_in is_refused text).limit
+  pub ends : EndsBy library boot (turns_of (said_in is_refused text).schedule) (said_in is_refused text).limit items w e
 
 -- ---- a refusal
 
@@ -63,21 +73,21 @@ line_cause boot.Conflict = Some cause.Conflict
 
 -- The first fault of the text: too many bytes; or, in a text that isn't too long, a statement that can't be done, before any fault of
 -- reading; or a fault of reading, where all statements before it can be done.
-pub data IsFirstFault (text : List ℕ) : LineFault → Type 0 where
-  too_long : MOST_INPUT < length text → IsFirstFault text (record { line = 0; cause = cause.Limit })
+pub data IsFirstFault (is_refused : Refusals) (text : List ℕ) : LineFault → Type 0 where
+  too_long : MOST_INPUT < length text → IsFirstFault is_refused text (record { line = 0; cause = cause.Limit })
   of_statement : (library : Library) (n : ℕ) (found : BootCause) (fault : LineFault)
-      → length text ≤ MOST_INPUT → Lists (said_in text).programs library → FirstFault library (said_in text).statements (said_in text).limit n found
-      → slice_get (said_in text).lines n ≡ Some fault.line → line_cause found ≡ Some fault.cause → IsFirstFault text fault
+      → FitsInput text → Lists (said_in is_refused text).programs library → FirstFault library (said_in is_refused text).statements (said_in is_refused text).limit n found
+      → slice_get (said_in is_refused text).lines n ≡ Some fault.line → line_cause found ≡ Some fault.cause → IsFirstFault is_refused text fault
   of_reading : (library : Library) (w : World) (fault : LineFault)
-      → length text ≤ MOST_INPUT → Lists (said_in text).programs library → IsBoot library (said_in text).statements w
-      → (reading_of text).fault ≡ Some fault → IsFirstFault text fault
+      → FitsInput text → Lists (said_in is_refused text).programs library → IsBoot library (said_in is_refused text).statements w
+      → (reading_of is_refused text).fault ≡ Some fault → IsFirstFault is_refused text fault
 
 -- ---- the answer
 
--- the lines are the answer to the text
+-- the lines are the answer to the text, where some of its checked programs are refused
 pub data IsAnswer (text : List ℕ) : Verdict → List ℕ → Type 0 where
-  trace : (items : List TraceItem) (w : World) (e : End) → IsRunOf text items w e → IsAnswer text verdict.Done (history_text items (states_of w) e)
-  refusal : (fault : LineFault) → IsFirstFault text fault → IsAnswer text verdict.Refused (refused_line fault.line (cause_name fault.cause))
+  trace : (is_refused : Refusals) (items : List TraceItem) (w : World) (e : End) → IsRunOf is_refused text items w e → IsAnswer text verdict.Done (history_text items (states_of w) e)
+  refusal : (is_refused : Refusals) (fault : LineFault) → IsFirstFault is_refused text fault → IsAnswer text verdict.Refused (refused_line fault.line (cause_name fault.cause))
 
 -- the bytes of a reader, which may tell what it has left
 pub record IsTextOf (told : Option (List ℕ)) (text : List ℕ) : Type 0 where
@@ -109,34 +119,34 @@ pub record BeginsReader (told old new : Option (List ℕ)) : Type 0 where
 -- ---- what the parts of the engine do
 
 -- the system stands before the first turn of the text's schedule
-pub record IsStart (text : List ℕ) (s : Tracked) (pairs : List (ℕ × ℕ)) : Type 0 where
-  pub few : length text ≤ MOST_INPUT
-  pub no_fault : (reading_of text).fault ≡ None
-  pub programs : Lists (said_in text).programs s.lab.programs
-  pub boots : IsBoot s.lab.programs (said_in text).statements s.lab.world
+pub record IsStart (text : List ℕ) (s : System) (pairs : List (ℕ × ℕ)) : Type 0 where
+  pub fits : FitsInput text
+  pub no_fault : (reading_of none_refused text).fault ≡ None
+  pub programs : Lists (said_in none_refused text).programs s.lab.programs
+  pub boots : IsBoot s.lab.programs (said_in none_refused text).statements s.lab.world
   pub items : s.items ≡ []
-  pub limit : s.limit ≡ (said_in text).limit
-  pub schedule : pairs ≡ (said_in text).schedule
+  pub limit : s.limit ≡ (said_in none_refused text).limit
+  pub schedule : pairs ≡ (said_in none_refused text).schedule
 
 -- what the text leads to, before the first step
 abbrev pub Starts : List ℕ → Booted → Type 0
 Starts text (booted.Runs system schedule) = IsStart text system schedule.items
-Starts text (booted.Refused fault) = IsFirstFault text fault
+Starts text (booted.Refused fault) = IsFirstFault none_refused text fault
 
 -- the system ran along the schedule
-pub record IsRun (s : Tracked) (schedule : List (ℕ × ℕ)) (lines : List ℕ) : Type 0 where
-  pub last : Tracked
+pub record IsRun (s : System) (schedule : List (ℕ × ℕ)) (lines : List ℕ) : Type 0 where
+  pub last : System
   pub end : End
   pub walks : Walks s (turns_of schedule) end last
   pub lines_are : lines ≡ history_text last.items (states_of last.lab.world) end
 
 -- the writer got the trace of a run along the schedule
-pub record WritesRun (s : Tracked) (schedule : List (ℕ × ℕ)) (old new : Option (List ℕ)) : Type 0 where
+pub record WritesRun (s : System) (schedule : List (ℕ × ℕ)) (old new : Option (List ℕ)) : Type 0 where
   pub lines : List ℕ
   pub is_run : IsRun s schedule lines
   pub written : Appends old new lines
 
 -- the writer got a beginning of such a trace, or nothing
-pub data BeginsRun (s : Tracked) (schedule : List (ℕ × ℕ)) (old : Option (List ℕ)) : Option (List ℕ) → Type 0 where
+pub data BeginsRun (s : System) (schedule : List (ℕ × ℕ)) (old : Option (List ℕ)) : Option (List ℕ) → Type 0 where
   no_line : BeginsRun s schedule old old
   some_lines : (lines : List ℕ) (new : Option (List ℕ)) → IsRun s schedule lines → AppendsBeginning old new lines → BeginsRun s schedule old new

@@ -1,5 +1,5 @@
 -- A history that follows a schedule, turn by turn, and how it ends.
-use Rattle.std.specs.Prelude.{ℕ, ◌≡◌, true, false, List, [], ◌∷◌, ◌++◌, length, replicate, IsTrue}
+use Rattle.std.specs.Prelude.{ℕ, ◌≡◌, ◌<◌, true, false, List, [], ◌∷◌, ◌++◌, length, replicate, IsTrue}
 use Rattle.std.specs.List.{flat_map}
 use Rattle.zl_rights.specs.World.{World}
 use Rattle.zl_rights.specs.Signals.{is_process, is_ready}
@@ -34,8 +34,8 @@ pub record StopsBefore (lib : Library) (w : World) (turns : List ℕ) (items : L
   pub is_ready : IsTrue (is_process w2 is_ready next)
 
 -- Each end where it belongs: every turn was taken; or a turn of a ready process was next, with just as
--- many items as the limit; or a turn of a ready process was next, and memory was refused.
+-- many items as the limit; or with fewer, and memory was refused.
 abbrev pub EndsBy : Library → World → List ℕ → ℕ → List TraceItem → World → End → Type 0
 EndsBy lib w turns limit items w2 end.Schedule = Follows lib w turns items w2
 EndsBy lib w turns limit items w2 end.Limit = StopsBefore lib w turns items w2 × (length items ≡ limit)
-EndsBy lib w turns limit items w2 end.Memory = StopsBefore lib w turns items w2
+EndsBy lib w turns limit items w2 end.Memory = StopsBefore lib w turns items w2 × (length items < limit)

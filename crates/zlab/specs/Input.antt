@@ -1,13 +1,20 @@
 -- What an engine reads: the whole input, unless it is too long.
-use Rattle.std.specs.Prelude.{◌≡◌, ℕ, ◌<◌, ◌≤◌, List, length, Option, IfSome}
+use Rattle.std.specs.Prelude.{◌≡◌, ℕ, ◌+◌, ◌<◌, ◌≤◌, List, length, Option, IfSome}
 use Rattle.std.specs.Io.KnownBytes.{Consumes}
-use Rattle.zlab.specs.declared.input.TheConstants.{MOST_INPUT}
 use Rattle.zlab.specs.declared.input.Input.{Input}
 use Rattle.zlab.specs.declared.input.Input.TheVariants as input
 
+-- the most bytes of an input
+abbrev pub MOST_INPUT : ℕ
+MOST_INPUT = 4194304
+
+-- the text isn't too long
+abbrev pub FitsInput : List ℕ → Type 0
+FitsInput text = length text ≤ MOST_INPUT
+
 -- the text has these bytes, or they are too many
 abbrev pub Holds : List ℕ → Input → Type 0
-Holds bytes (input.Text text) = (text.items ≡ bytes) × (length bytes ≤ MOST_INPUT)
+Holds bytes (input.Text text) = (text.items ≡ bytes) × FitsInput bytes
 Holds bytes input.TooLong = MOST_INPUT < length bytes
 
 -- the input is that of a reader, which may tell the bytes that it has left
@@ -16,8 +23,8 @@ pub record IsInputOf (told : Option (List ℕ)) (read : Input) : Type 0 where
   pub those_told : IfSome told (λ left. left ≡ bytes)
   pub holds : Holds bytes read
 
--- a reader gave up at most so many bytes, as far as it tells what it has left
-pub record TakesAtMost (old new : Option (List ℕ)) (most : ℕ) : Type 0 where
+-- a reader gave up no more than one byte past the most of an input, as far as it tells what it has left
+pub record TakesNoMore (old new : Option (List ℕ)) : Type 0 where
   pub taken : List ℕ
   pub consumed : Consumes old new taken
-  pub few : length taken ≤ most
+  pub at_most : length taken ≤ MOST_INPUT + 1

@@ -1,44 +1,44 @@
 -- What the reader of scenarios makes and answers, beside what the text says.
-use Rattle.std.specs.Prelude.{ℕ, ◌≡◌, Bool, true, false, ◌&&◌, not, List, [], ◌∷◌, map, None, is_some, Result, Ok, Err}
+use Rattle.std.specs.Prelude.{ℕ, ◌≡◌, Bool, true, false, List, [], ◌∷◌, map, None, is_some, Result, Ok, Err}
 use Rattle.zl_code.specs.Image.{Image, Library, Program}
 use Rattle.zl_code.specs.Spells.{Spells, spelling, is_in_range, first_fault}
 use Rattle.zlab.specs.declared.fault.Cause.{Cause}
 use Rattle.zlab.specs.declared.fault.Cause.TheVariants as cause
-use Rattle.zlab.specs.declared.scenario.Scenario.{Scenario}
+use Rattle.zlab.specs.declared.scenario.Scenario.{Scenario as Made}
 use Rattle.zlab.specs.declared.scenario.fault.Fault.{Fault}
 use Rattle.zlab.specs.declared.scenario.fault.Fault.TheVariants as fault
 use Rattle.zlab.specs.declared.scenario.part.Part.{Part as Seen}
 use Rattle.zlab.specs.declared.scenario.part.Part.TheVariants as seen
 use Rattle.zlab.specs.declared.scenario.body.Form.{Form}
 use Rattle.zlab.specs.declared.scenario.body.Form.TheVariants as form
-use Rattle.zlab.specs.Scenario.{Said, Body, Hex, Asm, Part, Statements, Block, Schedule}
+use Rattle.zlab.specs.Scenario.{Scenario, Listed, Body, Hex, Asm, Part, Statements, Block, Schedule}
 
 -- ---- what is made
 
--- one raw program for each, in their order, with the image that the bytes spell
-abbrev pub Lists : List (List ℕ) → Library → Type 0
+-- one program for each, in their order, with its mark and the image that its bytes spell
+abbrev pub Lists : List Listed → Library → Type 0
 Lists [] [] = Unit {0}
-Lists (bytes ∷ more) (p ∷ library) = Spells bytes p.image × (p.checked ≡ false) × Lists more library
+Lists (listed ∷ more) (p ∷ library) = Spells listed.bytes p.image × (p.checked ≡ listed.checked) × Lists more library
 Lists _ _ = ⊥
 
 -- the scenario is what was said
-pub record IsScenario (said : Said) (scenario : Scenario) : Type 0 where
+pub record IsScenario (said : Scenario) (scenario : Made) : Type 0 where
   pub programs : Lists said.programs scenario.library
   pub statements : scenario.boot.statements.items ≡ said.statements
   pub lines : scenario.lines.items ≡ said.lines
   pub limit : scenario.boot.limit ≡ said.limit
   pub schedule : scenario.schedule.items ≡ said.schedule
 
--- the bytes of each program
-abbrev pub spellings : Library → List (List ℕ)
-spellings library = map (λ p. spelling p.image) library
+-- the mark and the bytes of each program
+abbrev pub spellings : Library → List Listed
+spellings library = map (λ p. record { checked = p.checked; bytes = spelling p.image }) library
 
--- a raw program, each field of its image in its range
-unfoldable pub is_plain : Program → Bool
-is_plain p = not p.checked && is_in_range p.image
+-- each field of the program's image is in its range
+unfoldable pub has_ranges : Program → Bool
+has_ranges p = is_in_range p.image
 
 -- what a scenario says
-abbrev pub said_by : Scenario → Said
+abbrev pub said_by : Made → Scenario
 said_by s = record {
   programs = spellings s.library;
   statements = s.boot.statements.items;
@@ -49,10 +49,10 @@ said_by s = record {
 
 -- ---- what is answered
 
--- the part that the reader is in, which in a block holds this
+-- the part that the reader is in, which in a block holds this; no block is of a checked program yet
 abbrev pub part_with : Body → Seen → Part
 part_with body seen.Statements = Statements
-part_with body (seen.Block opened) = Block opened body
+part_with body (seen.Block opened) = Block opened false body
 part_with body seen.Schedule = Schedule
 
 -- what a block of this form holds: these digits, or this text

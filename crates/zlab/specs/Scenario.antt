@@ -11,10 +11,15 @@ use Rattle.zlab.specs.declared.fault.Cause.TheVariants as cause
 use Rattle.zlab.specs.declared.fault.LineFault.{LineFault}
 use Rattle.zlab.specs.Lines.{is_comment, words_of, number_of, digits_of, bytes_of_digits}
 
+-- a program of a scenario: whether it is marked as checked, and its bytes
+pub record Listed : Type 0 where
+  pub checked : Bool
+  pub bytes : List ℕ
+
 -- what lines have said
-pub record Said : Type 0 where
-  -- the bytes of each program, by its number
-  pub programs : List (List ℕ)
+pub record Scenario : Type 0 where
+  -- by their numbers
+  pub programs : List Listed
   pub statements : List Statement
   -- the line of each statement
   pub lines : List ℕ
@@ -31,17 +36,17 @@ pub data Body : Type 0 where
 -- what the next line belongs to
 pub data Part : Type 0 where
   Statements : Part
-  -- a program's block: the line that opens it, and what it holds so far
-  Block : ℕ → Body → Part
+  -- a program's block: the line that opens it, whether it is marked as checked, and what it holds so far
+  Block : (opened : ℕ) (checked : Bool) (body : Body) → Part
   Schedule : Part
 
 -- where a line stands: after what was said, in a part
 pub record Place : Type 0 where
-  pub said : Said
+  pub said : Scenario
   pub part : Part
 
 -- so much is said, and the next line belongs to this part
-abbrev pub at : Said → Part → Place
+abbrev pub at : Scenario → Part → Place
 at said part = record { said = said; part = part }
 
 -- before the first line; a trace has 1,000 items at most where no line says another limit
@@ -49,24 +54,24 @@ abbrev pub start : Place
 start = at (record { programs = []; statements = []; lines = []; limit = 1000; schedule = [] }) Statements
 
 -- what follows where nothing is at fault
-abbrev pub onto : Part → Result Said Cause → Result Place Cause
+abbrev pub onto : Part → Result Scenario Cause → Result Place Cause
 onto part (Ok said) = Ok (at said part)
 onto part (Err c) = Err c
 
 -- ---- statements
 
 -- one more statement, of line n
-abbrev pub with_statement : Said → ℕ → Statement → Said
+abbrev pub with_statement : Scenario → ℕ → Statement → Scenario
 with_statement said n s = record said { statements = said.statements ++ (s ∷ []); lines = said.lines ++ (n ∷ []) }
 
 -- `process JOB PROGRAM WORD`: three numbers, and a program that stands further up
-unfoldable pub process_said : ℕ → Said → Option ℕ → Option ℕ → Option ℕ → Result Said Cause
+unfoldable pub process_said : ℕ → Scenario → Option ℕ → Option ℕ → Option ℕ → Result Scenario Cause
 process_said n said (Some job) (Some program) (Some word) =
     if nat_lt program (length said.programs) then Ok (with_statement said n (statement.Process job program word)) else Err cause.Unknown
 process_said n said _ _ _ = Err cause.Syntax
 
 -- `limit N`: a number, and at most the largest limit of a trace; the last one counts
-unfoldable pub limit_said : Said → Option ℕ → Result Said Cause
+unfoldable pub limit_said : Scenario → Option ℕ → Result Scenario Cause
 limit_said said (Some limit) = if nat_le limit MOST_ITEMS then Ok (record said { limit = limit }) else Err cause.Limit
 limit_said said None = Err cause.Syntax
 
@@ -77,13 +82,13 @@ body_named name mark form =
     (if is_word form (codes "hex") then Some (Hex []) else (if is_word form (codes "asm") then Some (Asm []) else None))
     else None
 
--- line n opens a block of this form, if it is one
-abbrev pub opened_by : ℕ → Said → Option Body → Result Place Cause
-opened_by n said (Some body) = Ok (at said (Block n body))
+-- line n opens a block of this form, if it is one; no program is marked as checked yet
+abbrev pub opened_by : ℕ → Scenario → Option Body → Result Place Cause
+opened_by n said (Some body) = Ok (at said (Block n false body))
 opened_by n said None = Err cause.Syntax
 
 -- the words of line n, which stands among the statements
-unfoldable pub statement_said : ℕ → Said → List (List ℕ) → Result Place Cause
+unfoldable pub statement_said : ℕ → Scenario → List (List ℕ) → Result Place Cause
 statement_said n said [] = Ok (at said Statements)
 statement_said n said (name ∷ []) = if is_word name (codes "--") then Ok (at said Schedule) else Err cause.Syntax
 statement_said n said (name ∷ most ∷ []) = if is_word name (codes "limit") then onto Statements (limit_said said (number_of most)) else Err cause.Syntax
@@ -99,8 +104,8 @@ abbrev pub MOST_PROGRAMS : ℕ
 MOST_PROGRAMS = 256
 
 -- one more program, of these bytes
-abbrev pub with_program : Said → List ℕ → Said
-with_program said bytes = record said { programs = said.programs ++ (bytes ∷ []) }
+abbrev pub with_program : Scenario → Bool → List ℕ → Scenario
+with_program said checked bytes = record said { programs = said.programs ++ (record { checked = checked; bytes = bytes } ∷ []) }
 
 -- the bytes of an image that a whole block's digits spell: an even count of them
 unfoldable pub digits_spelled : List ℕ → Result (List ℕ) Cause
@@ -119,10 +124,20 @@ abbrev pub bytes_said : Body → Result (List ℕ) Cause
 bytes_said (Hex digits) = digits_spelled digits
 bytes_said (Asm text) = text_spelled (image_bytes_of text)
 
--- one program more, if it isn't one too many
-unfoldable pub program_said : Said → Result (List ℕ) Cause → Result Said Cause
-program_said said (Ok bytes) = if nat_lt (length said.programs) MOST_PROGRAMS then Ok (with_program said bytes) else Err cause.Limit
-program_said said (Err c) = Err c
+-- which programs are refused, by their numbers, if they are marked as checked
+abbrev pub Refusals : Type 0
+Refusals = ℕ → Bool
+
+-- no program is refused
+abbrev pub none_refused : Refusals
+none_refused n = false
+
+-- one program more, if it isn't refused, and isn't one too many
+unfoldable pub program_said : Refusals → Scenario → Bool → Result (List ℕ) Cause → Result Scenario Cause
+program_said is_refused said checked (Ok bytes) =
+    if checked && is_refused (length said.programs) then Err cause.Check
+    else (if nat_lt (length said.programs) MOST_PROGRAMS then Ok (with_program said checked bytes) else Err cause.Limit)
+program_said is_refused said checked (Err c) = Err c
 
 -- a line's digits after those before it
 abbrev pub digits_said : List ℕ → Option (List ℕ) → Result (List ℕ) Cause
@@ -140,9 +155,9 @@ body_said (Hex digits) line = hex_with (digits_said digits (digits_of line))
 body_said (Asm text) line = Ok (Asm (text ++ (line ++ codes "\n")))
 
 -- the block goes on, if the line is not at fault
-abbrev pub onto_block : Said → ℕ → Result Body Cause → Result Place Cause
-onto_block said opened (Ok body) = Ok (at said (Block opened body))
-onto_block said opened (Err c) = Err c
+abbrev pub onto_block : Scenario → ℕ → Bool → Result Body Cause → Result Place Cause
+onto_block said opened checked (Ok body) = Ok (at said (Block opened checked body))
+onto_block said opened checked (Err c) = Err c
 
 -- the one word `end`
 unfoldable pub is_end : List (List ℕ) → Bool
@@ -150,9 +165,9 @@ is_end (name ∷ []) = is_word name (codes "end")
 is_end _ = false
 
 -- a line of a block, and its words: the one word `end`, or what the block is made of
-unfoldable pub block_said : Said → ℕ → Body → List ℕ → List (List ℕ) → Result Place Cause
-block_said said opened body line words =
-    if is_end words then onto Statements (program_said said (bytes_said body)) else onto_block said opened (body_said body line)
+unfoldable pub block_said : Refusals → Scenario → ℕ → Bool → Body → List ℕ → List (List ℕ) → Result Place Cause
+block_said is_refused said opened checked body line words =
+    if is_end words then onto Statements (program_said is_refused said checked (bytes_said body)) else onto_block said opened checked (body_said body line)
 
 -- ---- the schedule
 
@@ -161,16 +176,16 @@ abbrev pub MOST_TURNS : ℕ
 MOST_TURNS = 1000000
 
 -- so many turns more of a process
-abbrev pub with_turns : Said → ℕ → ℕ → Said
+abbrev pub with_turns : Scenario → ℕ → ℕ → Scenario
 with_turns said pid count = record said { schedule = said.schedule ++ ((pid, count) ∷ []) }
 
 -- `PID COUNT`: two numbers, and not too many turns
-unfoldable pub pair_said : Said → Option ℕ → Option ℕ → Result Said Cause
+unfoldable pub pair_said : Scenario → Option ℕ → Option ℕ → Result Scenario Cause
 pair_said said (Some pid) (Some count) = if nat_le count MOST_TURNS then Ok (with_turns said pid count) else Err cause.Syntax
 pair_said said _ _ = Err cause.Syntax
 
 -- the words of a line after the line `--`
-unfoldable pub turns_said : Said → List (List ℕ) → Result Said Cause
+unfoldable pub turns_said : Scenario → List (List ℕ) → Result Scenario Cause
 turns_said said [] = Ok said
 turns_said said (pid ∷ count ∷ []) = pair_said said (number_of pid) (number_of count)
 turns_said said _ = Err cause.Syntax
@@ -178,60 +193,46 @@ turns_said said _ = Err cause.Syntax
 -- ---- one line, and all lines
 
 -- a line and its words, by the part that the line belongs to
-abbrev pub part_said : ℕ → Said → Part → List ℕ → List (List ℕ) → Result Place Cause
-part_said n said Statements line words = statement_said n said words
-part_said n said (Block opened body) line words = block_said said opened body line words
-part_said n said Schedule line words = onto Schedule (turns_said said words)
-
--- it is the text of the assembler
-abbrev pub is_text_body : Body → Bool
-is_text_body (Asm text) = true
-is_text_body (Hex digits) = false
-
--- the part is a block of such text
-abbrev pub is_text : Part → Bool
-is_text (Block opened body) = is_text_body body
-is_text _ = false
-
--- a comment, but in the text of the assembler, which has its own
-abbrev pub is_skipped : Part → List ℕ → Bool
-is_skipped part line = not (is_text part) && is_comment line
+abbrev pub part_said : Refusals → ℕ → Scenario → Part → List ℕ → List (List ℕ) → Result Place Cause
+part_said is_refused n said Statements line words = statement_said n said words
+part_said is_refused n said (Block opened checked body) line words = block_said is_refused said opened checked body line words
+part_said is_refused n said Schedule line words = onto Schedule (turns_said said words)
 
 -- line n, where it stands: a byte outside ASCII is a fault in a comment too, and a comment says nothing
-unfoldable pub line_said : ℕ → Place → List ℕ → Result Place Cause
-line_said n place line =
-    if is_ascii line then (if is_skipped place.part line then Ok place else part_said n place.said place.part line (words_of line)) else Err cause.Syntax
+unfoldable pub line_said : Refusals → ℕ → Place → List ℕ → Result Place Cause
+line_said is_refused n place line =
+    if is_ascii line then (if is_comment line then Ok place else part_said is_refused n place.said place.part line (words_of line)) else Err cause.Syntax
 
 -- the line that a fault of line n is told of: in a block the one that opens it
 abbrev pub told_line : ℕ → Part → ℕ
-told_line n (Block opened body) = opened
+told_line n (Block opened checked body) = opened
 told_line n _ = n
 
 -- what a text says: all that stands before its first fault, and that fault
 pub record Reading : Type 0 where
-  pub said : Said
+  pub said : Scenario
   pub fault : Option LineFault
 
 -- line n is the first at fault
-abbrev pub refused : Said → ℕ → Cause → Reading
-refused said line c = record { said = said; fault = Some (record { line = line; cause = c }) }
+abbrev pub refused_at : Scenario → ℕ → Cause → Reading
+refused_at said line c = record { said = said; fault = Some (record { line = line; cause = c }) }
 
 -- after the last line: a block that no line ends
 abbrev pub fault_at_end : Part → Option LineFault
-fault_at_end (Block opened body) = Some (record { line = opened; cause = cause.Syntax })
+fault_at_end (Block opened checked body) = Some (record { line = opened; cause = cause.Syntax })
 fault_at_end _ = None
 
 -- the lines from number n on, from where they stand
-unfoldable pub reading_from : ℕ → Place → List (List ℕ) → Reading
-reading_from n place [] = record { said = place.said; fault = fault_at_end place.part }
-reading_from n place (line ∷ lines) = elim (line_said n place line) as (λ _. Reading) [
-  | Ok next ↦ reading_from (n + 1) next lines
-  | Err c ↦ refused place.said (told_line n place.part) c
+unfoldable pub reading_from : Refusals → ℕ → Place → List (List ℕ) → Reading
+reading_from is_refused n place [] = record { said = place.said; fault = fault_at_end place.part }
+reading_from is_refused n place (line ∷ lines) = elim (line_said is_refused n place line) as (λ _. Reading) [
+  | Ok next ↦ reading_from is_refused (n + 1) next lines
+  | Err c ↦ refused_at place.said (told_line n place.part) c
 ]
 
--- a whole text
-abbrev pub reading_of : List ℕ → Reading
-reading_of text = reading_from 1 start (lines_of text)
+-- a whole text, where these of its checked programs are refused
+abbrev pub reading_of : Refusals → List ℕ → Reading
+reading_of is_refused text = reading_from is_refused 1 start (lines_of text)
 
 -- ---- in which order
 
@@ -261,26 +262,27 @@ digits_in (line ∷ lines) =
     if is_ascii line && not (is_end (words_of line)) then joined (if is_comment line then Some [] else digits_of line) (digits_in lines) else None
 
 -- what follows a block from the line of this number on, by what all of it says
-abbrev pub after_block : ℕ → ℕ → Said → List (List ℕ) → Result Said Cause → Reading
-after_block opened n said rest (Ok new) = reading_from n (at new Statements) rest
-after_block opened n said rest (Err c) = refused said opened c
+abbrev pub after_block : Refusals → ℕ → ℕ → Scenario → List (List ℕ) → Result Scenario Cause → Reading
+after_block is_refused opened n said rest (Ok new) = reading_from is_refused n (at new Statements) rest
+after_block is_refused opened n said rest (Err c) = refused_at said opened c
 
--- the text of the lines of a block of the assembler; nothing where a line is `end`, or has a byte outside ASCII
+-- the text of the lines of a block of the assembler, comments aside; nothing where a line is `end`, or has a byte outside ASCII
 unfoldable pub text_in : List (List ℕ) → Option (List ℕ)
 text_in [] = Some []
-text_in (line ∷ lines) = if is_ascii line && not (is_end (words_of line)) then joined (Some (line ++ codes "\n")) (text_in lines) else None
+text_in (line ∷ lines) =
+    if is_ascii line && not (is_end (words_of line)) then joined (if is_comment line then Some [] else Some (line ++ codes "\n")) (text_in lines) else None
 
 -- from the line `program raw hex` to the line `end`, a block says what all of its digits say, or it is at fault as a whole
 abbrev pub DigitsAreWhole : Type 0
-DigitsAreWhole = (n : ℕ) (said : Said) (lines rest : List (List ℕ)) (digits : List ℕ) → digits_in lines ≡ Some digits
-    → reading_from n (at said Statements) (codes "program raw hex" ∷ (lines ++ (codes "end" ∷ rest)))
-    ≡ after_block n (n + 2 + length lines) said rest (program_said said (digits_spelled digits))
+DigitsAreWhole = (is_refused : Refusals) (n : ℕ) (said : Scenario) (lines rest : List (List ℕ)) (digits : List ℕ) → digits_in lines ≡ Some digits
+    → reading_from is_refused n (at said Statements) (codes "program raw hex" ∷ (lines ++ (codes "end" ∷ rest)))
+    ≡ after_block is_refused n (n + 2 + length lines) said rest (program_said is_refused said false (digits_spelled digits))
 
 -- and from the line `program raw asm` on, the image that all of its text denotes
 abbrev pub TextIsWhole : Type 0
-TextIsWhole = (n : ℕ) (said : Said) (lines rest : List (List ℕ)) (text : List ℕ) → text_in lines ≡ Some text
-    → reading_from n (at said Statements) (codes "program raw asm" ∷ (lines ++ (codes "end" ∷ rest)))
-    ≡ after_block n (n + 2 + length lines) said rest (program_said said (text_spelled (image_bytes_of text)))
+TextIsWhole = (is_refused : Refusals) (n : ℕ) (said : Scenario) (lines rest : List (List ℕ)) (text : List ℕ) → text_in lines ≡ Some text
+    → reading_from is_refused n (at said Statements) (codes "program raw asm" ∷ (lines ++ (codes "end" ∷ rest)))
+    ≡ after_block is_refused n (n + 2 + length lines) said rest (program_said is_refused said false (text_spelled (image_bytes_of text)))
 
 -- a block of either form gives what all of its lines say together
 pub record BlocksAreWhole : Type 0 where

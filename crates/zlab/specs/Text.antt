@@ -50,6 +50,7 @@ history_text items processes e = flat_map item_line items ++ (flat_map (λ p. st
 abbrev pub cause_name : Cause → List ℕ
 cause_name cause.Syntax = codes "Syntax"
 cause_name cause.Program = codes "Program"
+cause_name cause.Check = codes "Check"
 cause_name cause.Unknown = codes "Unknown"
 cause_name cause.BadHandleList = codes "BadHandleList"
 cause_name cause.NeedDenied = codes "NeedDenied"

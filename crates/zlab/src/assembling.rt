@@ -1,14 +1,14 @@
 //! The engine of the assembler: a text is read, and its image written, or the line of its fault.
-ghost use Rattle.std.specs.Prelude.{◌≡◌, ◌≢◌, ◌+◌, ◌≤◌, length, IfOk, IfErr, OnOk, OnErr};
+ghost use Rattle.std.specs.Prelude.{◌≡◌, ◌≢◌, IfOk, IfErr, OnOk, OnErr};
 ghost use Rattle.std.specs.Io.KnownBytes.{Appends};
 ghost use Rattle.zl_asm.specs.Causes.{cause_name};
-ghost use Rattle.zlab.specs.Input.{TakesAtMost};
+ghost use Rattle.zlab.specs.Input.{FitsInput, TakesNoMore};
 ghost use Rattle.zlab.specs.Output.{AppendsBeginning};
 ghost use Rattle.zlab.specs.Text.{refused_line};
 ghost use Rattle.zlab.specs.Assembling.{Leads, ReadsTo, AssemblesReader, BeginsAssembly};
 
 use crate::fault::{EngineFault, Verdict};
-use crate::input::{Input, MOST_INPUT, read_input};
+use crate::input::{Input, read_input};
 use crate::output::{write_all, write_block};
 use crate::text::push_refusal;
 use std::alloc::Global;
@@ -42,10 +42,14 @@ pub fn asm_engine<R: Read, I: Write, L: Write>(
     image: &mut I,
     line: &mut L,
 ) -> Result<Verdict, EngineFault>
-    ensures ok { IfOk result (λ verdict. AssemblesReader (R.remaining text.old) verdict (I.contents image.old) (I.contents image.new) (L.contents line.old) (L.contents line.new)) }
-    ensures err { OnErr result (BeginsAssembly (R.remaining text.old) (I.contents image.old) (I.contents image.new) (L.contents line.old) (L.contents line.new)) }
-    ensures read { IfErr result (λ fault. fault ≡ EngineFault.Read → (I.contents image.new ≡ I.contents image.old) × (L.contents line.new ≡ L.contents line.old)) }
-    ensures taken { TakesAtMost (R.remaining text.old) (R.remaining text.new) (MOST_INPUT + 1) }
+    ensures ok { IfOk result (λ verdict. AssemblesReader (R.remaining text.old) verdict
+        (I.contents image.old) (I.contents image.new) (L.contents line.old) (L.contents line.new)) }
+    ensures err { OnErr result (BeginsAssembly (R.remaining text.old) (I.contents image.old)
+        (I.contents image.new) (L.contents line.old) (L.contents line.new)) }
+    ensures read { IfErr result (λ fault. fault ≡ EngineFault.Read
+        → (I.contents image.new ≡ I.contents image.old)
+        × (L.contents line.new ≡ L.contents line.old)) }
+    ensures taken { TakesNoMore (R.remaining text.old) (R.remaining text.new) }
 {
     match read_text(alloc, text)? {
         Assembled::Image(bytes) => {
@@ -62,7 +66,7 @@ pub fn asm_engine<R: Read, I: Write, L: Write>(
 /// What the whole text of the reader leads to.
 fn read_text<R: Read>(alloc: Global, reader: &mut R) -> Result<Assembled, EngineFault>
     ensures read { IfOk result (ReadsTo (R.remaining reader.old)) }
-    ensures taken { TakesAtMost (R.remaining reader.old) (R.remaining reader.new) (MOST_INPUT + 1) }
+    ensures taken { TakesNoMore (R.remaining reader.old) (R.remaining reader.new) }
 {
     match read_input(alloc, reader)? {
         Input::Text(text) => assemble_text(alloc, text.as_slice()),
@@ -72,7 +76,7 @@ fn read_text<R: Read>(alloc: Global, reader: &mut R) -> Result<Assembled, Engine
 
 /// What a text leads to that isn't too long.
 fn assemble_text(alloc: Global, text: &[u8]) -> Result<Assembled, EngineFault>
-    requires { length text.now ≤ MOST_INPUT }
+    requires { FitsInput text.now }
     ensures ok { IfOk result (Leads text.now) }
     ensures err { IfErr result (λ fault. fault ≡ EngineFault.NoMemory) }
 {
@@ -87,8 +91,10 @@ fn assemble_text(alloc: Global, text: &[u8]) -> Result<Assembled, EngineFault>
 
 /// Writes the line of the fault.
 fn write_fault<W: Write>(alloc: Global, writer: &mut W, fault: AsmFault) -> Result<(), EngineFault>
-    ensures ok { OnOk result (Appends (W.contents writer.old) (W.contents writer.new) (refused_line fault.line (cause_name fault.cause))) }
-    ensures err { OnErr result (AppendsBeginning (W.contents writer.old) (W.contents writer.new) (refused_line fault.line (cause_name fault.cause))) }
+    ensures ok { OnOk result (Appends (W.contents writer.old) (W.contents writer.new)
+        (refused_line fault.line (cause_name fault.cause))) }
+    ensures err { OnErr result (AppendsBeginning (W.contents writer.old) (W.contents writer.new)
+        (refused_line fault.line (cause_name fault.cause))) }
     ensures fault { IfErr result (λ fault. fault ≢ EngineFault.Read) }
 {
     let mut block = String::new(alloc);

@@ -1,14 +1,14 @@
 //! The engine: an input is read, and its answer written.
-ghost use Rattle.std.specs.Prelude.{◌≡◌, ◌≢◌, ◌++◌, ◌+◌, ◌≤◌, length, slice_index_or, Some, IfOk, IfErr, OnOk, OnErr, string_bytes};
+ghost use Rattle.std.specs.Prelude.{◌≡◌, ◌≢◌, ◌++◌, slice_index_or, Some, IfOk, IfErr, OnOk, OnErr, string_bytes};
 ghost use Rattle.std.specs.List.{flat_map};
 ghost use Rattle.std.specs.Io.KnownBytes.{Appends};
 ghost use Rattle.zlab.specs.Engine.{AnswersReader, BeginsReader, Answers, BeginsAnswer, Starts, WritesRun, BeginsRun, states_of, line_cause};
-ghost use Rattle.zlab.specs.Input.{TakesAtMost};
+ghost use Rattle.zlab.specs.Input.{FitsInput, TakesNoMore};
 ghost use Rattle.zlab.specs.Output.{AppendsBeginning, Gathers};
 ghost use Rattle.zlab.specs.Text.{cause_name, refused_line, state_line};
 
 use crate::fault::{Cause, EngineFault, LineFault, Verdict};
-use crate::input::{Input, MOST_INPUT, read_input};
+use crate::input::{Input, read_input};
 use crate::output::{empty_block, write_block, write_if_full, write_items};
 use crate::scenario::{Reading, Scenario, read_scenario};
 use crate::system::System;
@@ -22,10 +22,9 @@ use zl_rights::Pid;
 /// Reads a scenario with a schedule, and writes the trace along the schedule or the line of the
 /// first fault. All input is read before anything is written.
 ///
-/// The trace is the text of a legal history. In all worlds of such a history handles are sound and
-/// name objects of their kind (`histories_keep_handles_sound` and `histories_keep_handles_named` of
-/// `zl_code::laws`). It has as many items as the scenario's limit at most, and no more is read than
-/// one byte past 4,194,304.
+/// The trace is the text of a legal history, in each world of which handles are sound and name
+/// objects of their kind. It has as many items as the scenario's limit at most, and no more is read
+/// than one byte past 4,194,304.
 /// A fault of the reader is `Read`, with nothing written. A fault of the writer, and a want of memory,
 /// leave nothing or a beginning of such an answer.
 pub fn step_engine<R: Read, W: Write>(
@@ -33,10 +32,13 @@ pub fn step_engine<R: Read, W: Write>(
     reader: &mut R,
     writer: &mut W,
 ) -> Result<Verdict, EngineFault>
-    ensures ok { IfOk result (λ verdict. AnswersReader (R.remaining reader.old) verdict (W.contents writer.old) (W.contents writer.new)) }
-    ensures err { OnErr result (BeginsReader (R.remaining reader.old) (W.contents writer.old) (W.contents writer.new)) }
-    ensures read { IfErr result (λ fault. fault ≡ EngineFault.Read → W.contents writer.new ≡ W.contents writer.old) }
-    ensures taken { TakesAtMost (R.remaining reader.old) (R.remaining reader.new) (MOST_INPUT + 1) }
+    ensures ok { IfOk result (λ verdict. AnswersReader (R.remaining reader.old) verdict
+        (W.contents writer.old) (W.contents writer.new)) }
+    ensures err { OnErr result (BeginsReader (R.remaining reader.old) (W.contents writer.old)
+        (W.contents writer.new)) }
+    ensures read { IfErr result (λ fault. fault ≡ EngineFault.Read → W.contents writer.new
+        ≡ W.contents writer.old) }
+    ensures taken { TakesNoMore (R.remaining reader.old) (R.remaining reader.new) }
 {
     match read_input(alloc, reader)? {
         Input::Text(text) => answer(alloc, writer, text.as_slice()),
@@ -57,9 +59,11 @@ enum Booted {
 }
 
 fn answer<W: Write>(alloc: Global, writer: &mut W, text: &[u8]) -> Result<Verdict, EngineFault>
-    requires few { length text.now ≤ MOST_INPUT }
-    ensures ok { IfOk result (λ verdict. Answers text.now verdict (W.contents writer.old) (W.contents writer.new)) }
-    ensures err { OnErr result (BeginsAnswer text.now (W.contents writer.old) (W.contents writer.new)) }
+    requires fits { FitsInput text.now }
+    ensures ok { IfOk result (λ verdict. Answers text.now verdict (W.contents writer.old)
+        (W.contents writer.new)) }
+    ensures err { OnErr result (BeginsAnswer text.now (W.contents writer.old)
+        (W.contents writer.new)) }
     ensures fault { IfErr result (λ fault. fault ≢ EngineFault.Read) }
 {
     match boot(alloc, text)? {
@@ -76,7 +80,7 @@ fn answer<W: Write>(alloc: Global, writer: &mut W, text: &[u8]) -> Result<Verdic
 /// Reads the text and boots what it says. A fault of booting is in an earlier line than one of
 /// reading.
 fn boot(alloc: Global, text: &[u8]) -> Result<Booted, EngineFault>
-    requires few { length text.now ≤ MOST_INPUT }
+    requires fits { FitsInput text.now }
     ensures ok { IfOk result (Starts text.now) }
     ensures err { IfErr result (λ fault. fault ≡ EngineFault.NoMemory) }
 {
@@ -99,8 +103,10 @@ fn boot(alloc: Global, text: &[u8]) -> Result<Booted, EngineFault>
 /// The fault of the line of a statement, by the lines of all statements.
 fn fault_of_boot(lines: &[u64], refused: BootFault) -> Result<LineFault, EngineFault>
     ensures cause { IfOk result (λ fault. line_cause refused.cause ≡ Some fault.cause) }
-    ensures line { IfOk result (λ fault. fault.line ≡ slice_index_or lines.now refused.statement 0) }
-    ensures err { IfErr result (λ fault. (fault ≡ EngineFault.NoMemory) × (refused.cause ≡ BootCause.NoMemory)) }
+    ensures line { IfOk result (λ fault.
+        fault.line ≡ slice_index_or lines.now refused.statement 0) }
+    ensures err { IfErr result (λ fault. (fault ≡ EngineFault.NoMemory)
+        × (refused.cause ≡ BootCause.NoMemory)) }
 {
     let cause = cause_of_boot(refused.cause)?;
     let line = lines.get(refused.statement).copied().unwrap_or(0);
@@ -109,7 +115,8 @@ fn fault_of_boot(lines: &[u64], refused: BootFault) -> Result<LineFault, EngineF
 
 fn cause_of_boot(cause: BootCause) -> Result<Cause, EngineFault>
     ensures ok { IfOk result (λ found. line_cause cause ≡ Some found) }
-    ensures err { IfErr result (λ fault. (fault ≡ EngineFault.NoMemory) × (cause ≡ BootCause.NoMemory)) }
+    ensures err { IfErr result (λ fault. (fault ≡ EngineFault.NoMemory)
+        × (cause ≡ BootCause.NoMemory)) }
 {
     match cause {
         BootCause::BadHandleList => Ok(Cause::BadHandleList),
@@ -128,8 +135,10 @@ fn write_refusal<W: Write>(
     fault: LineFault,
 ) -> Result<Verdict, EngineFault>
     ensures verdict { IfOk result (λ verdict. verdict ≡ Verdict.Refused) }
-    ensures ok { OnOk result (Appends (W.contents writer.old) (W.contents writer.new) (refused_line fault.line (cause_name fault.cause))) }
-    ensures err { OnErr result (AppendsBeginning (W.contents writer.old) (W.contents writer.new) (refused_line fault.line (cause_name fault.cause))) }
+    ensures ok { OnOk result (Appends (W.contents writer.old) (W.contents writer.new)
+        (refused_line fault.line (cause_name fault.cause))) }
+    ensures err { OnErr result (AppendsBeginning (W.contents writer.old) (W.contents writer.new)
+        (refused_line fault.line (cause_name fault.cause))) }
     ensures fault { IfErr result (λ fault. fault ≢ EngineFault.Read) }
 {
     let mut block = String::new(alloc);
@@ -147,8 +156,10 @@ fn write_run<W: Write>(
     schedule: &[(Pid, u32)],
 ) -> Result<Verdict, EngineFault>
     ensures verdict { IfOk result (λ verdict. verdict ≡ Verdict.Done) }
-    ensures ok { OnOk result (WritesRun system.old schedule.now (W.contents writer.old) (W.contents writer.new)) }
-    ensures err { OnErr result (BeginsRun system.old schedule.now (W.contents writer.old) (W.contents writer.new)) }
+    ensures ok { OnOk result (WritesRun system.old schedule.now (W.contents writer.old)
+        (W.contents writer.new)) }
+    ensures err { OnErr result (BeginsRun system.old schedule.now (W.contents writer.old)
+        (W.contents writer.new)) }
     ensures fault { IfErr result (λ fault. fault ≢ EngineFault.Read) }
 {
     let mut block = empty_block(alloc)?;
@@ -161,24 +172,22 @@ fn write_run<W: Write>(
 }
 
 /// Writes the lines of all processes, but for the last of them, which stay in the block.
-///
-/// The world tells its n-th process and no count of them, so the loop ends where there is none. It is
-/// a `for`, which ends in any case and whose `n` can't overflow; there are never more processes than
-/// `usize::MAX`.
 fn write_states<W: Write>(
     writer: &mut W,
     block: &mut String,
     world: &World,
 ) -> Result<(), EngineFault>
-    ensures ok { OnOk result (Gathers (W.contents writer.old) (string_bytes block.old) (W.contents writer.new) (string_bytes block.new)
+    ensures ok { OnOk result (Gathers (W.contents writer.old) (string_bytes block.old)
+        (W.contents writer.new) (string_bytes block.new)
         (flat_map (λ p. state_line p.0 p.1) (states_of world.now.world))) }
     ensures err { OnErr result (AppendsBeginning (W.contents writer.old) (W.contents writer.new)
-        (string_bytes block.old ++ flat_map (λ p. state_line p.0 p.1) (states_of world.now.world))) }
+        (string_bytes block.old
+        ++ flat_map (λ p. state_line p.0 p.1) (states_of world.now.world))) }
     ensures fault { IfErr result (λ fault. fault ≢ EngineFault.Read) }
 {
-    for n in 0..usize::MAX {
+    for n in 0..world.process_count() {
         let Some(pid) = world.process_at(n) else {
-            break;
+            unreachable!()
         };
         write_state(writer, block, pid, world.state_of(pid))?;
     }
@@ -192,8 +201,10 @@ fn write_state<W: Write>(
     pid: Pid,
     state: ProcState,
 ) -> Result<(), EngineFault>
-    ensures ok { OnOk result (Gathers (W.contents writer.old) (string_bytes block.old) (W.contents writer.new) (string_bytes block.new) (state_line pid state)) }
-    ensures err { OnErr result (AppendsBeginning (W.contents writer.old) (W.contents writer.new) (string_bytes block.old ++ state_line pid state)) }
+    ensures ok { OnOk result (Gathers (W.contents writer.old) (string_bytes block.old)
+        (W.contents writer.new) (string_bytes block.new) (state_line pid state)) }
+    ensures err { OnErr result (AppendsBeginning (W.contents writer.old) (W.contents writer.new)
+        (string_bytes block.old ++ state_line pid state)) }
     ensures fault { IfErr result (λ fault. fault ≢ EngineFault.Read) }
 {
     push_state(block, pid, state)?;

@@ -43,6 +43,8 @@ pub enum Cause {
     Syntax,
     /// The bytes of a program are no image, or its text denotes none.
     Program,
+    /// A checked program that is refused. Not yet: no program is marked as checked.
+    Check,
     /// No object of this koid and kind, or no program of this number.
     Unknown,
     /// Handles that a process can't be given. Not yet: no statement lists handles.
@@ -65,6 +67,7 @@ impl Cause {
         match self {
             Cause::Syntax => "Syntax",
             Cause::Program => "Program",
+            Cause::Check => "Check",
             Cause::Unknown => "Unknown",
             Cause::BadHandleList => "BadHandleList",
             Cause::NeedDenied => "NeedDenied",

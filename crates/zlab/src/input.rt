@@ -1,6 +1,6 @@
 //! Reading: the whole input, up to a limit.
-ghost use Rattle.std.specs.Prelude.{◌≢◌, ◌+◌, IfOk, IfErr};
-ghost use Rattle.zlab.specs.Input.{IsInputOf, TakesAtMost};
+ghost use Rattle.std.specs.Prelude.{◌≢◌, IfOk, IfErr};
+ghost use Rattle.zlab.specs.Input.{IsInputOf, TakesNoMore};
 
 use crate::fault::EngineFault;
 use std::alloc::Global;
@@ -25,7 +25,7 @@ pub enum Input {
 pub fn read_input<R: Read>(alloc: Global, reader: &mut R) -> Result<Input, EngineFault>
     ensures ok { IfOk result (IsInputOf (R.remaining reader.old)) }
     ensures err { IfErr result (λ fault. fault ≢ EngineFault.Write) }
-    ensures taken { TakesAtMost (R.remaining reader.old) (R.remaining reader.new) (MOST_INPUT + 1) }
+    ensures taken { TakesNoMore (R.remaining reader.old) (R.remaining reader.new) }
 {
     let mut text = Vec::new(alloc);
     let mut block = [0u8; BLOCK];

@@ -28,7 +28,8 @@ pub fn empty_block(alloc: Global) -> Result<String, AllocError>
 /// a write takes no byte.
 pub fn write_all<W: Write>(writer: &mut W, bytes: &[u8]) -> Result<(), EngineFault>
     ensures ok { OnOk result (Appends (W.contents writer.old) (W.contents writer.new) bytes.now) }
-    ensures err { OnErr result (AppendsBeginning (W.contents writer.old) (W.contents writer.new) bytes.now) }
+    ensures err { OnErr result (AppendsBeginning (W.contents writer.old) (W.contents writer.new)
+        bytes.now) }
     ensures fault { IfErr result (λ fault. fault ≡ EngineFault.Write) }
 {
     let mut done = 0;
@@ -44,9 +45,11 @@ pub fn write_all<W: Write>(writer: &mut W, bytes: &[u8]) -> Result<(), EngineFau
 
 /// Writes the block and empties it.
 pub fn write_block<W: Write>(writer: &mut W, block: &mut String) -> Result<(), EngineFault>
-    ensures ok { OnOk result (Gathers (W.contents writer.old) (string_bytes block.old) (W.contents writer.new) (string_bytes block.new) []) }
+    ensures ok { OnOk result (Gathers (W.contents writer.old) (string_bytes block.old)
+        (W.contents writer.new) (string_bytes block.new) []) }
     ensures empty { OnOk result (string_bytes block.new ≡ []) }
-    ensures err { OnErr result (AppendsBeginning (W.contents writer.old) (W.contents writer.new) (string_bytes block.old)) }
+    ensures err { OnErr result (AppendsBeginning (W.contents writer.old) (W.contents writer.new)
+        (string_bytes block.old)) }
     ensures fault { IfErr result (λ fault. fault ≡ EngineFault.Write) }
 {
     write_all(writer, block.as_bytes())?;
@@ -56,8 +59,10 @@ pub fn write_block<W: Write>(writer: &mut W, block: &mut String) -> Result<(), E
 
 /// Writes the block where it is full.
 pub fn write_if_full<W: Write>(writer: &mut W, block: &mut String) -> Result<(), EngineFault>
-    ensures ok { OnOk result (Gathers (W.contents writer.old) (string_bytes block.old) (W.contents writer.new) (string_bytes block.new) []) }
-    ensures err { OnErr result (AppendsBeginning (W.contents writer.old) (W.contents writer.new) (string_bytes block.old)) }
+    ensures ok { OnOk result (Gathers (W.contents writer.old) (string_bytes block.old)
+        (W.contents writer.new) (string_bytes block.new) []) }
+    ensures err { OnErr result (AppendsBeginning (W.contents writer.old) (W.contents writer.new)
+        (string_bytes block.old)) }
     ensures fault { IfErr result (λ fault. fault ≡ EngineFault.Write) }
 {
     if block.len() < BLOCK {
@@ -73,8 +78,10 @@ fn write_item<W: Write>(
     block: &mut String,
     item: TraceItem,
 ) -> Result<(), EngineFault>
-    ensures ok { OnOk result (Gathers (W.contents writer.old) (string_bytes block.old) (W.contents writer.new) (string_bytes block.new) (item_line item)) }
-    ensures err { OnErr result (AppendsBeginning (W.contents writer.old) (W.contents writer.new) (string_bytes block.old ++ item_line item)) }
+    ensures ok { OnOk result (Gathers (W.contents writer.old) (string_bytes block.old)
+        (W.contents writer.new) (string_bytes block.new) (item_line item)) }
+    ensures err { OnErr result (AppendsBeginning (W.contents writer.old) (W.contents writer.new)
+        (string_bytes block.old ++ item_line item)) }
     ensures fault { IfErr result (λ fault. fault ≢ EngineFault.Read) }
 {
     push_item(block, item)?;
@@ -87,9 +94,11 @@ pub fn write_items<W: Write>(
     block: &mut String,
     items: &[TraceItem],
 ) -> Result<(), EngineFault>
-    ensures ok { OnOk result (Gathers (W.contents writer.old) (string_bytes block.old) (W.contents writer.new) (string_bytes block.new)
+    ensures ok { OnOk result (Gathers (W.contents writer.old) (string_bytes block.old)
+        (W.contents writer.new) (string_bytes block.new)
         (flat_map item_line items.now)) }
-    ensures err { OnErr result (AppendsBeginning (W.contents writer.old) (W.contents writer.new) (string_bytes block.old ++ flat_map item_line items.now)) }
+    ensures err { OnErr result (AppendsBeginning (W.contents writer.old) (W.contents writer.new)
+        (string_bytes block.old ++ flat_map item_line items.now)) }
     ensures fault { IfErr result (λ fault. fault ≢ EngineFault.Read) }
 {
     for item in items {

@@ -1,6 +1,6 @@
 //! Reading a scenario with its schedule.
 ghost use Rattle.std.specs.Prelude.{◌≡◌, IfOk, IfErr};
-ghost use Rattle.zlab.specs.Scenario.{reading_of, IsInOrder, BlocksAreWhole};
+ghost use Rattle.zlab.specs.Scenario.{Refusals, none_refused, reading_of, IsInOrder, BlocksAreWhole};
 ghost use Rattle.zlab.specs.Reading.{IsScenario};
 ghost use Rattle.zlab.specs.declared.fault.EngineFault.TheVariants.{NoMemory};
 
@@ -45,11 +45,13 @@ pub struct Reading {
 
 /// Reads the scenario and the schedule up to the first fault. `NoMemory` is the only error.
 pub fn read_scenario(alloc: Global, text: &[u8]) -> Result<Reading, EngineFault>
-    ensures scenario { IfOk result (λ reading. IsScenario (reading_of text.now).said reading.scenario) }
-    ensures fault { IfOk result (λ reading. reading.fault ≡ (reading_of text.now).fault) }
+    ensures scenario { IfOk result (λ reading. IsScenario (reading_of none_refused text.now).said
+        reading.scenario) }
+    ensures fault { IfOk result (λ reading. reading.fault
+        ≡ (reading_of none_refused text.now).fault) }
     ensures err { IfErr result (λ fault. fault ≡ NoMemory) }
     // Of two faults, one in a statement and the reader's, that of the statement is in an earlier line.
-    ensures in_order { IsInOrder (reading_of text.now) }
+    ensures in_order { (is_refused : Refusals) → IsInOrder (reading_of is_refused text.now) }
     // A law of what lines say.
     ensures blocks { BlocksAreWhole }
 {

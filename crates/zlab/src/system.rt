@@ -45,9 +45,9 @@ pub struct System {
 }
 
 impl Model for System {
-    ghost use Rattle.zlab.specs.System.{Tracked};
+    ghost use Rattle.zlab.specs.System.{System as SystemValue};
 
-    ghost Value = { Tracked };
+    ghost Value = { SystemValue };
 
     ghost view = { λ s. record { lab = s.world; items = s.items.items; limit = s.limit } };
 }

@@ -3,6 +3,7 @@
 use crate::engine::step_engine;
 use crate::fault::{EngineFault, Verdict};
 use crate::input::MOST_INPUT;
+use crate::samples::EIGHT_TEXT;
 use std::alloc::{AllocError, Global};
 use std::io;
 use std::io::{Read, Write};
@@ -126,6 +127,16 @@ fn refuses_texts_without_programs(rt: HostRuntime) {
             "program raw hex\n5a 4\nc\n\n# odd\n end \n",
             "refused 1 Program\n",
         ),
+        ("program raw asm\n# \u{e9}\nend\n", "refused 1 Syntax\n"),
+        ("program raw asm\n# end\n", "refused 1 Syntax\n"),
+        (
+            "program raw asm\n # no comment\nend\n",
+            "refused 1 Program\n",
+        ),
+        (
+            "\nprogram raw asm\n# foo\nfoo\nend\n",
+            "refused 2 Program\n",
+        ),
     ];
     for (input, line) in refused {
         assert_answer(&rt, rt.alloc(), input.as_bytes(), Verdict::Refused, line);
@@ -171,6 +182,15 @@ fn runs_a_program(rt: HostRuntime) -> Result<(), Fail> {
         let input = format!(in rt.alloc(); "{PROGRAM}{rest}")?;
         assert_answer(&rt, rt.alloc(), input.as_bytes(), verdict, text);
     }
+    Ok(())
+}
+
+#[test]
+fn skips_comments_in_a_block_of_text(rt: HostRuntime) -> Result<(), Fail> {
+    let input = format!(in rt.alloc();
+        "program raw asm\n# foo\n{EIGHT_TEXT}#end\n\n#\nend\nprocess 1 0 0\n--\n2 20\n"
+    )?;
+    assert_answer(&rt, rt.alloc(), input.as_bytes(), Verdict::Done, TRACE);
     Ok(())
 }
 

@@ -26,7 +26,8 @@ fn push_call(
     call: CallName,
     outcome: Outcome,
 ) -> Result<(), AllocError>
-    ensures { OnOk result (string_bytes text.new ≡ string_bytes text.old ++ call_line pid call outcome) }
+    ensures { OnOk result (string_bytes text.new ≡ string_bytes text.old ++ call_line pid call
+        outcome) }
 {
     push_number(text, pid)?;
     text.push_str(" ")?;
@@ -77,7 +78,8 @@ pub fn push_end(text: &mut String, end: End) -> Result<(), AllocError>
 /// Adds the line that answers a refused input: the number of its faulty line, and the name of the
 /// fault. Where memory is refused, a beginning of the line may stand there.
 pub fn push_refusal(text: &mut String, line: u64, name: &str) -> Result<(), AllocError>
-    ensures { OnOk result (string_bytes text.new ≡ string_bytes text.old ++ refused_line line name.now) }
+    ensures { OnOk result (string_bytes text.new ≡ string_bytes text.old ++ refused_line line
+        name.now) }
 {
     write!(text, "refused {line} {name}\n")
 }

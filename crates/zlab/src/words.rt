@@ -64,10 +64,13 @@ impl From<clap::Error> for WordFault {
 /// the command set, and so for words that ask for help or for the version: `help` has the text for
 /// those. `NoMemory` comes where memory is refused.
 pub fn words<'a, S: AsStr>(alloc: Global, words: &'a [S]) -> Result<Task<'a>, WordFault>
-    ensures task { IfOk result (λ task. AsksFor (subcommand_of commands (map S.text words.entry.now)) task) }
+    ensures task { IfOk result (λ task. AsksFor (subcommand_of commands
+        (map S.text words.entry.now)) task) }
     ensures taken { IfOk result (λ _. fault_of commands (map S.text words.entry.now) ≡ []) }
-    ensures faulty { IfErr result (λ fault. fault ≡ Usage → fault_of commands (map S.text words.entry.now) ≢ []) }
-    ensures usage { IfErr result (λ fault. fault ≡ Usage → takes commands (map S.text words.entry.now) ≡ false) }
+    ensures faulty { IfErr result (λ fault. fault ≡ Usage → fault_of commands
+        (map S.text words.entry.now) ≢ []) }
+    ensures usage { IfErr result (λ fault. fault ≡ Usage → takes commands
+        (map S.text words.entry.now) ≡ false) }
 {
     let matches = command(alloc)?.try_get_matches_from(words)?;
     Ok(task_of(&matches))

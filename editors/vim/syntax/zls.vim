@@ -11,7 +11,7 @@ syntax match zlsNumber /\<\d\+\>/
 syntax match zlsStatement /\%(^ *\)\@<=\%(process\|limit\)\>/
 
 " A program's block, up to the one word `end`.
-syntax region zlsAsmBlock matchgroup=zlsProgram start=/^ *program \+raw \+asm *$/ end=/^ *end *$/ keepend contains=@zlsAsm
+syntax region zlsAsmBlock matchgroup=zlsProgram start=/^ *program \+raw \+asm *$/ end=/^ *end *$/ keepend contains=@zlsAsm,zlsComment
 syntax region zlsHexBlock matchgroup=zlsProgram start=/^ *program \+raw \+hex *$/ end=/^ *end *$/ keepend contains=zlsDigits,zlsComment,zlsError
 syntax match zlsError /[^0-9a-f ]/ contained
 syntax match zlsDigits /[0-9a-f]\+/ contained

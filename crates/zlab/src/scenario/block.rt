@@ -1,6 +1,6 @@
 //! The block of a program.
-ghost use Rattle.std.specs.Prelude.{◌≡◌, map};
-ghost use Rattle.zlab.specs.Scenario.{at, is_end, bytes_said, program_said, block_said};
+ghost use Rattle.std.specs.Prelude.{◌≡◌, false, map};
+ghost use Rattle.zlab.specs.Scenario.{at, none_refused, is_end, bytes_said, program_said, block_said};
 ghost use Rattle.zlab.specs.Reading.{part_with, Tells, Keeps};
 
 use crate::fault::Cause;
@@ -25,8 +25,10 @@ pub fn read_block(
     line: &[u8],
     words: &[&[u8]],
 ) -> Result<Part, Fault>
-    ensures told { Tells result (λ next. at draft.new (part_with body.new next)) (block_said draft.old opened body.old line.now (map (λ word. word.now) words.now)) }
-    ensures kept { Keeps result draft.old draft.new }
+    ensures answer { Tells result (λ next. at draft.new (part_with body.new next))
+        (block_said none_refused draft.old opened false body.old line.now
+        (map (λ word. word.now) words.now)) }
+    ensures unchanged { Keeps result draft.old draft.new }
 {
     if is_end(words) {
         read_program(draft, alloc, body)?;
@@ -49,8 +51,9 @@ fn is_end(words: &[&[u8]]) -> bool
 /// Adds the program that the whole block gives.
 #[tactic(auto, unfolding(crate::specs::Scenario::program_said))]
 fn read_program(draft: &mut Draft, alloc: Global, body: &Body) -> Result<(), Fault>
-    ensures told { Tells result (λ _. draft.new) (program_said draft.old (bytes_said body.now)) }
-    ensures kept { Keeps result draft.old draft.new }
+    ensures answer { Tells result (λ _. draft.new)
+        (program_said none_refused draft.old false (bytes_said body.now)) }
+    ensures unchanged { Keeps result draft.old draft.new }
 {
     let image = body.image(alloc)?;
     if draft.programs() >= MOST_PROGRAMS {

@@ -2,7 +2,7 @@
 ghost use Rattle.std.specs.Prelude.{◌≡◌, [], ◌++◌, codes, Ok, IfOk, IsTrue};
 ghost use Rattle.zl_code.specs.Spells.{spelling, is_in_range};
 ghost use Rattle.zlab.specs.Lines.{digits_of};
-ghost use Rattle.zlab.specs.Scenario.{Hex, digits_said, body_said, bytes_said, digits_spelled, text_spelled, is_text_body};
+ghost use Rattle.zlab.specs.Scenario.{Hex, digits_said, body_said, bytes_said, digits_spelled, text_spelled};
 ghost use Rattle.zlab.specs.Reading.{Tells, Decodes, body_with};
 ghost use Rattle.zl_asm.specs.Denotes.{image_bytes_of};
 
@@ -16,7 +16,7 @@ use zl_asm::{AsmCause, assemble_bytes};
 use zl_code::{DecodeFault, Image, decode};
 
 /// How a program is written.
-#[derive(Clone, Copy, PartialEq, Eq)]
+#[derive(Clone, Copy)]
 pub enum Form {
     /// The bytes of its image, in hexadecimal digits.
     Hex,
@@ -62,13 +62,6 @@ impl Body {
         self.text.clear();
     }
 
-    /// Whether it holds the assembler's text.
-    pub fn is_text(&self) -> bool
-        ensures { result ≡ is_text_body self.now }
-    {
-        self.form == Form::Asm
-    }
-
     /// Adds a line. After a fault a part of it may be there.
     #[tactic(auto, unfolding(crate::specs::Scenario::body_said))]
     pub fn push_line(&mut self, line: &[u8]) -> Result<(), Fault>
@@ -83,7 +76,7 @@ impl Body {
     /// The image that the whole block gives: `Syntax` for an odd count of digits, and `Program`
     /// where the bytes spell no image, or the text denotes none.
     pub fn image(&self, alloc: Global) -> Result<Image, Fault>
-        ensures told { Tells result (λ image. spelling image) (bytes_said self.now) }
+        ensures answer { Tells result (λ image. spelling image) (bytes_said self.now) }
         ensures in_range { IfOk result (λ image. IsTrue (is_in_range image)) }
     {
         match self.form {
@@ -120,7 +113,7 @@ fn push_text(text: &mut Vec<u8>, line: &[u8]) -> Result<(), Fault>
 /// The image that the digits spell.
 #[tactic(auto, unfolding(crate::specs::Scenario::digits_spelled))]
 fn image_of_digits(alloc: Global, digits: &Digits) -> Result<Image, Fault>
-    ensures told { Tells result (λ image. spelling image) (digits_spelled digits.now) }
+    ensures answer { Tells result (λ image. spelling image) (digits_spelled digits.now) }
     ensures in_range { IfOk result (λ image. IsTrue (is_in_range image)) }
 {
     let Some(bytes) = digits.bytes() else {
@@ -142,7 +135,8 @@ fn decode_program(alloc: Global, bytes: &[u8]) -> Result<Image, Fault>
 
 /// The image that the text denotes; `Program` where it denotes none.
 fn image_of_text(alloc: Global, text: &[u8]) -> Result<Image, Fault>
-    ensures told { Tells result (λ image. spelling image) (text_spelled (image_bytes_of text.now)) }
+    ensures answer { Tells result (λ image. spelling image)
+        (text_spelled (image_bytes_of text.now)) }
     ensures in_range { IfOk result (λ image. IsTrue (is_in_range image)) }
 {
     match assemble_bytes(alloc, text) {

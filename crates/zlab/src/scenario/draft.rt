@@ -1,5 +1,5 @@
 //! What the lines of a scenario have said so far.
-ghost use Rattle.std.specs.Prelude.{◌≡◌, IsTrue, length, OnOk};
+ghost use Rattle.std.specs.Prelude.{◌≡◌, IsTrue, false, length, OnOk};
 ghost use Rattle.zl_code.specs.Spells.{spelling, is_in_range};
 ghost use Rattle.zl_code.specs.declared.boot.Statement.TheVariants as statement;
 ghost use Rattle.zlab.specs.Scenario.{start, with_program, with_statement, with_turns};
@@ -24,14 +24,14 @@ pub struct Draft {
 impl Model for Draft {
     ghost use Rattle.std.specs.Prelude.{IsTrue};
     ghost use Rattle.std.specs.List.{list_all};
-    ghost use Rattle.zlab.specs.Scenario.{Said};
-    ghost use Rattle.zlab.specs.Reading.{said_by, is_plain};
+    ghost use Rattle.zlab.specs.Scenario.{Scenario as ScenarioValue};
+    ghost use Rattle.zlab.specs.Reading.{said_by, has_ranges};
 
-    ghost Value = { Said };
+    ghost Value = { ScenarioValue };
 
     ghost view = { λ d. said_by d.scenario };
 
-    ghost invariant = { λ d. IsTrue (list_all is_plain d.scenario.library) };
+    ghost invariant = { λ d. IsTrue (list_all has_ranges d.scenario.library) };
 }
 
 impl Draft {
@@ -62,7 +62,7 @@ impl Draft {
     /// Adds a raw program with this image.
     pub fn push_program(&mut self, image: Image) -> Result<(), AllocError>
         requires { IsTrue (is_in_range image) }
-        ensures { OnOk result (self.new ≡ with_program self.old (spelling image)) }
+        ensures { OnOk result (self.new ≡ with_program self.old false (spelling image)) }
     {
         self.scenario.library.push(Program::Raw(image))?;
         Ok(())
@@ -76,7 +76,8 @@ impl Draft {
         program: u64,
         word: u64,
     ) -> Result<(), AllocError>
-        ensures { OnOk result (self.new ≡ with_statement self.old line (statement.Process job program word)) }
+        ensures { OnOk result (self.new ≡ with_statement self.old line
+            (statement.Process job program word)) }
     {
         self.scenario.lines.push(line)?;
         let statement = Statement::Process { job, program, word };

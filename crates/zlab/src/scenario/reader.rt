@@ -1,7 +1,7 @@
 //! The reader: one line after the other, in one pass.
 ghost use Rattle.std.specs.Prelude.{◌≡◌, IfOk, IfErr, map};
 ghost use Rattle.zl_asm.specs.Words.{lines_of};
-ghost use Rattle.zlab.specs.Scenario.{start, told_line, is_text, fault_at_end, part_said, line_said, reading_from};
+ghost use Rattle.zlab.specs.Scenario.{start, none_refused, told_line, fault_at_end, part_said, line_said, reading_from};
 ghost use Rattle.zlab.specs.Reading.{Tells, Keeps, IsScenario};
 ghost use Rattle.zlab.specs.declared.fault.EngineFault.TheVariants.{NoMemory};
 
@@ -65,16 +65,6 @@ impl Reader {
         }
     }
 
-    /// Whether the next line belongs to the assembler's text.
-    fn is_text(&self) -> bool
-        ensures { result ≡ is_text self.now.part }
-    {
-        match self.part {
-            Part::Block { .. } => self.body.is_text(),
-            Part::Statements | Part::Schedule => false,
-        }
-    }
-
     /// The fault of a block that no line ends.
     fn fault_at_end(&self) -> Option<LineFault>
         ensures { result ≡ fault_at_end self.now.part }
@@ -97,13 +87,14 @@ impl Reader {
         line: &'a [u8],
         words: &mut Vec<&'a [u8]>,
     ) -> Result<(), Fault>
-        ensures told { Tells result (λ _. self.new) (line_said number self.old line.now) }
-        ensures kept { Keeps result self.old.said self.new.said }
+        ensures answer { Tells result (λ _. self.new)
+            (line_said none_refused number self.old line.now) }
+        ensures unchanged { Keeps result self.old.said self.new.said }
     {
         if !is_ascii(line) {
             return Err(Fault::Refused(Cause::Syntax));
         }
-        if !self.is_text() && is_comment(line) {
+        if is_comment(line) {
             return Ok(());
         }
         split_words(words, line)?;
@@ -118,8 +109,10 @@ impl Reader {
         line: &[u8],
         words: &[&[u8]],
     ) -> Result<(), Fault>
-        ensures told { Tells result (λ _. self.new) (part_said number self.old.said self.old.part line.now (map (λ word. word.now) words.now)) }
-        ensures kept { Keeps result self.old.said self.new.said }
+        ensures answer { Tells result (λ _. self.new)
+            (part_said none_refused number self.old.said self.old.part line.now
+            (map (λ word. word.now) words.now)) }
+        ensures unchanged { Keeps result self.old.said self.new.said }
     {
         self.part = match self.part {
             Part::Statements => { read_statement(&mut self.draft, &mut self.body, number, words)? }
@@ -141,7 +134,8 @@ impl Reader {
         alloc: Global,
         text: &[u8],
     ) -> Result<Option<LineFault>, EngineFault>
-        ensures ok { IfOk result (λ fault. reading_from 1 self.old (lines_of text.now) ≡ record { said = self.new.said; fault = fault }) }
+        ensures ok { IfOk result (λ fault. reading_from none_refused 1 self.old (lines_of text.now)
+            ≡ record { said = self.new.said; fault = fault }) }
         ensures err { IfErr result (λ fault. fault ≡ NoMemory) }
     {
         let mut words = Vec::new(alloc);

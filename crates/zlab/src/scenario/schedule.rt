@@ -15,8 +15,9 @@ const MOST_TURNS: u64 = 1_000_000;
 /// Reads the words of a line after the line `--`.
 #[tactic(auto, unfolding(crate::specs::Scenario::turns_said))]
 pub fn read_turns(draft: &mut Draft, words: &[&[u8]]) -> Result<(), Fault>
-    ensures told { Tells result (λ _. draft.new) (turns_said draft.old (map (λ word. word.now) words.now)) }
-    ensures kept { Keeps result draft.old draft.new }
+    ensures answer { Tells result (λ _. draft.new)
+        (turns_said draft.old (map (λ word. word.now) words.now)) }
+    ensures unchanged { Keeps result draft.old draft.new }
 {
     match words {
         [] => Ok(()),
@@ -27,8 +28,9 @@ pub fn read_turns(draft: &mut Draft, words: &[&[u8]]) -> Result<(), Fault>
 
 #[tactic(auto, unfolding(crate::specs::Scenario::pair_said))]
 fn read_pair(draft: &mut Draft, pid: &[u8], count: &[u8]) -> Result<(), Fault>
-    ensures told { Tells result (λ _. draft.new) (pair_said draft.old (number_of pid.now) (number_of count.now)) }
-    ensures kept { Keeps result draft.old draft.new }
+    ensures answer { Tells result (λ _. draft.new)
+        (pair_said draft.old (number_of pid.now) (number_of count.now)) }
+    ensures unchanged { Keeps result draft.old draft.new }
 {
     let (Some(pid), Some(count)) = (number(pid), number(count)) else {
         return Err(Fault::Refused(Cause::Syntax));

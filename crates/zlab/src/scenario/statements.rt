@@ -23,8 +23,9 @@ pub fn read_statement(
     line: u64,
     words: &[&[u8]],
 ) -> Result<Part, Fault>
-    ensures told { Tells result (λ next. at draft.new (part_with body.new next)) (statement_said line draft.old (map (λ word. word.now) words.now)) }
-    ensures kept { Keeps result draft.old draft.new }
+    ensures answer { Tells result (λ next. at draft.new (part_with body.new next))
+        (statement_said line draft.old (map (λ word. word.now) words.now)) }
+    ensures unchanged { Keeps result draft.old draft.new }
 {
     match words {
         [] => Ok(Part::Statements),
@@ -51,7 +52,8 @@ pub fn read_statement(
 /// The form of the block that the words open, if they open one.
 #[tactic(auto, unfolding(crate::specs::Scenario::body_named))]
 fn form_of(name: &[u8], mark: &[u8], form: &[u8]) -> Option<Form>
-    ensures { option_map (λ form. body_with form [] []) result ≡ body_named name.now mark.now form.now }
+    ensures { option_map (λ form. body_with form [] []) result ≡ body_named name.now mark.now
+        form.now }
 {
     if !is(name, b"program") || !is(mark, b"raw") {
         return None;
@@ -73,8 +75,10 @@ fn read_process(
     program: &[u8],
     word: &[u8],
 ) -> Result<(), Fault>
-    ensures told { Tells result (λ _. draft.new) (process_said line draft.old (number_of job.now) (number_of program.now) (number_of word.now)) }
-    ensures kept { Keeps result draft.old draft.new }
+    ensures answer { Tells result (λ _. draft.new)
+        (process_said line draft.old (number_of job.now) (number_of program.now)
+        (number_of word.now)) }
+    ensures unchanged { Keeps result draft.old draft.new }
 {
     let (Some(job), Some(program), Some(word)) = (number(job), number(program), number(word)) else {
         return Err(Fault::Refused(Cause::Syntax));
@@ -88,8 +92,8 @@ fn read_process(
 
 #[tactic(auto, unfolding(crate::specs::Scenario::limit_said))]
 fn read_limit(draft: &mut Draft, most: &[u8]) -> Result<(), Fault>
-    ensures told { Tells result (λ _. draft.new) (limit_said draft.old (number_of most.now)) }
-    ensures kept { Keeps result draft.old draft.new }
+    ensures answer { Tells result (λ _. draft.new) (limit_said draft.old (number_of most.now)) }
+    ensures unchanged { Keeps result draft.old draft.new }
 {
     let Some(limit) = number(most) else {
         return Err(Fault::Refused(Cause::Syntax));

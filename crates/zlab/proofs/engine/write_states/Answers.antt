@@ -1,22 +1,17 @@
 use Rattle.std.proofs.Common.{arith}
 use Rattle.zlab.proofs.KnownOutput.{on_err}
-use Rattle.zlab.proofs.RunOutput.{one_more_state, begun_state, all_states, no_state_left}
+use Rattle.zlab.proofs.RunOutput.{one_more_state, begun_state, all_states}
 use Rattle.zlab.proofs.engine.write_states.Goals as goal
 
 pub returns-in_err-write_state-clause-err : goal.returns-in_err-write_state-clause-err
 returns-in_err-write_state-clause-err g c =
     on_err c.from_residual.result (begun_state c.args.world.now c.loop-n.n c.in-Some.pid c.state_of.result c.process_at.ensures.in_order (c.in-Some.ensures {u = tt}).koid c.state_of.ensures
-    _ _ _ _ _ c.loop-n.invariant.gathers (c.in_err-write_state.ensures).err)
+    _ _ _ _ _ c.loop-n.invariant (c.in_err-write_state.ensures).err)
 
 pub loop-n-preserved : goal.loop-n-preserved
-loop-n-preserved g c = record {
-  gathers = one_more_state c.args.world.now c.loop-n.n c.in-Some.pid c.state_of.result c.process_at.ensures.in_order (c.in-Some.ensures {u = tt}).koid c.state_of.ensures
-      _ _ _ _ _ c.loop-n.invariant.gathers _ (c.in_ok-write_state.ensures).ok;
-  few = λ some. c.process_at.ensures.few;
-}
+loop-n-preserved g c =
+    one_more_state c.args.world.now c.loop-n.n c.in-Some.pid c.state_of.result c.process_at.ensures.in_order (c.in-Some.ensures {u = tt}).koid c.state_of.ensures
+    _ _ _ _ _ c.loop-n.invariant _ (c.in_ok-write_state.ensures).ok
 
-pub returns-after-loop-n-clause-ok : goal.returns-after-loop-n-clause-ok
-returns-after-loop-n-clause-ok g c = all_states c.args.world.now c.loop-n.n _ _ _ _ c.loop-n.invariant.gathers (omega (arith, c.loop-n-test.false, c.loop-n.invariant.few (omega (arith, c.loop-n-test.false))))
-
-pub returns-in_default-clause-ok : goal.returns-in_default-clause-ok
-returns-in_default-clause-ok g c = no_state_left c.args.world.now c.loop-n.n _ _ _ _ c.loop-n.invariant.gathers (c.in_default.ensures {u = tt}).koid
+pub returns-clause-ok : goal.returns-clause-ok
+returns-clause-ok g c = all_states c.args.world.now c.loop-n.n _ _ _ _ c.loop-n.invariant (omega arith)

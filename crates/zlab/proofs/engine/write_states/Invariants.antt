@@ -1,4 +1,4 @@
-use Rattle.std.proofs.Common.{◌<◌, ◌^◌, string_bytes, take, length}
+use Rattle.std.proofs.Common.{string_bytes, take}
 use Rattle.std.specs.List.{flat_map}
 use Rattle.zlab.specs.Engine.{states_of}
 use Rattle.zlab.specs.Output.{Gathers}
@@ -6,7 +6,4 @@ use Rattle.zlab.specs.Text.{state_line}
 use Rattle.zlab.proofs.engine.write_states.Given as goal
 
 abbrev pub invariant-loop-n : goal.invariant-loop-n
-invariant-loop-n g l = record {
-  gathers : Gathers (g.W.Write.contents l.initial.writer) (string_bytes l.initial.block) (g.W.Write.contents l.writer) (string_bytes l.block) (flat_map (λ p. state_line p.0 p.1) (take l.n (states_of l.world.world)));
-  few : 0 < l.n → length l.world.world.processes < 2 ^ 64;
-}
+invariant-loop-n g l = Gathers (g.W.Write.contents l.initial.writer) (string_bytes l.initial.block) (g.W.Write.contents l.writer) (string_bytes l.block) (flat_map (λ p. state_line p.0 p.1) (take l.n (states_of l.world.world)))

@@ -10,7 +10,7 @@ returns-then-is_err-clause-taken g c =
     record {
       taken = front ++ more;
       consumed = Consumes-trans _ _ _ _ _ c.loop-block.invariant.consumed c.in-Ok.ensures.bytes.0;
-      few = omega (arith, length-append front more, c.in-Ok.ensures.bound, length-take c.min-room.result c.loop-block.block);
+      at_most = omega (arith, length-append front more, c.in-Ok.ensures.bound, length-take c.min-room.result c.loop-block.block);
     }
 
 pub returns-clause-ok : goal.returns-clause-ok

@@ -1,11 +1,12 @@
 use Rattle.std.proofs.Common.{◌≡◌, ◌+◌, ◌-◌, ◌≤◌, length, vec_len}
 use Rattle.std.specs.Io.KnownBytes.{Consumes}
-use Rattle.zlab.specs.declared.input.TheConstants.{MOST_INPUT, BLOCK}
+use Rattle.zlab.specs.declared.input.TheConstants.{BLOCK}
+use Rattle.zlab.specs.Input.{MOST_INPUT}
 use Rattle.zlab.proofs.input.read_input.Given as goal
 
 abbrev pub invariant-loop-block : goal.invariant-loop-block
 invariant-loop-block g l = record {
-  few : vec_len l.text ≤ MOST_INPUT + 1;
+  at_most : vec_len l.text ≤ MOST_INPUT + 1;
   consumed : Consumes (g.R.Read.remaining l.initial.reader) (g.R.Read.remaining l.reader) l.text.items;
   whole_block : length l.block ≡ BLOCK;
 }

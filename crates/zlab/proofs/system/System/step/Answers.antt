@@ -16,6 +16,7 @@ pub returns-then-is_err : goal.returns-then-is_err
 returns-then-is_err c = (
   rw (← c.self.view_is) (ap (λ (xs : List TraceItem). record { lab = c.self.inside.world; items = xs; limit = c.self.inside.limit }) c.reserve.ensures.items),
   rw (← c.self.view_is) (sym c.is_ready.ensures ∙ c.if-not-is_ready.false),
+  rw (← c.self.view_is) (omega (arith, c.if-len-self.false, c.len.ensures, c.self.inside.items.ok.0)),
 )
 
 pub returns : goal.returns

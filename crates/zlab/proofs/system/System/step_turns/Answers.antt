@@ -18,7 +18,7 @@ returns-in-Limit c =
 pub returns-in-NoMemory : goal.returns-in-NoMemory
 returns-in-NoMemory c =
     let done = c.in-NoMemory.ensures {u = tt} in
-    no_memory c.args.self.now c.loop-turn.self c.step.new.self c.args.pid c.loop-turn.turn c.args.count c.loop-turn.invariant c.loop-turn-test.true (sym done.0) done.1
+    no_memory c.args.self.now c.loop-turn.self c.step.new.self c.args.pid c.loop-turn.turn c.args.count c.loop-turn.invariant c.loop-turn-test.true (sym done.0) done.1 done.2
 
 pub loop-turn-preserved : goal.loop-turn-preserved
 loop-turn-preserved c = once_more c.args.self.now c.loop-turn.self c.step.new.self c.args.pid c.loop-turn.turn c.args.count c.loop-turn.invariant (c.in-Ran.ensures {u = tt})

@@ -20,7 +20,7 @@ use Rattle.zlab.specs.Scenario.{none_refused}
 use Rattle.zlab.specs.System.{System, Walks, room_of}
 use Rattle.zlab.specs.Text.{history_text, cause_name, refused_line}
 use Rattle.zlab.proofs.Legal.{ends_legal}
-use Rattle.zlab.proofs.SoundWorlds.{always_named, always_sound}
+use Rattle.zlab.proofs.SoundWorlds.{always_sound}
 
 -- ---- facts of a result
 
@@ -50,7 +50,6 @@ module _ (text : List ℕ) (s : System) (pairs : List (ℕ × ℕ)) (start : IsS
     boots = start.boots;
     legal = legal;
     sound = always_sound s.lab.programs (said_in none_refused text).statements s.lab.world last.lab.world walks.more start.boots legal;
-    named = always_named s.lab.programs (said_in none_refused text).statements s.lab.world last.lab.world walks.more start.boots legal;
     room = omega (arith, walks.room, start.limit, ap length start.items);
     ends = subst (λ (turns : List (ℕ × ℕ)). EndsBy s.lab.programs s.lab.world (turns_of turns) (said_in none_refused text).limit walks.more last.lab.world e) start.schedule
         (subst (λ (limit : ℕ). EndsBy s.lab.programs s.lab.world (turns_of pairs) limit walks.more last.lab.world e) room walks.ends);

@@ -5,6 +5,7 @@ pub mod Decimals
 pub mod ReadyProcess
 pub mod Following
 pub mod Walking
+pub mod TurnTold
 pub mod Booting
 pub mod RunOutput
 pub mod Legal

@@ -10,7 +10,8 @@ use Rattle.zl_code.specs.declared.history.TraceItem.{TraceItem}
 use Rattle.zl_code.specs.Boot.{IsBoot, FirstFault}
 use Rattle.zl_code.specs.Image.{Library}
 use Rattle.zl_code.specs.Steps.{IsLegalHistory, single}
-use Rattle.zl_code.specs.Handles.{HandlesAreNamed, HandlesAreSound, Throughout}
+use Rattle.zl_code.specs.Handles.{Throughout}
+use Rattle.zl_code.specs.Sound.{IsSound}
 use Rattle.zl_calls.specs.World.{seen_in}
 use Rattle.zlab.specs.declared.engine.Booted.{Booted}
 use Rattle.zlab.specs.declared.engine.Booted.TheVariants as booted
@@ -52,10 +53,8 @@ pub record IsRunOf (is_refused : Refusals) (text : List ℕ) (items : List Trace
   pub boot : World
   pub boots : IsBoot library (said_in is_refused text).statements boot
   pub legal : IsLegalHistory library boot items w
-  -- no two handles stand at one place, and none has a right that its kind doesn't give
-  pub sound : InEachWorld HandlesAreSound library boot items w legal
-  -- each handle names an object that is there, of the kind that the handle has
-  pub named : InEachWorld HandlesAreNamed library boot items w legal
+  -- no two handles stand at one place, none has a right that its kind doesn't give, and each names an object that is there
+  pub sound : InEachWorld IsSound library boot items w legal
   pub room : length items ≤ (said_in is_refused text).limit
   pub ends : EndsBy library boot (turns_of (said_in is_refused text).schedule) (said_in is_refused text).limit items w e
 

@@ -1,14 +1,12 @@
 //! A world with its trace, stepped along a schedule.
-ghost use Rattle.std.specs.Prelude.{◌≡◌, IsTrue, [], replicate};
-ghost use Rattle.zl_code.specs.Steps.{pid_of};
+ghost use Rattle.std.specs.Prelude.{◌≡◌, [], replicate, if◌then◌else◌};
 ghost use Rattle.zl_calls.specs.World.{is_ready_in};
-ghost use Rattle.zl_calls.specs.Steps.{StepsTo};
 ghost use Rattle.zlab.specs.Follows.{turns_of};
 ghost use Rattle.zlab.specs.System.{Turns, Walks};
 
 use std::alloc::Global;
 use std::marker::Model;
-use zl_calls::{Local, World};
+use zl_calls::World;
 use zl_code::{ProcState, TraceItem};
 use zl_rights::Pid;
 
@@ -82,18 +80,29 @@ impl System {
     pub fn step(&mut self, pid: Pid) -> Stepped
         ensures { Turns self.old pid result self.new }
     {
-        if !is_ready(&self.world, pid) {
-            return Stepped::NotReady;
-        }
         if self.items.len() as u64 >= self.limit {
-            return Stepped::Limit;
+            return self.refused(pid, Stepped::Limit);
         }
         if self.items.reserve(1).is_err() {
-            return Stepped::NoMemory;
+            return self.refused(pid, Stepped::NoMemory);
         }
-        let item = act(&mut self.world, pid);
+        let Some(item) = self.world.step(pid) else {
+            return Stepped::NotReady;
+        };
         self.items.push(item).unwrap();
         Stepped::Ran
+    }
+
+    /// The answer to a turn that the trace has no room for, which a process that isn't ready doesn't
+    /// need.
+    fn refused(&self, pid: Pid, answer: Stepped) -> Stepped
+        ensures { result ≡ (if is_ready_in self.now.lab pid then answer else Stepped.NotReady) }
+    {
+        if is_ready(&self.world, pid) {
+            answer
+        } else {
+            Stepped::NotReady
+        }
     }
 
     /// So many turns of the process; those that find it not ready are skipped. The first of these may
@@ -130,22 +139,4 @@ fn is_ready(world: &World, pid: Pid) -> bool
     ensures { result ≡ is_ready_in world.now pid }
 {
     matches!(world.state_of(pid), ProcState::Ready)
-}
-
-/// One instruction of the ready process, and its item.
-fn act(world: &mut World, pid: Pid) -> TraceItem
-    requires { IsTrue (is_ready_in world.old pid) }
-    ensures pid { pid_of result ≡ pid }
-    ensures step { StepsTo world.old result world.new }
-{
-    match world.call_at(pid) {
-        Some(call) => {
-            let outcome = world.perform(pid);
-            TraceItem::Call { pid, call, outcome }
-        }
-        None => match world.local(pid) {
-            Local::Ran => TraceItem::Run { pid, count: 1 },
-            Local::Stuck => TraceItem::Stuck { pid },
-        },
-    }
 }

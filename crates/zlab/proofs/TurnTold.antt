@@ -1,0 +1,25 @@
+-- What a turn is answered for which the trace has no room.
+use Rattle.std.proofs.Common.{◌<◌, ◌≤◌, ℕ, Bool, true, false, inl, inr, refl, length}
+use Rattle.std.specs.Prelude.{if◌then◌else◌}
+use Rattle.std.proofs.lemmas.Bool.{cases_Bool}
+use Rattle.zl_calls.specs.World.{is_ready_in}
+use Rattle.zlab.specs.declared.system.Stepped.{Stepped}
+use Rattle.zlab.specs.declared.system.Stepped.TheVariants as stepped
+use Rattle.zlab.specs.System.{System, Turns}
+
+-- the answer by whether the process is ready
+abbrev pub answer_by : Bool → Stepped → Stepped
+answer_by ready answer = if ready then answer else stepped.NotReady
+
+module _ (s : System) (pid : ℕ) where
+  pub limit_told : s.limit ≤ length s.items → Turns s pid (answer_by (is_ready_in s.lab pid) stepped.Limit) s
+  limit_told full = elim (cases_Bool (is_ready_in s.lab pid)) as (λ _. Turns s pid (answer_by (is_ready_in s.lab pid) stepped.Limit) s) [
+    | inl ready ↦ rw ready (refl, refl, full)
+    | inr other ↦ rw other (refl, refl)
+  ]
+
+  pub memory_told : length s.items < s.limit → Turns s pid (answer_by (is_ready_in s.lab pid) stepped.NoMemory) s
+  memory_told room = elim (cases_Bool (is_ready_in s.lab pid)) as (λ _. Turns s pid (answer_by (is_ready_in s.lab pid) stepped.NoMemory) s) [
+    | inl ready ↦ rw ready (refl, refl, room)
+    | inr other ↦ rw other (refl, refl)
+  ]

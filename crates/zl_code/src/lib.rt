@@ -2,8 +2,8 @@
 //!
 //! It stands on `zl_rights` and `bitflags`. It promises that `decode` and `encode` are exact against
 //! the image grammar, both ways; `laws` proves of the definitions that a ready process always has a
-//! step and that no koid is given twice, and `boot_laws` that a boot makes a world or comes to one
-//! first fault, and never both.
+//! step, that no koid is given twice and that every world of a run is sound, and `boot_laws` that a
+//! boot makes a world or comes to one first fault, and never both.
 //!
 //! Each public type says where its rule comes from, and so do `decode` and `encode`; the fields,
 //! variants and methods of a type follow it where they say nothing else.

@@ -65,16 +65,16 @@ impl InstrBytes {
     }
 
     /// The number in the last eight bytes.
-    pub fn imm(&self) -> u32
-        ensures { result ≡ number_at self.now.last 0 4 }
+    pub fn imm(self) -> u32
+        ensures { result ≡ number_at self.last 0 4 }
     {
         let [i0, i1, i2, i3, ..] = self.last;
         u32::from_le_bytes([i0, i1, i2, i3])
     }
 
     /// The target in the last eight bytes.
-    pub fn target(&self) -> u32
-        ensures { result ≡ number_at self.now.last 4 4 }
+    pub fn target(self) -> u32
+        ensures { result ≡ number_at self.last 4 4 }
     {
         let [_, _, _, _, t0, t1, t2, t3] = self.last;
         u32::from_le_bytes([t0, t1, t2, t3])
@@ -91,6 +91,7 @@ impl InstrBytes {
 }
 
 /// The numbers of the registers that are used, and 0 behind them.
+#[inline(always)]
 fn seven(used: &[Register]) -> [u8; InstrBytes::REGISTERS]
     requires { length used.now ≤ most_registers }
     ensures { result ≡ seven used.now }
@@ -103,11 +104,16 @@ fn seven(used: &[Register]) -> [u8; InstrBytes::REGISTERS]
 }
 
 /// The bytes of an instruction with these registers, a number and a target.
-fn with_registers(opcode: u8, used: &[Register], imm: u32, target: u32) -> [u8; Instr::LEN]
-    requires { length used.now ≤ most_registers }
-    ensures { result ≡ fields opcode used.now imm target }
+fn with_registers<const N: usize>(
+    opcode: u8,
+    used: [Register; N],
+    imm: u32,
+    target: u32,
+) -> [u8; Instr::LEN]
+    requires { N ≤ most_registers }
+    ensures { result ≡ fields opcode used.entry imm target }
 {
-    let registers = seven(used);
+    let registers = seven(&used);
     let last = InstrBytes::numbers(imm, target);
     InstrBytes {
         opcode,
@@ -141,113 +147,113 @@ fn local_bytes(local: LocalInstr) -> [u8; Instr::LEN]
         LocalInstr::Const {
             destination,
             number,
-        } => with_registers(1, &[destination], number, 0),
+        } => with_registers(1, [destination], number, 0),
         LocalInstr::Move {
             destination,
             source,
-        } => with_registers(2, &[destination, source], 0, 0),
+        } => with_registers(2, [destination, source], 0, 0),
         LocalInstr::Add {
             destination,
             left,
             right,
-        } => with_registers(3, &[destination, left, right], 0, 0),
+        } => with_registers(3, [destination, left, right], 0, 0),
         LocalInstr::AddNumber {
             destination,
             left,
             number,
-        } => with_registers(4, &[destination, left], number, 0),
+        } => with_registers(4, [destination, left], number, 0),
         LocalInstr::Subtract {
             destination,
             left,
             right,
-        } => with_registers(5, &[destination, left, right], 0, 0),
+        } => with_registers(5, [destination, left, right], 0, 0),
         LocalInstr::And {
             destination,
             left,
             right,
-        } => with_registers(6, &[destination, left, right], 0, 0),
+        } => with_registers(6, [destination, left, right], 0, 0),
         LocalInstr::Or {
             destination,
             left,
             right,
-        } => with_registers(7, &[destination, left, right], 0, 0),
+        } => with_registers(7, [destination, left, right], 0, 0),
         LocalInstr::Xor {
             destination,
             left,
             right,
-        } => with_registers(8, &[destination, left, right], 0, 0),
+        } => with_registers(8, [destination, left, right], 0, 0),
         LocalInstr::ShiftLeft {
             destination,
             source,
             places,
-        } => with_registers(9, &[destination, source], places, 0),
+        } => with_registers(9, [destination, source], places, 0),
         LocalInstr::ShiftRight {
             destination,
             source,
             places,
-        } => with_registers(10, &[destination, source], places, 0),
+        } => with_registers(10, [destination, source], places, 0),
         LocalInstr::Take {
             destination,
             source,
-        } => with_registers(11, &[destination, source], 0, 0),
+        } => with_registers(11, [destination, source], 0, 0),
         LocalInstr::Swap {
             register,
             place,
             array,
-        } => with_registers(12, &[register, place], array, 0),
+        } => with_registers(12, [register, place], array, 0),
         LocalInstr::LoadByte {
             destination,
             base,
             offset,
-        } => with_registers(13, &[destination, base], offset, 0),
+        } => with_registers(13, [destination, base], offset, 0),
         LocalInstr::LoadWord {
             destination,
             base,
             offset,
-        } => with_registers(14, &[destination, base], offset, 0),
+        } => with_registers(14, [destination, base], offset, 0),
         LocalInstr::StoreByte {
             base,
             source,
             offset,
-        } => with_registers(15, &[base, source], offset, 0),
+        } => with_registers(15, [base, source], offset, 0),
         LocalInstr::StoreWord {
             base,
             source,
             offset,
-        } => with_registers(16, &[base, source], offset, 0),
-        LocalInstr::Jump { target } => with_registers(17, &[], 0, target),
-        LocalInstr::JumpZero { register, target } => with_registers(18, &[register], 0, target),
-        LocalInstr::JumpNotZero { register, target } => with_registers(19, &[register], 0, target),
+        } => with_registers(16, [base, source], offset, 0),
+        LocalInstr::Jump { target } => with_registers(17, [], 0, target),
+        LocalInstr::JumpZero { register, target } => with_registers(18, [register], 0, target),
+        LocalInstr::JumpNotZero { register, target } => with_registers(19, [register], 0, target),
         LocalInstr::JumpEqual {
             register,
             number,
             target,
-        } => with_registers(20, &[register], number, target),
+        } => with_registers(20, [register], number, target),
         LocalInstr::JumpNotEqual {
             register,
             number,
             target,
-        } => with_registers(21, &[register], number, target),
+        } => with_registers(21, [register], number, target),
         LocalInstr::JumpBelow {
             register,
             number,
             target,
-        } => with_registers(22, &[register], number, target),
+        } => with_registers(22, [register], number, target),
         LocalInstr::JumpNotBelow {
             register,
             number,
             target,
-        } => with_registers(23, &[register], number, target),
+        } => with_registers(23, [register], number, target),
         LocalInstr::JumpHas {
             register,
             bits,
             target,
-        } => with_registers(24, &[register], bits, target),
+        } => with_registers(24, [register], bits, target),
         LocalInstr::JumpHasNot {
             register,
             bits,
             target,
-        } => with_registers(25, &[register], bits, target),
+        } => with_registers(25, [register], bits, target),
     }
 }
 
@@ -257,24 +263,24 @@ fn call_bytes(call: CallInstr) -> [u8; Instr::LEN]
     ensures { result ≡ call_bytes call }
 {
     match call {
-        CallInstr::Close { status, handle } => with_registers(64, &[status, handle], 0, 0),
+        CallInstr::Close { status, handle } => with_registers(64, [status, handle], 0, 0),
         CallInstr::Dup {
             status,
             handle,
             copy,
             rights,
-        } => with_registers(65, &[status, handle, copy], rights, 0),
+        } => with_registers(65, [status, handle, copy], rights, 0),
         CallInstr::Replace {
             status,
             handle,
             replacement,
             rights,
-        } => with_registers(66, &[status, handle, replacement], rights, 0),
+        } => with_registers(66, [status, handle, replacement], rights, 0),
         CallInstr::ChanCreate {
             status,
             first,
             second,
-        } => with_registers(67, &[status, first, second], 0, 0),
+        } => with_registers(67, [status, first, second], 0, 0),
         CallInstr::ChanWrite {
             status,
             channel,
@@ -293,49 +299,49 @@ fn call_bytes(call: CallInstr) -> [u8; Instr::LEN]
             places,
         } => with_registers(
             69,
-            &[status, channel, address, room, bytes, handles, first],
+            [status, channel, address, room, bytes, handles, first],
             places,
             0,
         ),
-        CallInstr::EventCreate { status, event } => with_registers(70, &[status, event], 0, 0),
+        CallInstr::EventCreate { status, event } => with_registers(70, [status, event], 0, 0),
         CallInstr::Signal {
             status,
             handle,
             clear,
             set,
-        } => with_registers(71, &[status, handle, clear, set], 0, 0),
+        } => with_registers(71, [status, handle, clear, set], 0, 0),
         CallInstr::SignalPeer {
             status,
             handle,
             clear,
             set,
-        } => with_registers(72, &[status, handle, clear, set], 0, 0),
+        } => with_registers(72, [status, handle, clear, set], 0, 0),
         CallInstr::WaitOne {
             status,
             handle,
             mask,
             observed,
-        } => with_registers(73, &[status, handle, mask, observed], 0, 0),
+        } => with_registers(73, [status, handle, mask, observed], 0, 0),
         CallInstr::WaitPoll {
             status,
             handle,
             mask,
             observed,
-        } => with_registers(74, &[status, handle, mask, observed], 0, 0),
+        } => with_registers(74, [status, handle, mask, observed], 0, 0),
         CallInstr::WaitAsync {
             status,
             handle,
             port,
             key,
             mask,
-        } => with_registers(75, &[status, handle, port, key, mask], 0, 0),
-        CallInstr::PortCreate { status, port } => with_registers(76, &[status, port], 0, 0),
+        } => with_registers(75, [status, handle, port, key, mask], 0, 0),
+        CallInstr::PortCreate { status, port } => with_registers(76, [status, port], 0, 0),
         CallInstr::PortQueue {
             status,
             port,
             key,
             value,
-        } => with_registers(77, &[status, port, key, value], 0, 0),
+        } => with_registers(77, [status, port, key, value], 0, 0),
         CallInstr::PortWait {
             status,
             port,
@@ -343,7 +349,7 @@ fn call_bytes(call: CallInstr) -> [u8; Instr::LEN]
             kind,
             trigger,
             observed,
-        } => with_registers(78, &[status, port, key, kind, trigger, observed], 0, 0),
+        } => with_registers(78, [status, port, key, kind, trigger, observed], 0, 0),
         CallInstr::PortPoll {
             status,
             port,
@@ -351,30 +357,30 @@ fn call_bytes(call: CallInstr) -> [u8; Instr::LEN]
             kind,
             trigger,
             observed,
-        } => with_registers(79, &[status, port, key, kind, trigger, observed], 0, 0),
+        } => with_registers(79, [status, port, key, kind, trigger, observed], 0, 0),
         CallInstr::PortCancel {
             status,
             port,
             source,
             key,
-        } => with_registers(80, &[status, port, source, key], 0, 0),
+        } => with_registers(80, [status, port, source, key], 0, 0),
         CallInstr::ProcessCreate {
             status,
             job,
             program,
             process,
-        } => with_registers(81, &[status, job, program, process], 0, 0),
+        } => with_registers(81, [status, job, program, process], 0, 0),
         CallInstr::ProcessStart {
             status,
             process,
             handle,
             word,
-        } => with_registers(82, &[status, process, handle, word], 0, 0),
-        CallInstr::ProcessExit { code } => with_registers(83, &[code], 0, 0),
-        CallInstr::TaskKill { status, task } => with_registers(84, &[status, task], 0, 0),
+        } => with_registers(82, [status, process, handle, word], 0, 0),
+        CallInstr::ProcessExit { code } => with_registers(83, [code], 0, 0),
+        CallInstr::TaskKill { status, task } => with_registers(84, [status, task], 0, 0),
         CallInstr::JobCreate { status, job, child } => with_registers(
             85,
-            &[status, job, child],
+            [status, job, child],
             0,
             0,
         ),
@@ -384,7 +390,7 @@ fn call_bytes(call: CallInstr) -> [u8; Instr::LEN]
             mode,
             condition,
             action,
-        } => with_registers(86, &[status, job, mode, condition, action], 0, 0),
+        } => with_registers(86, [status, job, mode, condition, action], 0, 0),
     }
 }
 

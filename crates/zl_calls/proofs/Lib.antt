@@ -21,6 +21,7 @@ pub mod SameBodies
 pub mod Done
 pub mod Close
 pub mod Dup
+pub mod Grown
 pub mod EventCreate
 pub mod Signal
 pub mod ProcessExit

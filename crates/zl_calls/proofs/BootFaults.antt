@@ -19,15 +19,15 @@ use Rattle.zl_code.specs.Boot.{boot_fault, is_job_body, is_job, MOST_PROCESSES, 
 use Rattle.zl_calls.specs.declared.objects.Body.TheVariants as body
 use Rattle.zl_calls.specs.declared.objects.Object.{Object}
 use Rattle.zl_calls.specs.declared.process.Process.{Process}
-use Rattle.zl_calls.specs.Registry.{Registry}
+use Rattle.zl_calls.specs.Objects.{Objects}
 use Rattle.zl_calls.specs.World.{process_entry, body_value, object_value, world_value}
-use Rattle.zl_calls.specs.Registry.{is_job_in as is_job_object, is_job_body as is_job_here}
+use Rattle.zl_calls.specs.Objects.{is_job_in as is_job_object, is_job_body as is_job_here}
 use Rattle.zl_calls.specs.Makes.{IsCauseOf}
 use Rattle.zl_calls.proofs.Labs.{get_seen}
 
 -- ---- jobs
 
-pub job_seen : (ps : List Process) (r : Registry) (k : ℕ) → is_job (world_value ps r) k ≡ is_job_object (get r.objects k)
+pub job_seen : (ps : List Process) (r : Objects) (k : ℕ) → is_job (world_value ps r) k ≡ is_job_object (get r.objects k)
 job_seen ps r k = rw (get_seen r.objects k) (by_object (get r.objects k))
   where
     by_object : (o : Option Object) → is_job_body (body_in (option_map object_value o)) ≡ is_job_object o
@@ -41,7 +41,7 @@ job_seen ps r k = rw (get_seen r.objects k) (by_object (get r.objects k))
 
 -- ---- faults
 
-module _ (lib : Library) (ps : List Process) (r : Registry) (job program word : ℕ) where
+module _ (lib : Library) (ps : List Process) (r : Objects) (job program word : ℕ) where
   abbrev fault : Option BootCause
   fault = boot_fault lib (world_value ps r) (statement.Process job program word)
 

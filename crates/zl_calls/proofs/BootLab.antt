@@ -18,9 +18,9 @@ use Rattle.zl_table.proofs.MapEdits.{below_parts, sorted_parts}
 use Rattle.zl_calls.specs.declared.objects.Object.{Object}
 use Rattle.zl_calls.specs.declared.process.Process.{Process}
 use Rattle.zl_calls.specs.declared.process.State.TheVariants as state
-use Rattle.zl_calls.specs.Registry.{Registry, is_kept, has_living_child}
+use Rattle.zl_calls.specs.Objects.{Objects, is_kept, has_living_child}
 use Rattle.zl_calls.specs.World.{process_entry, process_value, object_entry, object_value, world_value}
-use Rattle.zl_calls.specs.Lab.{IsLab, AgreesOn, is_in_job}
+use Rattle.zl_calls.specs.Consistent.{IsConsistent, AgreesOn, is_in_job}
 use Rattle.zl_calls.specs.Making.{IsMaking, IsFresh, object_of, living, root_job}
 use Rattle.zl_calls.proofs.Counting.{no_queues}
 use Rattle.zl_calls.proofs.Labs.{started, all_held}
@@ -90,13 +90,13 @@ none_count (p ∷ ps) k fresh =
     let first : count_by (λ (h : ℕ × Entry). h.1.koid == k) p.table.entries ≡ 0 = rw ((All-head IsFresh p ps fresh).no_handles) refl in
     omega (arith, first, none_count ps k (All-tail IsFresh p ps fresh), sum_by-cons (λ (q : ℕ × ProcessValue). count_by (λ h. h.1.koid == k) q.1.handles) (process_entry p) (map process_entry ps))
 
-no_handles_to : (ps : List Process) (r : Registry) (k : ℕ) → All IsFresh ps → ◌≡◌ {A = ℕ} 0 (handles_to (world_value ps r) k)
+no_handles_to : (ps : List Process) (r : Objects) (k : ℕ) → All IsFresh ps → ◌≡◌ {A = ℕ} 0 (handles_to (world_value ps r) k)
 unfolding handles_to
 no_handles_to ps r k fresh = rw (none_count ps k fresh, no_queues r.objects k) refl
 
 -- ---- the invariant
 
-module _ (ps : List Process) (r : Registry) (making : IsMaking ps r) where
+module _ (ps : List Process) (r : Objects) (making : IsMaking ps r) where
   -- an object is the root job or that of a process
   found : (A : Type 0) (k : ℕ) (o : Object) → get r.objects k ≡ Some o → (◌≡◌ {A = ℕ} 1 k → root_job ≡ o → A) → (IsOfProcess ps k o → A) → A
   unfolding get
@@ -151,7 +151,7 @@ module _ (ps : List Process) (r : Registry) (making : IsMaking ps r) where
       (λ key is. subst (λ (x : Object). IsTrue (is_kept r.objects k x)) is (rw (← key) child))
       (λ of. subst (λ (x : Object). IsTrue (is_kept r.objects k x)) of.is refl)
 
-  pub lab_of : ((k : ℕ) (o : Object) → get r.objects k ≡ Some o → IsTrue (is_kept r.objects k o)) → IsLab ps r
+  pub lab_of : ((k : ℕ) (o : Object) → get r.objects k ≡ Some o → IsTrue (is_kept r.objects k o)) → IsConsistent ps r
   unfolding get
   lab_of all_kept = record {
     processes_in_order = making.processes_in_order;
@@ -180,7 +180,7 @@ module _ (ps : List Process) (r : Registry) (making : IsMaking ps r) where
 
 -- ---- a process was made
 
-lab_with : (ps : List Process) (r : Registry) → IsMaking ps r → 0 < length ps → IsLab ps r
+lab_with : (ps : List Process) (r : Objects) → IsMaking ps r → 0 < length ps → IsConsistent ps r
 unfolding has_living_child
 lab_with [] r making some = absurd (omega (arith, some))
 lab_with (p ∷ ps) r making some = lab_of (p ∷ ps) r making (kept (p ∷ ps) r making child)
@@ -188,15 +188,15 @@ lab_with (p ∷ ps) r making some = lab_of (p ∷ ps) r making (kept (p ∷ ps) 
     child : IsTrue (has_living_child r.objects 1)
     child = rw making.objects refl
 
-settles_with : (ps : List Process) (r : Registry) → IsLab ps r → Settles (world_value ps r) (world_value ps r)
+settles_with : (ps : List Process) (r : Objects) → IsConsistent ps r → Settles (world_value ps r) (world_value ps r)
 settles_with ps r lab = settles_itself (map process_entry ps) (map object_entry r.objects) r.next_koid (started ps) (all_held ps r lab)
 
 -- ---- no process was made
 
-abbrev emptied : Registry → Registry
+abbrev emptied : Objects → Objects
 emptied r = record r { objects = [] }
 
-lab_without : (ps : List Process) (r : Registry) → IsMaking ps r → length ps ≡ 0 → IsLab ps (emptied r)
+lab_without : (ps : List Process) (r : Objects) → IsMaking ps r → length ps ≡ 0 → IsConsistent ps (emptied r)
 unfolding get
 lab_without (p ∷ ps) r making none = absurd (omega (arith, none))
 lab_without [] r making none = record {
@@ -222,19 +222,19 @@ root_goes : (n : ℕ) → Settles (quiet [] (root_entry ∷ []) n) (quiet [] [] 
 unfolding get without is_held in_table in_queue is_process living_child
 root_goes n = settles_without [] (root_entry ∷ []) n 1 refl (quiet [] [] n) (settles_itself [] [] n (started []) (record { held = λ k there. absurd (false≢true there) }))
 
-settles_without_root : (ps : List Process) (r : Registry) → IsMaking ps r → length ps ≡ 0 → Settles (world_value ps r) (world_value ps (emptied r))
+settles_without_root : (ps : List Process) (r : Objects) → IsMaking ps r → length ps ≡ 0 → Settles (world_value ps r) (world_value ps (emptied r))
 settles_without_root (p ∷ ps) r making none = absurd (omega (arith, none))
 settles_without_root [] r making none = rw making.objects (root_goes r.next_koid)
 
 -- ---- the invariant, and that it is settled
 
 -- the root job went if no process was made
-pub record IsEnded (ps : List Process) (r r2 : Registry) : Type 0 where
+pub record IsEnded (ps : List Process) (r r2 : Objects) : Type 0 where
   pub settles : Settles (world_value ps r) (world_value ps r2)
-  pub lab : IsLab ps r2
+  pub lab : IsConsistent ps r2
 
-pub ends_with : (ps : List Process) (r : Registry) → IsMaking ps r → 0 < length ps → IsEnded ps r r
-ends_with ps r making some = let lab : IsLab ps r = lab_with ps r making some in record { settles = settles_with ps r lab; lab = lab }
+pub ends_with : (ps : List Process) (r : Objects) → IsMaking ps r → 0 < length ps → IsEnded ps r r
+ends_with ps r making some = let lab : IsConsistent ps r = lab_with ps r making some in record { settles = settles_with ps r lab; lab = lab }
 
-pub ends_without : (ps : List Process) (r : Registry) → IsMaking ps r → length ps ≡ 0 → IsEnded ps r (emptied r)
+pub ends_without : (ps : List Process) (r : Objects) → IsMaking ps r → length ps ≡ 0 → IsEnded ps r (emptied r)
 ends_without ps r making none = record { settles = settles_without_root ps r making none; lab = lab_without ps r making none }

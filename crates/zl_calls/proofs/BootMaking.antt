@@ -16,9 +16,9 @@ use Rattle.zl_calls.specs.declared.objects.Body.TheVariants as body
 use Rattle.zl_calls.specs.declared.objects.Object.{Object}
 use Rattle.zl_calls.specs.declared.process.Process.{Process}
 use Rattle.zl_calls.specs.Cpu.{started_cpu}
-use Rattle.zl_calls.specs.Registry.{Registry, with_new}
+use Rattle.zl_calls.specs.Objects.{Objects, with_new}
 use Rattle.zl_calls.specs.World.{process_entry, process_value, state_value, object_entry, object_value, world_value}
-use Rattle.zl_calls.specs.Registry.{is_job_in}
+use Rattle.zl_calls.specs.Objects.{is_job_in}
 use Rattle.zl_calls.specs.Making.{IsMaking, IsFresh, object_of, living, root_job, root_alone}
 use Rattle.zl_calls.specs.declared.booting.Made.{Made}
 use Rattle.zl_calls.specs.Makes.{Makes}
@@ -33,7 +33,7 @@ unfolding get
 none_is_job [] k = refl
 none_is_job (p ∷ ps) k = elim (p.pid == k) as (λ b. is_job_in (cond b (Some living) (get (map object_of ps) k)) ≡ false) [ true ↦ refl | false ↦ none_is_job ps k ]
 
-job_is_root : (ps : List Process) (r : Registry) (k : ℕ) → IsMaking ps r → is_job_in (get r.objects k) ≡ true → ◌≡◌ {A = ℕ} k 1
+job_is_root : (ps : List Process) (r : Objects) (k : ℕ) → IsMaking ps r → is_job_in (get r.objects k) ≡ true → ◌≡◌ {A = ℕ} k 1
 unfolding get
 job_is_root ps r k making there = by_key (cases_Bool (1 == k)) (rw (making.objects) at there)
   where
@@ -44,17 +44,17 @@ job_is_root ps r k making there = by_key (cases_Bool (1 == k)) (rw (making.objec
 -- ---- one process more
 
 -- the process is new: it gets the next koid
-pub record IsNew (p : Process) (r : Registry) (program word : ℕ) (image : Image) : Type 0 where
+pub record IsNew (p : Process) (r : Objects) (program word : ℕ) (image : Image) : Type 0 where
   pub pid : p.pid ≡ r.next_koid
   pub program_is : p.program ≡ program
   pub cpu : p.cpu ≡ started_cpu image word
   pub fresh : IsFresh p
 
-module _ (ps : List Process) (r : Registry) (making : IsMaking ps r) (p : Process) (program word : ℕ) (image : Image) (new : IsNew p r program word image) where
+module _ (ps : List Process) (r : Objects) (making : IsMaking ps r) (p : Process) (program word : ℕ) (image : Image) (new : IsNew p r program word image) where
   abbrev n : ℕ
   n = r.next_koid
 
-  abbrev grown : Registry
+  abbrev grown : Objects
   grown = with_new r (body.Process 1 true) 0
 
   processes_are : map process_entry (ps ++ p ∷ []) ≡ put (map process_entry ps) n (process_value p)

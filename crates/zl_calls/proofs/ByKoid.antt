@@ -11,7 +11,7 @@ use Rattle.std.proofs.lemmas.Bool.Decides.{nat_tests}
 use Rattle.zl_rights.specs.Map.{Map, get, put, update, without, has_key}
 use Rattle.zl_table.proofs.MapEdits.{update_missing, put_key}
 use Rattle.zl_calls.specs.declared.objects.Object.{Object}
-use Rattle.zl_calls.specs.Registry.{AreBelow, lives_below, has_living_child}
+use Rattle.zl_calls.specs.Objects.{AreBelow, lives_below, has_living_child}
 use Rattle.zl_calls.proofs.Updates.{put_last}
 
 module _ {X : Type 0} where

@@ -17,9 +17,9 @@ use Rattle.zl_calls.specs.declared.objects.Body.{Body}
 use Rattle.zl_calls.specs.declared.objects.Body.TheVariants as body
 use Rattle.zl_calls.specs.declared.objects.Object.{Object}
 use Rattle.zl_calls.specs.declared.process.Process.{Process}
-use Rattle.zl_calls.specs.Registry.{Registry, held_once_less, letting_go, without_unheld, without_unkept, is_kept, stays_alone, has_living_child, lives_below, is_job_at}
+use Rattle.zl_calls.specs.Objects.{Objects, held_once_less, letting_go, without_unheld, without_unkept, is_kept, stays_alone, has_living_child, lives_below, is_job_at}
 use Rattle.zl_calls.specs.World.{process_entry, object_entry, object_value, world_value}
-use Rattle.zl_calls.specs.Lab.{IsNamed, AgreesOn, is_in_job}
+use Rattle.zl_calls.specs.Consistent.{IsNamed, AgreesOn, is_in_job}
 use Rattle.zl_calls.proofs.Updates.{update_unseen}
 use Rattle.zl_calls.proofs.MapsWithout.{any_without_at, count_without, without_seen}
 use Rattle.zl_calls.proofs.Quiet.{settles_without}
@@ -27,20 +27,20 @@ use Rattle.zl_calls.proofs.SameBodies.{found_updated, named_updated, alone_updat
 use Rattle.zl_calls.proofs.Unheld.{IsSound, tables_alone, named_in_table, not_in_table, not_held, no_living}
 
 -- the objects are kept, but perhaps for those that are loose
-pub record KeepsBut (loose : ℕ → Bool) (r : Registry) : Type 0 where
+pub record KeepsBut (loose : ℕ → Bool) (r : Objects) : Type 0 where
   pub kept : (j : ℕ) (o : Object) → loose j ≡ false → get r.objects j ≡ Some o → IsTrue (is_kept r.objects j o)
 
 -- what settles the later world settles the earlier one
-abbrev pub Leads : List Process → Registry → Registry → Type 0
+abbrev pub Leads : List Process → Objects → Objects → Type 0
 Leads ps r r2 = (x : World) → Settles (world_value ps r2) x → Settles (world_value ps r) x
 
 -- ---- one handle less names the object k
 
-module _ (ps : List Process) (m : Map Entry) (r : Registry) (sound : IsSound ps m r) (sorted : IsTrue (is_sorted nat_cmp m)) (v : ℕ) (e : Entry) (there : get m v ≡ Some e) where
+module _ (ps : List Process) (m : Map Entry) (r : Objects) (sound : IsSound ps m r) (sorted : IsTrue (is_sorted nat_cmp m)) (v : ℕ) (e : Entry) (there : get m v ≡ Some e) where
   abbrev k : ℕ
   k = e.koid
 
-  abbrev less : Registry
+  abbrev less : Objects
   less = letting_go r k
 
   same_body : (o : Object) → (held_once_less o).body ≡ o.body
@@ -92,9 +92,9 @@ module _ (ps : List Process) (m : Map Entry) (r : Registry) (sound : IsSound ps 
 
 -- ---- the object k goes unless something keeps it
 
-module _ (ps : List Process) (m : Map Entry) (r : Registry) (sound : IsSound ps m r) (loose : ℕ → Bool) (keeps : KeepsBut loose r) (k : ℕ) where
+module _ (ps : List Process) (m : Map Entry) (r : Objects) (sound : IsSound ps m r) (loose : ℕ → Bool) (keeps : KeepsBut loose r) (k : ℕ) where
   -- what is known of the objects afterwards
-  pub record IsCleared (r2 : Registry) : Type 0 where
+  pub record IsCleared (r2 : Objects) : Type 0 where
     pub sound_left : IsSound ps m r2
     pub keeps_left : KeepsBut (λ j. loose j && not (k == j)) r2
     pub leads : Leads ps r r2
@@ -108,7 +108,7 @@ module _ (ps : List Process) (m : Map Entry) (r : Registry) (sound : IsSound ps 
       by_loose j o at (inl slack) (inr apart) h = absurd (false≢true (sym (rw (slack, apart) at h)))
 
   module _ (o : Object) (there : get r.objects k ≡ Some o) (unkept : is_kept r.objects k o ≡ false) where
-    abbrev left : Registry
+    abbrev left : Objects
     left = record r { objects = without r.objects k }
 
     same : (j : ℕ) → (j == j) ≡ true

@@ -13,7 +13,7 @@ use Rattle.zl_calls.specs.declared.objects.Body.{Body}
 use Rattle.zl_calls.specs.declared.objects.Body.TheVariants as body
 use Rattle.zl_calls.specs.declared.objects.Object.{Object}
 use Rattle.zl_calls.specs.declared.process.Process.{Process}
-use Rattle.zl_calls.specs.Registry.{Registry}
+use Rattle.zl_calls.specs.Objects.{Objects}
 use Rattle.zl_calls.specs.World.{process_entry, process_value, object_entry, body_value, world_value}
 use Rattle.zl_calls.proofs.Answered.{IsWrite}
 
@@ -64,7 +64,7 @@ module _ {X : Type 0} where
   ]
 
 -- the handles that name k before a process was written whose table has c fewer of them
-pub counts_fewer : (before after : List Process) (p p2 : Process) (r r2 : Registry) (k c : ℕ) → IsWrite before after p p2
+pub counts_fewer : (before after : List Process) (p p2 : Process) (r r2 : Objects) (k c : ℕ) → IsWrite before after p p2
     → count_by (λ h. h.1.koid == k) p.table.entries ≡ count_by (λ h. h.1.koid == k) p2.table.entries + c
     → handles_to (world_value before r) k ≡ handles_to (world_value after r2) k + c
 unfolding handles_to
@@ -74,7 +74,7 @@ counts_fewer before after p p2 r r2 k c write fewer =
     rw (no_queues r.objects k, no_queues r2.objects k, write.writes (λ _. process_value p2) refl) (omega (arith, summed))
 
 -- the handles that name k after a process was written whose table has c more of them
-pub counts_written : (before after : List Process) (p p2 : Process) (r r2 : Registry) (k c : ℕ) → IsWrite before after p p2
+pub counts_written : (before after : List Process) (p p2 : Process) (r r2 : Objects) (k c : ℕ) → IsWrite before after p p2
     → count_by (λ h. h.1.koid == k) p2.table.entries ≡ count_by (λ h. h.1.koid == k) p.table.entries + c
     → handles_to (world_value after r2) k ≡ handles_to (world_value before r) k + c
 unfolding handles_to
@@ -104,7 +104,7 @@ module _ {X : Type 0} where
       by_first zero none later = or_right (test x) _ (later (omega (arith, more, sum_by-cons n x xs, none)))
       by_first (suc a) some later = or_left (test x) _ (each x (omega (arith, some)))
 
-pub counted_in_table : (ps : List Process) (r : Registry) (k : ℕ) → 0 < handles_to (world_value ps r) k → IsTrue (in_table (world_value ps r) k)
+pub counted_in_table : (ps : List Process) (r : Objects) (k : ℕ) → 0 < handles_to (world_value ps r) k → IsTrue (in_table (world_value ps r) k)
 unfolding handles_to in_table
 counted_in_table ps r k more =
     summed_any (λ p. count_by (λ h. h.1.koid == k) p.1.handles) (λ p. list_any (λ h. h.1.koid == k) p.1.handles) (λ p. counted_any (λ h. h.1.koid == k) p.1.handles) (map process_entry ps) (omega (arith, more, no_queues r.objects k))

@@ -14,10 +14,10 @@ use Rattle.zl_code.specs.Steps.{Step, AtCall, next_for}
 use Rattle.zl_code.specs.Calls.{Calls, grows, replied, taken}
 use Rattle.zl_table.specs.Table.{Handles}
 use Rattle.zl_calls.specs.declared.process.Process.{Process}
-use Rattle.zl_calls.specs.Registry.{Registry}
+use Rattle.zl_calls.specs.Objects.{Objects}
 use Rattle.zl_calls.specs.calls.Answer.{Does, Replies, status_of, values_of}
 use Rattle.zl_calls.specs.World.{process_entry, process_value, object_entry, state_value, world_value}
-use Rattle.zl_calls.specs.Lab.{IsLab}
+use Rattle.zl_calls.specs.Consistent.{IsConsistent}
 use Rattle.zl_calls.proofs.Answered.{IsWrite, same_world}
 use Rattle.zl_calls.proofs.Labs.{all_held, call_settles, started}
 use Rattle.zl_calls.proofs.Quiet.{settles_itself}
@@ -25,17 +25,17 @@ use Rattle.zl_calls.proofs.Refused.{answers, refused_calls}
 use Rattle.zl_calls.proofs.Written.{refusal_keeps}
 
 -- the call is a step, and the invariant holds afterwards
-pub record IsDone (lib : Library) (before after : List Process) (r r2 : Registry) (pid : ℕ) (call : CallName) (ends : Outcome) : Type 0 where
+pub record IsDone (lib : Library) (before after : List Process) (r r2 : Objects) (pid : ℕ) (call : CallName) (ends : Outcome) : Type 0 where
   pub step : Step lib (world_value before r) pid (item.Call pid call ends) (world_value after r2)
-  pub lab : IsLab after r2
+  pub lab : IsConsistent after r2
 
 -- the call in its world, and the invariant
-pub record IsCalled (lib : Library) (before after : List Process) (r r2 : Registry) (pid : ℕ) (s : Site) (ends : Outcome) : Type 0 where
+pub record IsCalled (lib : Library) (before after : List Process) (r r2 : Objects) (pid : ℕ) (s : Site) (ends : Outcome) : Type 0 where
   pub calls : Calls lib (world_value before r) pid s ends (world_value after r2)
-  pub keeps : IsLab after r2
+  pub keeps : IsConsistent after r2
 
 -- a ready process of a lab, at the call
-module _ (lib : Library) (before after : List Process) (r r2 : Registry) (p p2 : Process) (lab : IsLab before r) (write : IsWrite before after p p2) (ready : state_value p.state ≡ Ready)
+module _ (lib : Library) (before after : List Process) (r r2 : Objects) (p p2 : Process) (lab : IsConsistent before r) (write : IsWrite before after p p2) (ready : state_value p.state ≡ Ready)
     (call : CallName) (s : Site) (next : next_for lib (process_value p) ≡ AtCall call s) where
   abbrev w : World
   w = world_value before r
@@ -49,7 +49,7 @@ module _ (lib : Library) (before after : List Process) (r r2 : Registry) (p p2 :
   }
 
   -- a call that takes no handle and is either done or refused
-  module _ {A : Type 0} (values : A → List ℕ) (Done : A → Handles → Registry → Type 0) (wants : Bool) (o : Option Status)
+  module _ {A : Type 0} (values : A → List ℕ) (Done : A → Handles → Objects → Type 0) (wants : Bool) (o : Option Status)
       (refused : refusal lib w p.pid s.request ≡ answers o) (may_want : wants ≡ grows s.request) (takes_none : taken w p.pid s ≡ w)
       (done : (x : A) → Done x p2.table r2 → Replies s status.Ok (values x) p p2 → IsCalled lib before after r r2 p.pid s (outcome.Answered status.Ok)) where
     by_answer : (answer : Result A Status) → Does Done wants o p.table r answer p2.table r2 → Replies s (status_of answer) (values_of values answer) p p2
@@ -58,7 +58,7 @@ module _ (lib : Library) (before after : List Process) (r r2 : Registry) (p p2 :
     by_answer (Err answer) does replies = record {
       calls = refused_calls lib w p.pid s wants o answer (world_value after r2) refused may_want does.err
           (same_world before after p p2 write r r2 s answer does.same_table does.same_objects replies ∙ ap (λ (v : World). replied v p.pid s answer []) (sym takes_none));
-      keeps = subst (IsLab after) (sym does.same_objects) (refusal_keeps before after p p2 write r lab does.same_table (ap (λ (q : Process). q.state) replies));
+      keeps = subst (IsConsistent after) (sym does.same_objects) (refusal_keeps before after p p2 write r lab does.same_table (ap (λ (q : Process). q.state) replies));
     }
 
     pub answered_done : (ends : Outcome) (answer : Result A Status) → Does Done wants o p.table r answer p2.table r2 → Replies s (status_of answer) (values_of values answer) p p2

@@ -27,11 +27,11 @@ use Rattle.zl_code.specs.Steps.{AtCall, next_for}
 use Rattle.zl_code.specs.Calls.{Values, replied, taken}
 use Rattle.zl_calls.specs.declared.objects.Object.{Object}
 use Rattle.zl_calls.specs.declared.process.Process.{Process}
-use Rattle.zl_calls.specs.Registry.{Registry, has_place, held_once_more, holding}
+use Rattle.zl_calls.specs.Objects.{Objects, has_place, held_once_more, holding}
 use Rattle.zl_calls.specs.calls.Answer.{IsAnswered, one_value, Replies, has_room_in}
 use Rattle.zl_calls.specs.calls.Handle.{Dups, DupDoes, dup_refusal, dup_refusal_of}
 use Rattle.zl_calls.specs.World.{process_entry, process_value, object_value, state_value, world_value}
-use Rattle.zl_calls.specs.Lab.{IsLab, IsNamed}
+use Rattle.zl_calls.specs.Consistent.{IsConsistent, IsNamed}
 use Rattle.zl_calls.proofs.Answered.{IsWrite, table_is, may_get_inserted, replied_inserted}
 use Rattle.zl_calls.proofs.Done.{IsDone, IsCalled, answered_done}
 use Rattle.zl_calls.proofs.Labs.{no_policy, handles_counted}
@@ -74,7 +74,7 @@ body_held o = elim (nat_lt o.handles (2 ^ 62)) as (λ b. (cond b (record o { han
 object_held : (o : Object) → object_value (held_once_more o) ≡ object_value o
 object_held o = elim (nat_lt o.handles (2 ^ 62)) as (λ b. object_value (cond b (record o { handles = o.handles + 1 }) o) ≡ object_value o) [ true ↦ refl | false ↦ refl ]
 
-module _ (lib : Library) (before after : List Process) (r r2 : Registry) (p p2 : Process) (lab : IsLab before r) (write : IsWrite before after p p2) (h asked : ℕ) (consumed destinations : List ℕ) where
+module _ (lib : Library) (before after : List Process) (r r2 : Objects) (p p2 : Process) (lab : IsConsistent before r) (write : IsWrite before after p p2) (h asked : ℕ) (consumed destinations : List ℕ) where
   abbrev w : World
   w = world_value before r
 

@@ -14,8 +14,8 @@ use Rattle.zl_calls.specs.declared.objects.Body.TheVariants as body
 use Rattle.zl_calls.specs.declared.objects.Object.{Object}
 use Rattle.zl_calls.specs.declared.process.State.TheVariants as state
 use Rattle.zl_calls.specs.declared.process.Process.{Process}
-use Rattle.zl_calls.specs.Registry.{Registry, stopped, stopped_body, stopping, process_ended, ended_in, without_unheld, job_in, job_of, is_kept, stays_alone, has_living_child, lives_below}
-use Rattle.zl_calls.specs.Lab.{IsLab, IsNamed}
+use Rattle.zl_calls.specs.Objects.{Objects, stopped, stopped_body, stopping, process_ended, ended_in, without_unheld, job_in, job_of, is_kept, stays_alone, has_living_child, lives_below}
+use Rattle.zl_calls.specs.Consistent.{IsConsistent, IsNamed}
 use Rattle.zl_calls.proofs.Answered.{IsWrite}
 use Rattle.zl_calls.proofs.SameBodies.{found_updated}
 use Rattle.zl_calls.proofs.Unheld.{IsSound}
@@ -51,11 +51,11 @@ module _ {X : Type 0} where
     | inr apart ↦ rw apart (ap (λ (rest : Map X). e ∷ rest) (update_same_at m k x f (rw apart at there) same))
   ]
 
-module _ (before after : List Process) (p p2 : Process) (write : IsWrite before after p p2) (r : Registry) (lab : IsLab before r) (m : Map Entry) (table : IsTable p2.table)
+module _ (before after : List Process) (p p2 : Process) (write : IsWrite before after p p2) (r : Objects) (lab : IsConsistent before r) (m : Map Entry) (table : IsTable p2.table)
     (fewer : (j : ℕ) → count_by (λ h. h.1.koid == j) p.table.entries ≡ count_by (λ h. h.1.koid == j) p2.table.entries + count_by (λ h. h.1.koid == j) m)
     (named : (v : ℕ) (e : Entry) → get p2.table.entries v ≡ Some e → IsNamed r.objects e)
     (code : ℤ) (over : p2.state ≡ state.Ended code) where
-  abbrev ended : Registry
+  abbrev ended : Objects
   ended = stopping r p.pid
 
   sound : IsSound after m ended

@@ -33,11 +33,11 @@ use Rattle.zl_calls.specs.declared.objects.Body.{Body}
 use Rattle.zl_calls.specs.declared.objects.Body.TheVariants as body
 use Rattle.zl_calls.specs.declared.objects.Object.{Object}
 use Rattle.zl_calls.specs.declared.process.Process.{Process}
-use Rattle.zl_calls.specs.Registry.{Registry, new_object, with_new, is_kept, stays_alone, lives_below, has_living_child, is_job_at, is_job_in}
+use Rattle.zl_calls.specs.Objects.{Objects, new_object, with_new, is_kept, stays_alone, lives_below, has_living_child, is_job_at, is_job_in}
 use Rattle.zl_calls.specs.calls.Answer.{IsAnswered, one_value, Replies, has_room_in}
 use Rattle.zl_calls.specs.calls.Event.{CreatesEvent, EventCreateDoes, event_refusal}
 use Rattle.zl_calls.specs.World.{process_entry, process_value, object_entry, state_value, world_value}
-use Rattle.zl_calls.specs.Lab.{IsLab, IsNamed, AgreesOn, is_in_job}
+use Rattle.zl_calls.specs.Consistent.{IsConsistent, IsNamed, AgreesOn, is_in_job}
 use Rattle.zl_calls.proofs.Answered.{IsWrite, table_is, may_get_inserted, replied_inserted}
 use Rattle.zl_calls.proofs.Counting.{counted_in_table}
 use Rattle.zl_calls.proofs.Done.{IsDone, IsCalled, answered_done}
@@ -59,7 +59,7 @@ event_refused lib w free p = rw (may_create w free p condition.NewEvent) (by_tes
 
 -- ---- its world, and the world after it
 
-module _ (lib : Library) (before after : List Process) (r r2 : Registry) (p p2 : Process) (lab : IsLab before r) (write : IsWrite before after p p2) (consumed destinations : List ℕ) where
+module _ (lib : Library) (before after : List Process) (r r2 : Objects) (p p2 : Process) (lab : IsConsistent before r) (write : IsWrite before after p p2) (consumed destinations : List ℕ) where
   abbrev w : World
   w = world_value before r
 
@@ -79,7 +79,7 @@ module _ (lib : Library) (before after : List Process) (r r2 : Registry) (p p2 :
     abbrev entry : Entry
     entry = new_entry n kind.Event
 
-    abbrev grown : Registry
+    abbrev grown : Objects
     grown = with_new r body.Event 1
 
     -- ---- the relation of calls

@@ -17,9 +17,9 @@ use Rattle.zl_calls.specs.declared.objects.Body.{Body}
 use Rattle.zl_calls.specs.declared.objects.Body.TheVariants as body
 use Rattle.zl_calls.specs.declared.objects.Object.{Object}
 use Rattle.zl_calls.specs.declared.process.Process.{Process}
-use Rattle.zl_calls.specs.Registry.{Registry, new_object, with_new, is_kept, stays_alone, lives_below, has_living_child, is_job_at, is_job_in}
+use Rattle.zl_calls.specs.Objects.{Objects, new_object, with_new, is_kept, stays_alone, lives_below, has_living_child, is_job_at, is_job_in}
 use Rattle.zl_calls.specs.World.{process_entry, world_value}
-use Rattle.zl_calls.specs.Lab.{IsLab, IsNamed, AgreesOn, is_in_job}
+use Rattle.zl_calls.specs.Consistent.{IsConsistent, IsNamed, AgreesOn, is_in_job}
 use Rattle.zl_calls.proofs.Counting.{counted_in_table}
 use Rattle.zl_calls.proofs.Labs.{Found, any_found}
 use Rattle.zl_calls.proofs.Updates.{put_last}
@@ -31,7 +31,7 @@ any_behind test (y ∷ xs) x out = ap (λ b. test y || b) (any_behind test xs x 
 
 -- ---- no handle names a koid that wasn't given
 
-module _ (ps : List Process) (r : Registry) (lab : IsLab ps r) where
+module _ (ps : List Process) (r : Objects) (lab : IsConsistent ps r) where
   given_key : (k : ℕ) (o : Object) → get r.objects k ≡ Some o → k < r.next_koid
   given_key k o at = lab.given_objects k (rw at refl)
 
@@ -61,7 +61,7 @@ module _ (ps : List Process) (r : Registry) (lab : IsLab ps r) where
     abbrev fresh : Object
     fresh = new_object b 1
 
-    abbrev grown : Registry
+    abbrev grown : Objects
     grown = with_new r b 1
 
     grown_is : put r.objects n fresh ≡ grown.objects

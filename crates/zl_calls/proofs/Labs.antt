@@ -28,9 +28,9 @@ use Rattle.zl_calls.specs.declared.objects.Object.{Object}
 use Rattle.zl_calls.specs.declared.process.State.{State}
 use Rattle.zl_calls.specs.declared.process.State.TheVariants as state
 use Rattle.zl_calls.specs.declared.process.Process.{Process}
-use Rattle.zl_calls.specs.Registry.{Registry, has_place, stays_alone, lives_below, has_living_child}
+use Rattle.zl_calls.specs.Objects.{Objects, has_place, stays_alone, lives_below, has_living_child}
 use Rattle.zl_calls.specs.World.{process_entry, process_value, state_value, object_entry, object_value, world_value}
-use Rattle.zl_calls.specs.Lab.{IsLab, IsNamed}
+use Rattle.zl_calls.specs.Consistent.{IsConsistent, IsNamed}
 use Rattle.zl_calls.proofs.Quiet.{Started, IsSettled, wakes_nothing}
 use Rattle.zl_calls.proofs.Refused.{NoPolicy, empty_policies}
 use Rattle.zl_calls.proofs.Counting.{counted_in_table}
@@ -125,7 +125,7 @@ started ps = record { stays = λ K. all_started K ps }
 
 -- ---- what follows from the invariant
 
-module _ (ps : List Process) (r : Registry) (lab : IsLab ps r) where
+module _ (ps : List Process) (r : Objects) (lab : IsConsistent ps r) where
   abbrev w : World
   w = world_value ps r
 
@@ -181,7 +181,7 @@ module _ (ps : List Process) (r : Registry) (lab : IsLab ps r) where
 -- ---- a call is a step
 
 -- a call, and what isn't held any more goes
-pub call_settles : (lib : Library) (before after : List Process) (r acted r2 : Registry) (p : Process) (call : CallName) (s : Site) (ends : Outcome)
+pub call_settles : (lib : Library) (before after : List Process) (r acted r2 : Objects) (p : Process) (call : CallName) (s : Site) (ends : Outcome)
     → get (map process_entry before) p.pid ≡ Some (process_value p) → state_value p.state ≡ Ready → next_for lib (process_value p) ≡ AtCall call s
     → Calls lib (world_value before r) p.pid s ends (world_value after acted) → Settles (world_value after acted) (world_value after r2)
     → Step lib (world_value before r) p.pid (item.Call p.pid call ends) (world_value after r2)

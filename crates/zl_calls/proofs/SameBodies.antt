@@ -11,8 +11,8 @@ use Rattle.zl_rights.proofs.MapLaws.{get-update}
 use Rattle.zl_calls.specs.declared.objects.Body.{Body}
 use Rattle.zl_calls.specs.declared.objects.Body.TheVariants as body
 use Rattle.zl_calls.specs.declared.objects.Object.{Object}
-use Rattle.zl_calls.specs.Registry.{is_job_at, is_job_in, has_living_child, lives_below, stays_alone}
-use Rattle.zl_calls.specs.Lab.{IsNamed, is_in_job}
+use Rattle.zl_calls.specs.Objects.{is_job_at, is_job_in, has_living_child, lives_below, stays_alone}
+use Rattle.zl_calls.specs.Consistent.{IsNamed, is_in_job}
 
 -- an object afterwards is one that was there before, perhaps changed
 pub found_updated : (f : Object → Object) (os : Map Object) (k : ℕ) (A : Type 0) (j : ℕ) (q : Object) → get (update os k f) j ≡ Some q

@@ -17,9 +17,9 @@ use Rattle.zl_calls.specs.declared.objects.Body.TheVariants as body
 use Rattle.zl_calls.specs.declared.objects.Object.{Object}
 use Rattle.zl_calls.specs.declared.process.State.TheVariants as state
 use Rattle.zl_calls.specs.declared.process.Process.{Process}
-use Rattle.zl_calls.specs.Registry.{Registry, stopped, stopped_body, stopping, is_job_at, is_job_in, is_job_body}
+use Rattle.zl_calls.specs.Objects.{Objects, stopped, stopped_body, stopping, is_job_at, is_job_in, is_job_body}
 use Rattle.zl_calls.specs.World.{process_entry, process_value, object_value, body_value, world_value}
-use Rattle.zl_calls.specs.Lab.{IsLab, IsNamed, AgreesOn, is_in_job}
+use Rattle.zl_calls.specs.Consistent.{IsConsistent, IsNamed, AgreesOn, is_in_job}
 use Rattle.zl_calls.proofs.Answered.{IsWrite}
 use Rattle.zl_calls.proofs.Updates.{update_unseen}
 use Rattle.zl_calls.proofs.Counting.{counts_fewer}
@@ -29,7 +29,7 @@ use Rattle.zl_calls.proofs.Unheld.{IsSound}
 
 -- ---- the table of the process has lost the handles m
 
-module _ (before after : List Process) (p p2 : Process) (write : IsWrite before after p p2) (r : Registry) (lab : IsLab before r) (m : Map Entry) (table : IsTable p2.table)
+module _ (before after : List Process) (p p2 : Process) (write : IsWrite before after p p2) (r : Objects) (lab : IsConsistent before r) (m : Map Entry) (table : IsTable p2.table)
     (fewer : (j : ℕ) → count_by (λ h. h.1.koid == j) p.table.entries ≡ count_by (λ h. h.1.koid == j) p2.table.entries + count_by (λ h. h.1.koid == j) m)
     (named : (v : ℕ) (e : Entry) → get p2.table.entries v ≡ Some e → IsNamed r.objects e) where
   pub still_given : (k : ℕ) → IsTrue (has_key (map process_entry after) k) → k < r.next_koid
@@ -53,7 +53,7 @@ module _ (before after : List Process) (p p2 : Process) (write : IsWrite before 
 
   -- ---- the process has ended too
 
-  abbrev ended : Registry
+  abbrev ended : Objects
   ended = stopping r p.pid
 
   same_kind : (o : Object) → object_value (stopped o) ≡ object_value o

@@ -15,7 +15,7 @@ use Rattle.zl_rights.specs.LookUp.{looked_up}
 use Rattle.zl_rights.proofs.MapLaws.{get-put}
 use Rattle.zl_table.specs.Table.{Handles, IsTable, Inserts, Drains}
 use Rattle.zl_table.proofs.MapEdits.{sorted_put, length-put_new, put_key}
-use Rattle.zl_calls.specs.Registry.{Registry, Closes, none_left, one_more, released}
+use Rattle.zl_calls.specs.Objects.{Objects, Closes, none_left, one_more, released}
 use Rattle.zl_calls.specs.calls.Handle.{without_handle}
 use Rattle.zl_calls.specs.calls.Event.{settable_at}
 
@@ -74,10 +74,10 @@ found_inserted A t e v t2 inserts value q at new old =
 
 -- ---- the handles of a table close
 
-pub drained_closes : (old : Handles) (e : Entry) (new : Handles) (r mid r2 : Registry) → Drains old e new → mid ≡ released r e.koid → Closes new.entries mid r2 → Closes old.entries r r2
+pub drained_closes : (old : Handles) (e : Entry) (new : Handles) (r mid r2 : Objects) → Drains old e new → mid ≡ released r e.koid → Closes new.entries mid r2 → Closes old.entries r r2
 drained_closes old e new r mid r2 d is rest = one_more old.entries d.value e r r2 d.removes.was (rw (d.removes.entries, is) at rest)
 
-pub all_closed : (t : Handles) (r : Registry) → t.entries ≡ [] → Closes t.entries r r
+pub all_closed : (t : Handles) (r : Objects) → t.entries ≡ [] → Closes t.entries r r
 all_closed t r none = rw none (none_left r)
 
 -- ---- sets of bits

@@ -20,14 +20,14 @@ use Rattle.zl_calls.specs.declared.objects.Object.{Object}
 use Rattle.zl_calls.specs.declared.process.State.{State}
 use Rattle.zl_calls.specs.declared.process.State.TheVariants as state
 use Rattle.zl_calls.specs.declared.process.Process.{Process}
-use Rattle.zl_calls.specs.Registry.{Registry, is_kept, stays_alone, has_living_child, lives_below, is_job_at, is_job_body}
+use Rattle.zl_calls.specs.Objects.{Objects, is_kept, stays_alone, has_living_child, lives_below, is_job_at, is_job_body}
 use Rattle.zl_calls.specs.World.{process_entry, state_value, object_entry, body_value, world_value}
-use Rattle.zl_calls.specs.Lab.{IsNamed, AgreesOn, is_in_job}
+use Rattle.zl_calls.specs.Consistent.{IsNamed, AgreesOn, is_in_job}
 use Rattle.zl_calls.proofs.Counting.{no_queues}
 use Rattle.zl_calls.proofs.Labs.{Found, any_found, any_at}
 
 -- The invariant but for what keeps the objects, where the handles m have left the tables and still count.
-pub record IsSound (ps : List Process) (m : Map Entry) (r : Registry) : Type 0 where
+pub record IsSound (ps : List Process) (m : Map Entry) (r : Objects) : Type 0 where
   pub processes_in_order : IsTrue (is_sorted nat_cmp (map process_entry ps))
   pub objects_in_order : IsTrue (is_sorted nat_cmp r.objects)
   pub given_processes : (k : ℕ) → IsTrue (has_key (map process_entry ps) k) → k < r.next_koid
@@ -60,13 +60,13 @@ module _ {X : Type 0} where
     | inr later ↦ omega (arith, sum_by-cons n x xs, any_summed n test each xs later)
   ]
 
-pub in_table_counts : (ps : List Process) (r : Registry) (k : ℕ) → IsTrue (in_table (world_value ps r) k) → 0 < handles_to (world_value ps r) k
+pub in_table_counts : (ps : List Process) (r : Objects) (k : ℕ) → IsTrue (in_table (world_value ps r) k) → 0 < handles_to (world_value ps r) k
 unfolding handles_to in_table
 in_table_counts ps r k some =
     omega (arith, any_summed (λ p. count_by (λ h. h.1.koid == k) p.1.handles) (λ p. list_any (λ h. h.1.koid == k) p.1.handles) (λ p. any_counted (λ h. h.1.koid == k) p.1.handles) (map process_entry ps) some)
 
 -- a handle in a table counts
-pub named_in_table : (ps : List Process) (r : Registry) (j v : ℕ) (p : ProcessValue) (e : Entry) → get (map process_entry ps) j ≡ Some p → get p.handles v ≡ Some e → IsTrue (in_table (world_value ps r) e.koid)
+pub named_in_table : (ps : List Process) (r : Objects) (j v : ℕ) (p : ProcessValue) (e : Entry) → get (map process_entry ps) j ≡ Some p → get p.handles v ≡ Some e → IsTrue (in_table (world_value ps r) e.koid)
 unfolding in_table
 named_in_table ps r j v p e at there =
     any_at (λ q. list_any (λ h. h.1.koid == e.koid) q.1.handles) (map process_entry ps) j p at
@@ -76,13 +76,13 @@ named_in_table ps r j v p e at there =
     same k = grind (arith, nat_tests)
 
 -- the count of handles doesn't depend on the objects
-pub tables_alone : (ps : List Process) (r r2 : Registry) (k : ℕ) → handles_to (world_value ps r) k ≡ handles_to (world_value ps r2) k
+pub tables_alone : (ps : List Process) (r r2 : Objects) (k : ℕ) → handles_to (world_value ps r) k ≡ handles_to (world_value ps r2) k
 unfolding handles_to
 tables_alone ps r r2 k = rw (no_queues r.objects k, no_queues r2.objects k) refl
 
 -- ---- an object that nothing keeps
 
-lives_runs : (ps : List Process) (r : Registry) (k : ℕ) → is_process (world_value ps r) lives k ≡ is_process (world_value ps r) runs k
+lives_runs : (ps : List Process) (r : Objects) (k : ℕ) → is_process (world_value ps r) lives k ≡ is_process (world_value ps r) runs k
 unfolding is_process get
 lives_runs [] r k = refl
 lives_runs (p ∷ ps) r k = elim (cases_Bool (p.pid == k)) as (λ _. state_passes lives (get (map process_entry (p ∷ ps)) k) ≡ state_passes runs (get (map process_entry (p ∷ ps)) k)) [
@@ -115,7 +115,7 @@ or_parts : (a b : Bool) → (a || b) ≡ false → (a ≡ false) × (b ≡ false
 or_parts false b h = (refl, h)
 or_parts true b h = absurd (false≢true (sym h))
 
-module _ (ps : List Process) (m : Map Entry) (r : Registry) (sound : IsSound ps m r) (k : ℕ) (o : Object) (there : get r.objects k ≡ Some o) (unkept : is_kept r.objects k o ≡ false) where
+module _ (ps : List Process) (m : Map Entry) (r : Objects) (sound : IsSound ps m r) (k : ℕ) (o : Object) (there : get r.objects k ≡ Some o) (unkept : is_kept r.objects k o ≡ false) where
   abbrev w : World
   w = world_value ps r
 

@@ -17,9 +17,9 @@ use Rattle.zl_table.specs.Table.{IsTable, Inserts}
 use Rattle.zl_table.proofs.MapEdits.{is_sorted-update, has_key-update}
 use Rattle.zl_calls.specs.declared.objects.Object.{Object}
 use Rattle.zl_calls.specs.declared.process.Process.{Process}
-use Rattle.zl_calls.specs.Registry.{Registry, is_kept}
+use Rattle.zl_calls.specs.Objects.{Objects, is_kept}
 use Rattle.zl_calls.specs.World.{process_entry, process_value, world_value, IsPlaceOf}
-use Rattle.zl_calls.specs.Lab.{IsLab, IsNamed, AgreesOn, is_in_job}
+use Rattle.zl_calls.specs.Consistent.{IsConsistent, IsNamed, AgreesOn, is_in_job}
 use Rattle.zl_calls.proofs.Answered.{IsWrite}
 use Rattle.zl_calls.proofs.Counting.{count_put, counts_written}
 use Rattle.zl_calls.proofs.Positions.{IsFirst, first_at, get_first, get_missing, update_first}
@@ -53,7 +53,7 @@ place_is (p ∷ ps) pid (Some i) is =
 
 -- ---- what is new in the objects
 
-pub record IsNext (before after : List Process) (r r2 : Registry) : Type 0 where
+pub record IsNext (before after : List Process) (r r2 : Objects) : Type 0 where
   pub objects_in_order : IsTrue (is_sorted nat_cmp r2.objects)
   pub next_koid : r.next_koid ≤ r2.next_koid
   pub given_objects : (k : ℕ) → IsTrue (has_key r2.objects k) → k < r2.next_koid
@@ -85,7 +85,7 @@ module _ (before after : List Process) (p p2 : Process) (write : IsWrite before 
     | inr apart ↦ old (rw (get_after k, apart) at at)
   ]
 
-  pub same_runs : p2.state ≡ p.state → (r r2 : Registry) (k : ℕ) → is_process (world_value after r2) runs k ≡ is_process (world_value before r) runs k
+  pub same_runs : p2.state ≡ p.state → (r r2 : Objects) (k : ℕ) → is_process (world_value after r2) runs k ≡ is_process (world_value before r) runs k
   unfolding is_process
   same_runs same r r2 k = elim (cases_Bool (p.pid == k)) as (λ _. state_passes runs (get (map process_entry after) k) ≡ state_passes runs (get (map process_entry before) k)) [
     | inl here ↦ rw (get_after k, here, ← eqb-true p.pid k here, write.there, same) refl
@@ -93,10 +93,10 @@ module _ (before after : List Process) (p p2 : Process) (write : IsWrite before 
   ]
 
   -- the invariant, from what is new in the table and in the objects
-  pub keeps : (r r2 : Registry) → IsLab before r → p2.state ≡ p.state → IsTable p2.table
+  pub keeps : (r r2 : Objects) → IsConsistent before r → p2.state ≡ p.state → IsTable p2.table
       → ((v : ℕ) (e : Entry) → get p2.table.entries v ≡ Some e → IsNamed r2.objects e)
       → IsNext before after r r2
-      → IsLab after r2
+      → IsConsistent after r2
   keeps r r2 lab state table named next = record {
     processes_in_order = rw (after_is, is_sorted-update (map process_entry before) p.pid (λ _. process_value p2)) lab.processes_in_order;
     objects_in_order = next.objects_in_order;
@@ -114,19 +114,19 @@ module _ (before after : List Process) (p p2 : Process) (write : IsWrite before 
   }
 
   -- the same where the table stays
-  pub keeps_table : (r r2 : Registry) → IsLab before r → p2.state ≡ p.state → p2.table ≡ p.table → IsNext before after r r2 → IsLab after r2
+  pub keeps_table : (r r2 : Objects) → IsConsistent before r → p2.state ≡ p.state → p2.table ≡ p.table → IsNext before after r r2 → IsConsistent after r2
   keeps_table r r2 lab state table next = keeps r r2 lab state
       (rw table (lab.tables p.pid (process_value p) write.there))
       (λ v e at. next.named e (lab.named p.pid (process_value p) v e write.there (rw table at at)))
       next
 
-  pub same_counts : (r r2 : Registry) (k : ℕ) → p2.table ≡ p.table → handles_to (world_value after r2) k ≡ handles_to (world_value before r) k
+  pub same_counts : (r r2 : Objects) (k : ℕ) → p2.table ≡ p.table → handles_to (world_value after r2) k ≡ handles_to (world_value before r) k
   same_counts r r2 k table =
       let none : count_by (λ h. h.1.koid == k) p2.table.entries ≡ count_by (λ h. h.1.koid == k) p.table.entries + 0 = rw table (omega arith) in
       counts_written before after p p2 r r2 k 0 write none ∙ omega arith
 
   -- the same where nothing but registers and the counter changes
-  pub refusal_keeps : (r : Registry) → IsLab before r → p2.table ≡ p.table → p2.state ≡ p.state → IsLab after r
+  pub refusal_keeps : (r : Objects) → IsConsistent before r → p2.table ≡ p.table → p2.state ≡ p.state → IsConsistent after r
   refusal_keeps r lab table state = keeps_table r r lab state table (record {
     objects_in_order = lab.objects_in_order;
     next_koid = omega arith;
@@ -142,7 +142,7 @@ module _ (before after : List Process) (p p2 : Process) (write : IsWrite before 
 
   -- the same where a handle enters the table
   module _ (e : Entry) (made : ℕ) (inserts : Inserts p.table e made p2.table) where
-    pub keeps_inserted : (r r2 : Registry) → IsLab before r → p2.state ≡ p.state → length p.table.entries < 1024 → IsNamed r2.objects e → IsNext before after r r2 → IsLab after r2
+    pub keeps_inserted : (r r2 : Objects) → IsConsistent before r → p2.state ≡ p.state → length p.table.entries < 1024 → IsNamed r2.objects e → IsNext before after r r2 → IsConsistent after r2
     keeps_inserted r r2 lab state room named next = keeps r r2 lab state
         (inserted_table p.table e made p2.table (lab.tables p.pid (process_value p) write.there) room inserts)
         (λ v x at. found_inserted (IsNamed r2.objects x) p.table e made p2.table inserts v x at
@@ -150,14 +150,14 @@ module _ (before after : List Process) (p p2 : Process) (write : IsWrite before 
         (λ old. next.named x (lab.named p.pid (process_value p) v x write.there old)))
         next
 
-    pub inserted_counts : (r r2 : Registry) (j : ℕ) → handles_to (world_value after r2) j ≡ handles_to (world_value before r) j + cond (e.koid == j) 1 0
+    pub inserted_counts : (r r2 : Objects) (j : ℕ) → handles_to (world_value after r2) j ≡ handles_to (world_value before r) j + cond (e.koid == j) 1 0
     inserted_counts r r2 j = counts_written before after p p2 r r2 j (cond (e.koid == j) 1 0) write
         (ap (λ (m : Map Entry). count_by (λ x. x.1.koid == j) m) inserts.entries ∙ count_put (λ x. x.1.koid == j) p.table.entries made e inserts.unused)
 
 -- ---- one object changes, but not what it is
 
-module _ (before after : List Process) (r : Registry) (lab : IsLab before r) (k : ℕ) (f : Object → Object) (same : (o : Object) → (f o).body ≡ o.body) where
-  abbrev updated : Registry
+module _ (before after : List Process) (r : Objects) (lab : IsConsistent before r) (k : ℕ) (f : Object → Object) (same : (o : Object) → (f o).body ≡ o.body) where
+  abbrev updated : Objects
   updated = record r { objects = update r.objects k f }
 
   pub updated_next : ((j : ℕ) (o : Object) → get r.objects j ≡ Some o → IsTrue (k == j) → (f o).handles ≡ handles_to (world_value after updated) j)

@@ -1,10 +1,10 @@
 pub mod Program
 pub mod Cpu
 pub mod World
-pub mod Registry
+pub mod Objects
 pub mod calls
 pub mod Acted
-pub mod Lab
+pub mod Consistent
 pub mod Making
 pub mod Makes
 pub mod Steps

@@ -9,7 +9,7 @@ use Rattle.zl_calls.specs.declared.objects.Body.TheVariants as body
 use Rattle.zl_calls.specs.declared.objects.Object.{Object}
 use Rattle.zl_calls.specs.declared.process.State.TheVariants as state
 use Rattle.zl_calls.specs.declared.process.Process.{Process}
-use Rattle.zl_calls.specs.Registry.{Registry, new_object}
+use Rattle.zl_calls.specs.Objects.{Objects, new_object}
 use Rattle.zl_calls.specs.World.{process_entry}
 
 -- ---- objects
@@ -19,7 +19,7 @@ abbrev pub root_job : Object
 root_job = new_object body.RootJob 0
 
 -- the root job alone
-abbrev pub root_alone : Registry
+abbrev pub root_alone : Objects
 root_alone = record { objects = (1, root_job) ∷ []; next_koid = 2 }
 
 -- a living process of the root job without handles
@@ -41,7 +41,7 @@ pub record IsFresh (p : Process) : Type 0 where
 -- ---- all of it
 
 -- the processes are fresh, and beside the root job just they are the objects
-pub record IsMaking (processes : List Process) (r : Registry) : Type 0 where
+pub record IsMaking (processes : List Process) (r : Objects) : Type 0 where
   pub fresh : All IsFresh processes
   pub objects : r.objects ≡ (1, root_job) ∷ map object_of processes
   pub processes_in_order : IsTrue (is_sorted nat_cmp (map process_entry processes))

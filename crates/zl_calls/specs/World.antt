@@ -2,7 +2,7 @@
 use Rattle.std.specs.Prelude.{ℕ, ◌≡◌, ◌<◌, Bool, false, length, slice_get, List, [], map, Option, Some, None, if◌then◌else◌}
 use Rattle.std.specs.Option.{option_map}
 use Rattle.zl_rights.specs.Map.{get}
-use Rattle.zl_rights.specs.World.{World, Process as ProcessValue, State as StateValue, Created, Ready, Blocked, Ended, Gone, Object as ObjectValue, Body as BodyValue, JobBody, ProcessBody, EventBody}
+use Rattle.zl_rights.specs.World.{World as WorldValue, Process as ProcessValue, State as StateValue, Created, Ready, Blocked, Ended, Gone, Object as ObjectValue, Body as BodyValue, JobBody, ProcessBody, EventBody}
 use Rattle.zl_rights.specs.Signals.{is_ready, is_process}
 use Rattle.zl_code.specs.declared.history.CallName.{CallName}
 use Rattle.zl_code.specs.declared.history.ProcState.{ProcState}
@@ -19,12 +19,12 @@ use Rattle.zl_calls.specs.declared.objects.Object.{Object}
 use Rattle.zl_calls.specs.declared.process.State.{State}
 use Rattle.zl_calls.specs.declared.process.State.TheVariants as state
 use Rattle.zl_calls.specs.declared.process.Process.{Process}
-use Rattle.zl_calls.specs.Registry.{Registry}
+use Rattle.zl_calls.specs.Objects.{Objects}
 
 -- the programs of a lab, and its world
-pub record Lab : Type 0 where
+pub record World : Type 0 where
   pub programs : Library
-  pub world : World
+  pub world : WorldValue
 
 -- ---- views
 
@@ -62,13 +62,13 @@ abbrev pub object_entry : ℕ × Object → ℕ × ObjectValue
 object_entry e = (e.0, object_value e.1)
 
 -- the world of these processes and objects; nothing blocks or waits yet
-abbrev pub world_value : List Process → Registry → World
-world_value processes registry = record {
+abbrev pub world_value : List Process → Objects → WorldValue
+world_value processes objects = record {
   processes = map process_entry processes;
-  objects = map object_entry registry.objects;
+  objects = map object_entry objects.objects;
   waits = [];
   blocked = [];
-  next_koid = registry.next_koid;
+  next_koid = objects.next_koid;
   waits_made = 0;
 }
 
@@ -93,7 +93,7 @@ pub record IsPlaceOf (processes : List Process) (pid place : ℕ) : Type 0 where
   pub holds : get (map process_entry processes) pid ≡ option_map process_value (slice_get processes place)
 
 -- what a trace tells of the process; a number that was never a process is gone
-abbrev pub state_in : Lab → ℕ → ProcState
+abbrev pub state_in : World → ℕ → ProcState
 state_in l pid = seen_of (get l.world.processes pid)
 
 -- the call that stands next, if one does
@@ -124,9 +124,9 @@ call_of lib None = None
 call_of lib (Some p) = if is_ready p.state then call_in (next_for lib p) else None
 
 -- the call at which the process is, if it is ready and at one
-abbrev pub call_for : Lab → ℕ → Option CallName
+abbrev pub call_for : World → ℕ → Option CallName
 call_for l pid = call_of l.programs (get l.world.processes pid)
 
 -- the process is there and ready
-abbrev pub is_ready_in : Lab → ℕ → Bool
+abbrev pub is_ready_in : World → ℕ → Bool
 is_ready_in l pid = is_process l.world is_ready pid

@@ -3,7 +3,7 @@
 ghost use Rattle.std.specs.Prelude.{◌≡◌, ◌≢◌, ◌≤◌, [], IfOk, OnOk, IfErr};
 ghost use Rattle.zl_rights.specs.Settle.{Settles};
 ghost use Rattle.zl_code.specs.Boot.{IsBoot, FirstFault, MOST_ITEMS, boot_fault};
-ghost use Rattle.zl_calls.specs.Lab.{IsLab};
+ghost use Rattle.zl_calls.specs.Consistent.{IsConsistent};
 ghost use Rattle.zl_calls.specs.Making.{IsMaking, root_alone};
 ghost use Rattle.zl_calls.specs.Makes.{Makes, seen, IsCauseOf, IsReached};
 
@@ -32,7 +32,7 @@ pub struct Made {
 /// What the statements of a boot make, in their order; `World::boot` says when which fault comes.
 pub fn booted(alloc: Global, library: &Library, boot: &Boot) -> Result<Made, BootFault>
     ensures ok { IfOk result (λ made. IsBoot library.now boot.now.statements.items (seen made)) }
-    ensures lab { IfOk result (λ made. IsLab made.processes.items made.objects) }
+    ensures lab { IfOk result (λ made. IsConsistent made.processes.items made.objects) }
     ensures limit { OnOk result (boot.now.limit ≤ MOST_ITEMS) }
     ensures err { IfErr result (λ fault. fault.cause ≢ BootCause.NoMemory
         → FirstFault library.now boot.now.statements.items boot.now.limit
@@ -132,7 +132,7 @@ impl Made {
     fn settle(&mut self)
         requires { IsMaking self.old.processes.items self.old.objects }
         ensures settles { Settles (seen self.old) (seen self.new) }
-        ensures lab { IsLab self.new.processes.items self.new.objects }
+        ensures lab { IsConsistent self.new.processes.items self.new.objects }
     {
         if self.processes.is_empty() {
             self.objects.clear();

@@ -1,6 +1,6 @@
 ghost use Rattle.std.specs.Prelude.{[], ◌≡◌, ◌+◌, ◌<◌, ◌^◌, nat_lt, IfOk, OnErr};
 ghost use Rattle.zl_rights.specs.Map.{get};
-ghost use Rattle.zl_calls.specs.Registry.{has_place, held_once_more, held_once_less, raised_changed, stopped, job_of, job_in, lives_below, has_living_child, is_kept, is_job_at, with_new, without_newest, holding, changing, letting_go, stopping, without_unheld, released, process_ended};
+ghost use Rattle.zl_calls.specs.Objects.{has_place, held_once_more, held_once_less, raised_changed, stopped, job_of, job_in, lives_below, has_living_child, is_kept, is_job_at, with_new, without_newest, holding, changing, letting_go, stopping, without_unheld, released, process_ended};
 ghost use Rattle.zl_calls.specs.Making.{root_alone};
 
 use bitflags::Flags;
@@ -104,9 +104,9 @@ pub struct Objects {
 }
 
 impl Model for Objects {
-    ghost use Rattle.zl_calls.specs.Registry.{Registry, AreBelow};
+    ghost use Rattle.zl_calls.specs.Objects.{Objects as ObjectsValue, AreBelow};
 
-    ghost Value = { Registry };
+    ghost Value = { ObjectsValue };
 
     ghost view = { λ o. record { objects = o.by_koid.entries; next_koid = o.next_koid } };
 

@@ -34,16 +34,16 @@ pub struct World {
 }
 
 impl Model for World {
-    ghost use Rattle.zl_calls.specs.World.{Lab};
+    ghost use Rattle.zl_calls.specs.World.{World as WorldValue};
 
-    ghost Value = { Lab };
+    ghost Value = { WorldValue };
 
     ghost use Rattle.zl_calls.specs.World.{world_value};
-    ghost use Rattle.zl_calls.specs.Lab.{IsLab};
+    ghost use Rattle.zl_calls.specs.Consistent.{IsConsistent};
 
     ghost view = { λ w. record { programs = w.library; world = world_value w.processes.items w.objects } };
 
-    ghost invariant = { λ w. IsLab w.processes.items w.objects };
+    ghost invariant = { λ w. IsConsistent w.processes.items w.objects };
 }
 
 /// What a process did that wasn't at a call.

@@ -4,7 +4,7 @@ use Rattle.zl_rights.specs.Map.{get}
 use Rattle.zl_rights.specs.World.{State, Process, Created, Ready, Blocked, Ended, Gone}
 use Rattle.zl_rights.specs.Signals.{is_ready, is_process, state_passes}
 use Rattle.zl_code.specs.declared.history.ProcState.TheVariants as seen
-use Rattle.zl_calls.specs.World.{Lab, state_in, seen_in, seen_of, is_ready_in}
+use Rattle.zl_calls.specs.World.{World, state_in, seen_in, seen_of, is_ready_in}
 
 ready_state : (s : State) → seen_in s ≡ seen.Ready → IsTrue (is_ready s)
 ready_state Created e = absurd (cc)
@@ -17,7 +17,7 @@ ready_process : (p : Option Process) → seen_of p ≡ seen.Ready → IsTrue (st
 ready_process None e = absurd (cc)
 ready_process (Some p) e = ready_state p.state e
 
-pub ready_by : (l : Lab) (pid : ℕ) → state_in l pid ≡ seen.Ready → IsTrue (is_ready_in l pid)
+pub ready_by : (l : World) (pid : ℕ) → state_in l pid ≡ seen.Ready → IsTrue (is_ready_in l pid)
 unfolding is_process
 ready_by l pid e = ready_process (get l.world.processes pid) e
 
@@ -32,6 +32,6 @@ busy_process : (p : Option Process) → (seen_of p ≡ seen.Ready → ⊥) → s
 busy_process None e = refl
 busy_process (Some p) e = busy_state p.state e
 
-pub busy_by : (l : Lab) (pid : ℕ) → (state_in l pid ≡ seen.Ready → ⊥) → is_ready_in l pid ≡ false
+pub busy_by : (l : World) (pid : ℕ) → (state_in l pid ≡ seen.Ready → ⊥) → is_ready_in l pid ≡ false
 unfolding is_process
 busy_by l pid e = busy_process (get l.world.processes pid) e

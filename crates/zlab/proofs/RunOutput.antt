@@ -13,7 +13,7 @@ use Rattle.std.proofs.lemmas.List.{length-map, take_all}
 use Rattle.zl_rights.specs.Map.{Map, get}
 use Rattle.zl_rights.specs.World.{Process}
 use Rattle.zl_code.specs.declared.history.ProcState.{ProcState}
-use Rattle.zl_calls.specs.World.{Lab, seen_in, seen_of, state_in}
+use Rattle.zl_calls.specs.World.{World, seen_in, seen_of, state_in}
 use Rattle.zlab.specs.declared.system.End.{End}
 use Rattle.zlab.specs.Engine.{states_of, IsRun, WritesRun, BeginsRun, some_lines}
 use Rattle.zlab.specs.Output.{AppendsBeginning, Gathers}
@@ -76,11 +76,11 @@ abbrev pub line_of : ℕ × ProcState → List ℕ
 line_of p = state_line p.0 p.1
 
 -- the n-th process, with what it is in
-record IsState (l : Lab) (n pid : ℕ) (st : ProcState) : Type 0 where
+record IsState (l : World) (n pid : ℕ) (st : ProcState) : Type 0 where
   within : n < length (states_of l.world)
   read : get_or (states_of l.world) n (pid, st) ≡ (pid, st)
 
-state_at : (l : Lab) (n pid : ℕ) (st : ProcState) → IsTrue (is_sorted nat_cmp l.world.processes) → Some pid ≡ slice_get (map (λ p. p.0) l.world.processes) n → st ≡ state_in l pid → IsState l n pid st
+state_at : (l : World) (n pid : ℕ) (st : ProcState) → IsTrue (is_sorted nat_cmp l.world.processes) → Some pid ≡ slice_get (map (λ p. p.0) l.world.processes) n → st ≡ state_in l pid → IsState l n pid st
 state_at l n pid st sorted at is = by_entry (slice_get l.world.processes n) refl
   where
     by_entry : (o : Option (ℕ × Process)) → slice_get l.world.processes n ≡ o → IsState l n pid st
@@ -94,7 +94,7 @@ state_at l n pid st sorted at is = by_entry (slice_get l.world.processes n) refl
           read = get_or_from_slice_get (states_of l.world) n (e.0, seen_in e.1.state) (pid, st) there ∙ (λ i. (sym key i, sym state i));
         }
 
-module _ (l : Lab) (n pid : ℕ) (st : ProcState) (sorted : IsTrue (is_sorted nat_cmp l.world.processes)) (at : Some pid ≡ slice_get (map (λ p. p.0) l.world.processes) n) (is : st ≡ state_in l pid)
+module _ (l : World) (n pid : ℕ) (st : ProcState) (sorted : IsTrue (is_sorted nat_cmp l.world.processes)) (at : Some pid ≡ slice_get (map (λ p. p.0) l.world.processes) n) (is : st ≡ state_in l pid)
     (a c e : Option (List ℕ)) (b d : List ℕ) (so_far : Gathers a b c d (flat_map line_of (take n (states_of l.world)))) where
   here : IsState l n pid st
   here = state_at l n pid st sorted at is
@@ -105,7 +105,7 @@ module _ (l : Lab) (n pid : ℕ) (st : ProcState) (sorted : IsTrue (is_sorted na
   pub begun_state : AppendsBeginning c e (d ++ state_line pid st) → AppendsBeginning a e (b ++ flat_map line_of (states_of l.world))
   begun_state g = begun_line line_of (states_of l.world) n (pid, st) a c e b d here.within so_far (subst (λ (p : ℕ × ProcState). AppendsBeginning c e (d ++ line_of p)) (sym here.read) g)
 
-module _ (l : Lab) (n : ℕ) (a c : Option (List ℕ)) (b d : List ℕ) (so_far : Gathers a b c d (flat_map line_of (take n (states_of l.world)))) where
+module _ (l : World) (n : ℕ) (a c : Option (List ℕ)) (b d : List ℕ) (so_far : Gathers a b c d (flat_map line_of (take n (states_of l.world)))) where
   pub all_states : length l.world.processes ≤ n → Gathers a b c d (flat_map line_of (states_of l.world))
   all_states past = subst (λ (xs : List (ℕ × ProcState)). Gathers a b c d (flat_map line_of xs)) (take_all n (states_of l.world) (omega (arith, past, length-map {B = ℕ × ProcState} l.world.processes (λ p. (p.0, seen_in p.1.state))))) so_far
 

@@ -2,7 +2,7 @@
 use Rattle.std.specs.Prelude.{ℕ, ◌≡◌, ◌<◌, ◌≤◌, ◌-◌, false, List, [], ◌∷◌, ◌++◌, length, IsTrue}
 use Rattle.zl_code.specs.declared.history.TraceItem.{TraceItem}
 use Rattle.zl_code.specs.Steps.{Step}
-use Rattle.zl_calls.specs.World.{Lab, is_ready_in}
+use Rattle.zl_calls.specs.World.{World, is_ready_in}
 use Rattle.zlab.specs.declared.system.Stepped.{Stepped}
 use Rattle.zlab.specs.declared.system.Stepped.TheVariants as stepped
 use Rattle.zlab.specs.declared.system.End.{End}
@@ -10,7 +10,7 @@ use Rattle.zlab.specs.Follows.{EndsBy}
 
 -- a lab, the items of its steps so far, and how many items there may be
 pub record System : Type 0 where
-  pub lab : Lab
+  pub lab : World
   pub items : List TraceItem
   pub limit : ℕ
 

@@ -12,7 +12,7 @@ use Rattle.zl_code.specs.Request.{Site}
 use Rattle.zl_code.specs.Calls.{cpu_answered}
 use Rattle.zl_table.specs.Table.{Handles}
 use Rattle.zl_calls.specs.declared.process.Process.{Process}
-use Rattle.zl_calls.specs.Registry.{Registry}
+use Rattle.zl_calls.specs.Objects.{Objects}
 
 -- ---- refusals
 
@@ -27,7 +27,7 @@ abbrev pub has_room_in : Map Entry → Bool
 has_room_in entries = nat_le (length entries + 1) 1024
 
 -- a call was done, or else it was refused and changed nothing
-pub record Does {A : Type 0} (Done : A → Handles → Registry → Type 0) (wants : Bool) (refusal : Option Status) (t : Handles) (r : Registry) (answer : Result A Status) (t2 : Handles) (r2 : Registry) : Type 0 where
+pub record Does {A : Type 0} (Done : A → Handles → Objects → Type 0) (wants : Bool) (refusal : Option Status) (t : Handles) (r : Objects) (answer : Result A Status) (t2 : Handles) (r2 : Objects) : Type 0 where
   pub ok : IfOk answer (λ x. Done x t2 r2)
   pub err : IfErr answer (IsRefusedBy wants refusal)
   pub same_table : OnErr answer (t2 ≡ t)
@@ -50,7 +50,7 @@ abbrev pub Replies : Site → Status → List ℕ → Process → Process → Ty
 Replies s answer values old new = new ≡ record old { cpu = cpu_answered s answer values old.cpu; table = new.table }
 
 -- a call is answered: so it changes the table of its caller and the objects, and replies
-pub record IsAnswered {A : Type 0} (values : A → List ℕ) (Acts : Handles → Registry → Result A Status → Handles → Registry → Type 0) (s : Site) (p : Process) (r : Registry) (o : Outcome) (p2 : Process) (r2 : Registry) : Type 0 where
+pub record IsAnswered {A : Type 0} (values : A → List ℕ) (Acts : Handles → Objects → Result A Status → Handles → Objects → Type 0) (s : Site) (p : Process) (r : Objects) (o : Outcome) (p2 : Process) (r2 : Objects) : Type 0 where
   pub answer : Result A Status
   pub acts : Acts p.table r answer p2.table r2
   pub ends : o ≡ outcome.Answered (status_of answer)
@@ -73,14 +73,14 @@ answered_in p destinations values answer = record p { cpu = answered p.cpu desti
 -- what a call does to the table of its caller and to the objects, and how it ends
 pub data Action : Type 1 where
   -- it is answered, with these values
-  answers : (A : Type 0) (values : A → List ℕ) (Acts : Handles → Registry → Result A Status → Handles → Registry → Type 0) → Action
+  answers : (A : Type 0) (values : A → List ℕ) (Acts : Handles → Objects → Result A Status → Handles → Objects → Type 0) → Action
   -- its caller ends with the code, and gets no answer
   exits : (code : ℤ) → Action
 
 -- its answer gives no value
-abbrev pub gives_none : (Handles → Registry → Result ⊤ Status → Handles → Registry → Type 0) → Action
+abbrev pub gives_none : (Handles → Objects → Result ⊤ Status → Handles → Objects → Type 0) → Action
 gives_none = answers ⊤ no_value
 
 -- its answer gives the value of a new handle
-abbrev pub gives_one : (Handles → Registry → Result ℕ Status → Handles → Registry → Type 0) → Action
+abbrev pub gives_one : (Handles → Objects → Result ℕ Status → Handles → Objects → Type 0) → Action
 gives_one = answers ℕ one_value

@@ -13,7 +13,7 @@ use Rattle.zl_rights.specs.Map.{Map, get}
 use Rattle.zl_code.specs.Effects.{new_entry}
 use Rattle.zl_table.specs.Table.{Handles, Inserts}
 use Rattle.zl_calls.specs.declared.objects.Body.TheVariants as body
-use Rattle.zl_calls.specs.Registry.{Registry, with_new, changing}
+use Rattle.zl_calls.specs.Objects.{Objects, with_new, changing}
 use Rattle.zl_calls.specs.calls.Answer.{Does, has_room_in}
 
 -- ---- event_create
@@ -23,7 +23,7 @@ abbrev pub event_refusal : Map Entry → ℕ → Option Status
 event_refusal entries next_koid = then_some (not (has_room_in entries && nat_le (next_koid + 1) (2 ^ 62))) status.NoResources
 
 -- a handle to a new event gets the value made
-pub record CreatesEvent (t : Handles) (r : Registry) (made : ℕ) (t2 : Handles) (r2 : Registry) : Type 0 where
+pub record CreatesEvent (t : Handles) (r : Objects) (made : ℕ) (t2 : Handles) (r2 : Objects) : Type 0 where
   pub unrefused : event_refusal t.entries r.next_koid ≡ None
   pub room : length t.entries < 1024
   pub koid : r.next_koid < 2 ^ 62
@@ -31,7 +31,7 @@ pub record CreatesEvent (t : Handles) (r : Registry) (made : ℕ) (t2 : Handles)
   pub objects : r2 ≡ with_new r body.Event 1
 
 -- event_create, over the table of its caller
-abbrev pub EventCreateDoes : Handles → Registry → Result ℕ Status → Handles → Registry → Type 0
+abbrev pub EventCreateDoes : Handles → Objects → Result ℕ Status → Handles → Objects → Type 0
 EventCreateDoes t r = Does (CreatesEvent t r) true (event_refusal t.entries r.next_koid) t r
 
 -- ---- signal
@@ -61,7 +61,7 @@ abbrev pub signal_refusal : Map Entry → ℕ → ℕ → ℕ → Option Status
 signal_refusal entries value clear set = signal_refusal_of clear set (get entries value)
 
 -- the signals of the object that the handle names change, and no handle does
-pub record SignalsObject (t : Handles) (r : Registry) (value clear set : ℕ) (t2 : Handles) (r2 : Registry) : Type 0 where
+pub record SignalsObject (t : Handles) (r : Objects) (value clear set : ℕ) (t2 : Handles) (r2 : Objects) : Type 0 where
   pub unrefused : signal_refusal t.entries value clear set ≡ None
   pub original : Entry
   pub was : get t.entries value ≡ Some original
@@ -69,5 +69,5 @@ pub record SignalsObject (t : Handles) (r : Registry) (value clear set : ℕ) (t
   pub objects : r2 ≡ changing r original.koid clear set
 
 -- signal by the handle at the value, with these masks; it never wants memory
-abbrev pub SignalDoes : (value clear set : ℕ) → Handles → Registry → Result ⊤ Status → Handles → Registry → Type 0
+abbrev pub SignalDoes : (value clear set : ℕ) → Handles → Objects → Result ⊤ Status → Handles → Objects → Type 0
 SignalDoes value clear set t r = Does (λ _. SignalsObject t r value clear set) false (signal_refusal t.entries value clear set) t r

@@ -12,7 +12,7 @@ use Rattle.zl_rights.specs.Signals.{is_empty}
 use Rattle.zl_code.specs.Tests.{with_rights}
 use Rattle.zl_table.specs.Table.{Handles, Inserts}
 use Rattle.zl_calls.specs.declared.objects.Object.{Object}
-use Rattle.zl_calls.specs.Registry.{Registry, has_place, holding, released}
+use Rattle.zl_calls.specs.Objects.{Objects, has_place, holding, released}
 use Rattle.zl_calls.specs.calls.Answer.{Does, has_room_in, status_of}
 
 -- ---- close
@@ -26,12 +26,12 @@ abbrev pub without_handle : Handles → ℕ → Handles
 without_handle t value = if has_key t.entries value then record { entries = without t.entries value; last = Some value } else t
 
 -- the objects after the handle, if there is one, has closed
-abbrev pub closing : Registry → Option Entry → Registry
+abbrev pub closing : Objects → Option Entry → Objects
 closing r None = r
 closing r (Some e) = released r e.koid
 
 -- the handle at the value closes, if there is one
-pub record CloseDoes (value : ℕ) (t : Handles) (r : Registry) (answer : Result ⊤ Status) (t2 : Handles) (r2 : Registry) : Type 0 where
+pub record CloseDoes (value : ℕ) (t : Handles) (r : Objects) (answer : Result ⊤ Status) (t2 : Handles) (r2 : Objects) : Type 0 where
   pub answered : status_of answer ≡ close_answer t.entries value
   pub table : t2 ≡ without_handle t value
   pub objects : r2 ≡ closing r (get t.entries value)
@@ -51,7 +51,7 @@ abbrev pub dup_refusal : Map Entry → Map Object → ℕ → ℕ → Option Sta
 dup_refusal entries objects value asked = dup_refusal_of entries objects asked (get entries value)
 
 -- a copy of the handle, with the rights that were granted, gets the value made
-pub record Dups (t : Handles) (r : Registry) (value asked made : ℕ) (t2 : Handles) (r2 : Registry) : Type 0 where
+pub record Dups (t : Handles) (r : Objects) (value asked made : ℕ) (t2 : Handles) (r2 : Objects) : Type 0 where
   pub unrefused : dup_refusal t.entries r.objects value asked ≡ None
   pub original : Entry
   pub was : get t.entries value ≡ Some original
@@ -63,5 +63,5 @@ pub record Dups (t : Handles) (r : Registry) (value asked made : ℕ) (t2 : Hand
   pub objects : r2 ≡ holding r original.koid
 
 -- dup of the handle at the value, with these rights asked for
-abbrev pub DupDoes : ℕ → ℕ → Handles → Registry → Result ℕ Status → Handles → Registry → Type 0
+abbrev pub DupDoes : ℕ → ℕ → Handles → Objects → Result ℕ Status → Handles → Objects → Type 0
 DupDoes value asked t r = Does (Dups t r value asked) true (dup_refusal t.entries r.objects value asked) t r

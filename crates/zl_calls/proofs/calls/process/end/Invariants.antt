@@ -1,10 +1,10 @@
 use Rattle.std.proofs.Common.{length}
-use Rattle.zl_calls.specs.Registry.{Registry, Closes}
+use Rattle.zl_calls.specs.Objects.{Objects, Closes}
 use Rattle.zl_calls.proofs.calls.process.end.Given as goal
 
 abbrev pub invariant-loop-entry : goal.invariant-loop-entry
 invariant-loop-entry l = record {
-  closes : (r2 : Registry) → Closes l.table.entries l.objects r2 → Closes l.initial.table.entries l.initial.objects r2;
+  closes : (r2 : Objects) → Closes l.table.entries l.objects r2 → Closes l.initial.table.entries l.initial.objects r2;
 }
 
 abbrev pub decreases-loop-entry : goal.decreases-loop-entry

@@ -2,7 +2,7 @@ use Rattle.std.proofs.Common.{rules, ◌∙◌}
 use Rattle.std.proofs.lemmas.Iterator.Consumers.{YieldsList-from_rest}
 use Rattle.std.proofs.lemmas.Iterator.Search.{any_from_yields_List}
 use Rattle.std.specs.BTreeMap.{values}
-use Rattle.zl_calls.specs.Registry.{lives_below}
+use Rattle.zl_calls.specs.Objects.{lives_below}
 use Rattle.zl_calls.proofs.ByKoid.{living_child}
 use Rattle.zl_calls.proofs.objects.Objects.has_living_child.Goals as goal
 

@@ -9,7 +9,7 @@ use Rattle.zl_calls.specs.declared.objects.Body.TheVariants as body
 use Rattle.zl_calls.specs.declared.objects.Object.{Object}
 
 -- the objects by koid, and the least koid that was not given yet
-pub record Registry : Type 0 where
+pub record Objects : Type 0 where
   pub objects : Map Object
   pub next_koid : ℕ
 
@@ -95,18 +95,18 @@ abbrev pub new_object : Body → ℕ → Object
 new_object body handles = record { body = body; raised = record { 0 = 0 }; handles = handles }
 
 -- the objects with a new one, which gets the next koid
-abbrev pub with_new : Registry → Body → ℕ → Registry
+abbrev pub with_new : Objects → Body → ℕ → Objects
 with_new r body handles = record {
   objects = r.objects ++ (r.next_koid, new_object body handles) ∷ [];
   next_koid = r.next_koid + 1;
 }
 
 -- the objects without the newest, which had the koid k
-abbrev pub without_newest : Registry → ℕ → Registry
+abbrev pub without_newest : Objects → ℕ → Objects
 without_newest r k = record { objects = take (length r.objects - 1) r.objects; next_koid = k }
 
 -- the objects, where one handle more names the object k
-abbrev pub holding : Registry → ℕ → Registry
+abbrev pub holding : Objects → ℕ → Objects
 holding r k = record r { objects = update r.objects k held_once_more }
 
 -- the object with the signals of one mask cleared, and then those of the other set
@@ -114,40 +114,40 @@ abbrev pub raised_changed : ℕ → ℕ → Object → Object
 raised_changed clear set o = record o { raised = record { 0 = changed o.raised.0 clear set } }
 
 -- the objects, where the signals of the object k were changed
-abbrev pub changing : Registry → ℕ → ℕ → ℕ → Registry
+abbrev pub changing : Objects → ℕ → ℕ → ℕ → Objects
 changing r k clear set = record r { objects = update r.objects k (raised_changed clear set) }
 
 -- the objects, where one handle less names the object k
-abbrev pub letting_go : Registry → ℕ → Registry
+abbrev pub letting_go : Objects → ℕ → Objects
 letting_go r k = record r { objects = update r.objects k held_once_less }
 
 -- the objects, where the process k has ended
-abbrev pub stopping : Registry → ℕ → Registry
+abbrev pub stopping : Objects → ℕ → Objects
 stopping r k = record r { objects = update r.objects k stopped }
 
 -- the objects after the one that was found at k goes, unless something keeps it
-abbrev pub without_unkept : Registry → ℕ → Option Object → Registry
+abbrev pub without_unkept : Objects → ℕ → Option Object → Objects
 without_unkept r k None = r
 without_unkept r k (Some o) = if is_kept r.objects k o then r else record r { objects = without r.objects k }
 
 -- the objects without k, unless something keeps it
-abbrev pub without_unheld : Registry → ℕ → Registry
+abbrev pub without_unheld : Objects → ℕ → Objects
 without_unheld r k = without_unkept r k (get r.objects k)
 
 -- the objects after a handle to k has closed
-abbrev pub released : Registry → ℕ → Registry
+abbrev pub released : Objects → ℕ → Objects
 released r k = without_unheld (letting_go r k) k
 
 -- the objects after the process k of the job that was found has ended
-abbrev pub ended_in : Registry → ℕ → Option ℕ → Registry
+abbrev pub ended_in : Objects → ℕ → Option ℕ → Objects
 ended_in r k None = r
 ended_in r k (Some job) = without_unheld (without_unheld (stopping r k) k) job
 
 -- the objects after the process k has ended
-abbrev pub process_ended : Registry → ℕ → Registry
+abbrev pub process_ended : Objects → ℕ → Objects
 process_ended r k = ended_in r k (job_in (get r.objects k))
 
 -- the handles close, one after another
-pub data Closes : Map Entry → Registry → Registry → Type 0 where
-  none_left : (r : Registry) → Closes [] r r
-  one_more : (m : Map Entry) (value : ℕ) (e : Entry) (r r2 : Registry) → get m value ≡ Some e → Closes (without m value) (released r e.koid) r2 → Closes m r r2
+pub data Closes : Map Entry → Objects → Objects → Type 0 where
+  none_left : (r : Objects) → Closes [] r r
+  one_more : (m : Map Entry) (value : ℕ) (e : Entry) (r r2 : Objects) → get m value ≡ Some e → Closes (without m value) (released r e.koid) r2 → Closes m r r2

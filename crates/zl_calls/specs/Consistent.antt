@@ -13,7 +13,7 @@ use Rattle.zl_calls.specs.declared.objects.Body.{Body}
 use Rattle.zl_calls.specs.declared.objects.Body.TheVariants as body
 use Rattle.zl_calls.specs.declared.objects.Object.{Object}
 use Rattle.zl_calls.specs.declared.process.Process.{Process}
-use Rattle.zl_calls.specs.Registry.{Registry, is_job_at, is_kept}
+use Rattle.zl_calls.specs.Objects.{Objects, is_job_at, is_kept}
 use Rattle.zl_calls.specs.World.{process_entry, body_value, world_value}
 
 -- ---- handles and processes
@@ -38,7 +38,7 @@ is_in_job objects _ = true
 -- ---- all of it
 
 -- all koids lie below the next one, handles name objects and are counted there, and what is there is held
-pub record IsLab (processes : List Process) (r : Registry) : Type 0 where
+pub record IsConsistent (processes : List Process) (r : Objects) : Type 0 where
   pub processes_in_order : IsTrue (is_sorted nat_cmp (map process_entry processes))
   pub objects_in_order : IsTrue (is_sorted nat_cmp r.objects)
   pub given_processes : (k : ℕ) → IsTrue (has_key (map process_entry processes) k) → k < r.next_koid

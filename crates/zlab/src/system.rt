@@ -55,9 +55,13 @@ impl System {
     pub fn new(alloc: Global, world: World, limit: u64) -> System
         ensures { result ≡ record { lab = world; items = []; limit = limit } }
     {
+        let mut items = Vec::new(alloc);
+        // Room for the whole trace, so that it isn't moved as it grows. Where that is refused, each step
+        // asks for its own.
+        let _ = items.reserve(limit as usize);
         System {
             world,
-            items: Vec::new(alloc),
+            items,
             limit,
         }
     }

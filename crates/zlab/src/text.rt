@@ -7,17 +7,27 @@ use crate::system::End;
 use itoa::Buffer;
 use std::alloc::AllocError;
 use zl_code::{CallName, Outcome, ProcState, TraceItem};
-use zl_rights::Pid;
+use zl_rights::{Pid, Status};
 
 /// Adds the line of an item. Where memory is refused, a beginning of the line may stand there.
 pub fn push_item(text: &mut String, item: TraceItem) -> Result<(), AllocError>
     ensures { OnOk result (string_bytes text.new ≡ string_bytes text.old ++ item_line item) }
 {
     match item {
-        TraceItem::Run { pid, count } => write!(text, "{pid} run {count}\n"),
+        TraceItem::Run { pid, count } => push_run(text, pid, count),
         TraceItem::Call { pid, call, outcome } => push_call(text, pid, call, outcome),
         TraceItem::Stuck { pid } => write!(text, "{pid} stuck\n"),
     }
+}
+
+fn push_run(text: &mut String, pid: Pid, count: u32) -> Result<(), AllocError>
+    ensures { OnOk result (string_bytes text.new
+        ≡ string_bytes text.old ++ item_line (TraceItem.Run pid count)) }
+{
+    push_number(text, pid)?;
+    text.push_str(" run ")?;
+    push_number(text, u64::from(count))?;
+    text.push_str("\n")
 }
 
 fn push_call(
@@ -33,6 +43,8 @@ fn push_call(
     text.push_str(" ")?;
     text.push_str(call.name())?;
     match outcome {
+        // The answer of nearly every call, as one piece.
+        Outcome::Answered(Status::Ok) => text.push_str(" OK\n"),
         Outcome::Answered(status) => {
             text.push_str(" ")?;
             text.push_str(status.name())?;
@@ -43,9 +55,14 @@ fn push_call(
     }
 }
 
+/// Adds the decimal digits of the number, where there is one digit as a piece of its own.
+#[tactic(auto, using(std::proofs::lemmas::Fmt::decimal_digit))]
 fn push_number(text: &mut String, number: u64) -> Result<(), AllocError>
     ensures { OnOk result (string_bytes text.new ≡ string_bytes text.old ++ decimal number) }
 {
+    if number < 10 {
+        return text.push(char::from(b'0' + number as u8));
+    }
     let mut digits = Buffer::new();
     text.push_str(digits.format(number))
 }

@@ -1,6 +1,5 @@
 -- What an answer says of its value.
-use Rattle.std.proofs.Common.{◌≡◌, ◌⊎◌, inr, Option, Result, Ok, Err, Some, None, refl}
-use Rattle.std.specs.Option.{option_map}
+use Rattle.zl_code.proofs.Common.{◌≡◌, ◌⊎◌, inr, Option, Result, Ok, Err, Some, None, refl, option_map}
 use Rattle.std.specs.Result.{IsErr, IfOk, IfErr, result_ok}
 
 -- a fault has no value

@@ -1,17 +1,11 @@
 -- From what a draft holds to the fields of an image.
+use Rattle.zl_code.proofs.Common.{◌≡◌, ℕ, ◌+◌, ◌<◌, ◌≤◌, Bool, true, false, ◌&&◌, not, cond, leb, List, [], ◌∷◌, ◌++◌, length, map, take, drop, get_or, append_assoc, length-append, Option, Some, None, is_some, refl, sym, ap, ◌∙◌, arith, option_map, flat_map, list_all, Image, needs_named, slice_index, instr_bytes, instr_fault, is_in_range, number_at, bytes_of, le-leb, and_from, length-map, map-append, take_more, take_all, at_drop_more, list_all-append, get_or-map}
 use denote.Ref.{Bor}
-use Rattle.std.proofs.Common.{◌≡◌, ℕ, ◌+◌, ◌<◌, ◌≤◌, Bool, true, false, ◌&&◌, not, cond, leb, List, [], ◌∷◌, ◌++◌, length, map, take, drop, get_or, take-add, append_assoc, length-append, Option, Some, None, is_some, refl, sym, ap, ◌∙◌, arith}
-use Rattle.std.specs.Option.{option_map}
+use Rattle.std.proofs.Common.{take-add}
 use Rattle.std.specs.Map.{lookup}
-use Rattle.std.specs.List.{flat_map, list_all}
-use Rattle.zl_code.specs.Image.{Image, needs_named}
-use Rattle.std.specs.Prelude.{slice_index}
-use Rattle.zl_code.specs.Spells.{instr_bytes, instr_fault, is_in_range, registers_at, number_at, bytes_of}
+use Rattle.zl_code.specs.Spells.{registers_at}
 use Rattle.zl_code.proofs.ImageBytes.{IsBytes, bytes_of-number_at}
-use Rattle.std.proofs.lemmas.Bool.{le-leb, and_from}
-use Rattle.std.proofs.lemmas.List.{length-map, map-append, take_more, take_all, take-append-drop, at_drop_more}
-use Rattle.std.proofs.lemmas.List.Folds.{list_all-append}
-use Rattle.std.proofs.lemmas.List.{get_or-map}
+use Rattle.std.proofs.lemmas.List.{take-append-drop}
 use Rattle.zl_code.proofs.ImageRanges.{ranges}
 use Rattle.zl_asm.specs.declared.draft.SourceLine.{SourceLine}
 use Rattle.zl_asm.specs.declared.line.Source.{Source as ReadSource}

@@ -1,13 +1,9 @@
 -- What a draft holds after one line more.
-use Rattle.std.proofs.Common.{append-nil, ◌≡◌, ℕ, ◌+◌, Bool, true, false, ◌&&◌, ◌||◌, not, cond, List, [], ◌∷◌, ◌++◌, length, filter, ◌==◌, Some, None, refl, sym, ap, subst, ◌∙◌, true≢false, arith}
-use Rattle.std.specs.List.{flat_map, list_any, list_all}
-use Rattle.std.proofs.lemmas.Grind.{flat_map-append}
-use Rattle.std.proofs.lemmas.Bool.{eqb-true}
-use Rattle.std.proofs.lemmas.List.Folds.{list_all-append, list_any-append}
+use Rattle.zl_code.proofs.Common.{append-nil, ◌≡◌, ℕ, ◌+◌, Bool, true, false, ◌&&◌, ◌||◌, not, cond, List, [], ◌∷◌, ◌++◌, length, filter, ◌==◌, Some, None, refl, sym, ap, subst, ◌∙◌, true≢false, arith, flat_map, list_any, list_all, flat_map-append, eqb-true, list_all-append, condition_number, Image, needs_named, is_among}
+use Rattle.std.proofs.lemmas.List.Folds.{list_any-append}
 use Rattle.zl_rights.specs.declared.policy.Condition.{Condition}
 use Rattle.zl_rights.specs.declared.policy.Condition.TheVariants as condition
-use Rattle.zl_rights.specs.Numbers.{condition_number}
-use Rattle.zl_code.specs.Image.{Image, needs_named, is_among, can_be_needed}
+use Rattle.zl_code.specs.Image.{can_be_needed}
 use Rattle.zl_code.specs.declared.image.Start.{Start}
 use Rattle.zl_code.specs.declared.image.SlotArray.{SlotArray}
 use Rattle.zl_asm.specs.declared.directive.Directive.{Directive}

@@ -1,13 +1,9 @@
 -- What a line says beside what a draft holds.
-use Rattle.std.proofs.Common.{◌≡◌, ℕ, Bool, true, false, ◌&&◌, cond, List, [], ◌∷◌, Option, Some, None, Result, Ok, Err, refl, sym, ap, subst, ◌∙◌, true≢false}
-use Rattle.std.specs.Prelude.{codes, nat_eq, OnOk}
-use Rattle.std.specs.Option.{option_map}
-use Rattle.std.specs.List.{starts_with}
+use Rattle.zl_code.proofs.Common.{◌≡◌, ℕ, Bool, true, false, ◌&&◌, cond, List, [], ◌∷◌, Option, Some, None, Result, Ok, Err, refl, sym, ap, subst, ◌∙◌, true≢false, codes, OnOk, option_map, starts_with, rights_of, is_start_in_range, is_slot_in_range}
+use Rattle.std.specs.Prelude.{nat_eq}
 use Rattle.zl_rights.specs.declared.kind.Kind.{Kind}
-use Rattle.zl_rights.specs.Numbers.{rights_of}
 use Rattle.zl_code.specs.declared.image.Start.{Start}
 use Rattle.zl_code.specs.declared.image.SlotArray.{SlotArray}
-use Rattle.zl_code.specs.Spells.{is_start_in_range, is_slot_in_range}
 use Rattle.zl_asm.specs.declared.directive.Directive.{Directive}
 use Rattle.zl_asm.specs.declared.directive.Directive.TheVariants as directive
 use Rattle.zl_asm.specs.Words.{is_ascii, words_of, is_word, number_of}

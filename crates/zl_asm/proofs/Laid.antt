@@ -1,17 +1,10 @@
 -- The text of an image, piece by piece.
-use Rattle.std.proofs.Common.{◌≡◌, ℕ, suc, ◌+◌, ◌<◌, Bool, true, false, ◌||◌, cond, List, [], ◌∷◌, ◌++◌, codes, length, map, take, drop, get_or, refl, sym, ap, ◌∙◌, arith, IsTrue, append_assoc, append-nil}
-use Rattle.std.specs.List.{flat_map, list_any}
+use Rattle.zl_code.proofs.Common.{◌≡◌, ℕ, suc, ◌+◌, ◌<◌, Bool, true, false, ◌||◌, cond, List, [], ◌∷◌, ◌++◌, codes, length, map, take, drop, get_or, refl, sym, ap, ◌∙◌, arith, IsTrue, append_assoc, append-nil, flat_map, list_any, flat_map-append, take_more, at_drop_more, condition_name, bits, Image, is_among, needs_named, instr_bytes, is_in_range}
 use Rattle.std.specs.Fmt.{decimal}
-use Rattle.std.proofs.lemmas.Grind.{flat_map-append}
-use Rattle.std.proofs.lemmas.List.{take_more, at_drop_more}
 use Rattle.zl_rights.specs.declared.policy.Condition.{Condition}
 use Rattle.zl_rights.specs.declared.policy.Condition.TheVariants as condition
-use Rattle.zl_rights.specs.Names.{condition_name}
-use Rattle.zl_rights.specs.Numbers.{bits}
 use Rattle.zl_code.specs.declared.image.Start.{Start}
 use Rattle.zl_code.specs.declared.image.SlotArray.{SlotArray}
-use Rattle.zl_code.specs.Image.{Image, is_among, needs_named}
-use Rattle.zl_code.specs.Spells.{instr_bytes, is_in_range}
 use Rattle.zl_code.proofs.ImageNeeds.{needs_named-needs}
 use Rattle.zl_code.proofs.ImageRanges.{ranges}
 use Rattle.zl_asm.specs.Canonical.{kind_text, label_text, directive_lines, is_target, aims_at, label_lines, instr_text, code_lines_from, code_lines, text_of}

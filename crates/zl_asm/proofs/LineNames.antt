@@ -1,10 +1,7 @@
 -- The name of a label, and the row of a mnemonic.
-use Rattle.std.proofs.Common.{◌≡◌, ◌≢◌, ℕ, ◌-◌, true, false, eqb, List, [], ◌∷◌, ◌++◌, length, length-append, take, drop, Option, Some, None, refl, sym, ap, ◌∙◌, arith}
-use Rattle.std.specs.Option.{option_map}
-use Rattle.std.proofs.lemmas.List.{drop_at, take_at}
-use Rattle.std.proofs.lemmas.Bool.Decides.{nat_tests}
+use Rattle.zl_code.proofs.Common.{◌≡◌, ◌≢◌, ℕ, ◌-◌, true, false, eqb, List, [], ◌∷◌, ◌++◌, length, length-append, take, drop, Option, Some, None, refl, sym, ap, ◌∙◌, arith, option_map, drop_at, take_at, nat_tests, Row}
 use Rattle.zl_code.specs.declared.layout.Ending.{Ending}
-use Rattle.zl_code.specs.Instructions.{Row, layout}
+use Rattle.zl_code.specs.Instructions.{layout}
 use Rattle.zl_asm.specs.Words.{is_word, is_name}
 use Rattle.zl_asm.specs.Lines.{if_fits, then_with, label_of, registers_of, tail_of, source_with, source_of}
 

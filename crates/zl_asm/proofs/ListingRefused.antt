@@ -1,11 +1,6 @@
 -- Lines that give no fields of an image, whatever lines follow.
-use Rattle.std.proofs.Common.{append-nil, ◌≡◌, ℕ, ◌+◌, ◌≤◌, ◌<◌, Bool, true, false, ◌&&◌, ◌||◌, not, cond, leb, List, [], ◌∷◌, ◌++◌, length, Option, Some, None, is_some, refl, sym, ap, ◌∙◌, true≢false, arith, length-append}
-use Rattle.std.specs.List.{flat_map, list_any, list_all}
-use Rattle.std.proofs.lemmas.Grind.{flat_map-append}
+use Rattle.zl_code.proofs.Common.{append-nil, ◌≡◌, ℕ, ◌+◌, ◌≤◌, ◌<◌, Bool, true, false, ◌&&◌, ◌||◌, not, cond, leb, List, [], ◌∷◌, ◌++◌, length, Option, Some, None, is_some, refl, sym, ap, ◌∙◌, true≢false, arith, length-append, flat_map, list_any, list_all, flat_map-append, list_all-append, needs_named, instr_fault}
 use Rattle.std.proofs.lemmas.Bool.{lt-leb}
-use Rattle.std.proofs.lemmas.List.Folds.{list_all-append}
-use Rattle.zl_code.specs.Image.{needs_named}
-use Rattle.zl_code.specs.Spells.{instr_fault}
 use Rattle.zl_asm.specs.declared.directive.Directive.{Directive}
 use Rattle.zl_asm.specs.declared.directive.Directive.TheVariants as directive
 use Rattle.zl_asm.specs.Lines.{Line, Blank, Declares, Label, Code, Source, all_of, onto_all, if_fits}

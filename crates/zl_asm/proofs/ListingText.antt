@@ -1,12 +1,8 @@
 -- The lines of a whole text.
-use Rattle.std.proofs.Common.{◌≡◌, ℕ, ◌+◌, ◌<◌, Bool, true, false, ◌&&◌, cond, ltb, eqb, List, [], ◌∷◌, ◌++◌, length, take, drop, get_or, Option, Some, None, Result, Ok, Err, ◌⊎◌, refl, sym, ap, ◌∙◌, arith, take-append-drop, inl, inr}
-use Rattle.std.specs.Prelude.{IsTrue, IfOk, IfErr, MatchResult}
-use Rattle.std.specs.List.{enumerate_from, onto_first, list_all}
-use Rattle.std.proofs.lemmas.Bool.{eqb-true}
-use Rattle.std.proofs.lemmas.List.{at_drop_more}
+use Rattle.zl_code.proofs.Common.{◌≡◌, ℕ, ◌+◌, ◌<◌, Bool, true, false, ◌&&◌, cond, ltb, eqb, List, [], ◌∷◌, ◌++◌, length, take, drop, get_or, Option, Some, None, Result, Ok, Err, ◌⊎◌, refl, sym, ap, ◌∙◌, arith, take-append-drop, inl, inr, IsTrue, IfOk, IfErr, list_all, eqb-true, at_drop_more, Image, is_in_range}
+use Rattle.std.specs.Prelude.{MatchResult}
+use Rattle.std.specs.List.{enumerate_from, onto_first}
 use Rattle.std.proofs.lemmas.List.FromFn.{length-enumerate_from, get_or-enumerate_from}
-use Rattle.zl_code.specs.Image.{Image}
-use Rattle.zl_code.specs.Spells.{is_in_range}
 use Rattle.zl_asm.specs.declared.fault.AsmFault.{AsmFault}
 use Rattle.zl_asm.specs.declared.fault.AsmCause.TheVariants.{NoMemory}
 use Rattle.zl_asm.specs.Words.{lines_of, words_of, is_ascii}

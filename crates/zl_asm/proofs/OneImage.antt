@@ -1,10 +1,6 @@
 -- The fields that a text gives are those of one image at most.
-use Rattle.std.proofs.Common.{◌≡◌, Bool, true, List, [], ◌∷◌, map, Option, Some, None, refl, sym, ap, ◌∙◌}
-use Rattle.std.specs.List.{list_all}
-use Rattle.std.proofs.lemmas.Bool.{and_parts}
-use Rattle.zl_code.specs.Image.{Image}
+use Rattle.zl_code.proofs.Common.{◌≡◌, Bool, true, List, [], ◌∷◌, map, Option, Some, None, refl, sym, ap, ◌∙◌, list_all, and_parts, Image, instr_bytes, is_instr_in_range}
 use Rattle.zl_code.specs.declared.instr.Instr.{Instr}
-use Rattle.zl_code.specs.Spells.{instr_bytes, is_instr_in_range}
 use Rattle.zl_code.proofs.ImageRanges.{ranges}
 use Rattle.zl_code.proofs.ImageTable.{instr_fits, read_instr}
 use Rattle.zl_asm.specs.Listing.{Listing}

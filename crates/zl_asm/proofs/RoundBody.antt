@@ -1,12 +1,6 @@
 -- The lines of labels and instructions say those labels and instructions.
-use Rattle.std.proofs.Common.{◌≡◌, ℕ, suc, ◌+◌, ◌-◌, ◌^◌, ◌<◌, ◌≤◌, Bool, true, false, List, [], ◌∷◌, ◌++◌, length, codes, Option, Some, None, refl, ap, ◌∙◌, arith}
-use Rattle.std.specs.Prelude.{if◌then◌else◌, slice_index}
-use Rattle.std.specs.List.{list_all}
-use Rattle.std.proofs.lemmas.Bool.{and_from}
-use Rattle.std.proofs.lemmas.List.{length-append, take_at, drop_at}
-use Rattle.std.proofs.lemmas.List.Folds.{list_all-append}
-use Rattle.zl_code.specs.Instructions.{Row, row_of}
-use Rattle.zl_code.specs.Spells.{reading_of}
+use Rattle.zl_code.proofs.Common.{◌≡◌, ℕ, suc, ◌+◌, ◌-◌, ◌^◌, ◌<◌, ◌≤◌, Bool, true, false, List, [], ◌∷◌, ◌++◌, length, codes, Option, Some, None, refl, ap, ◌∙◌, arith, if◌then◌else◌, slice_index, list_all, and_from, take_at, drop_at, list_all-append, Row, row_of, reading_of}
+use Rattle.std.proofs.lemmas.List.{length-append}
 use Rattle.zl_code.proofs.ImageBytes.{list_all-from_IsBytes}
 use Rattle.zl_asm.specs.Words.{is_word, words_of, is_name}
 use Rattle.zl_asm.specs.Lines.{Label, Code, label_of, line_of}

@@ -1,19 +1,15 @@
 -- The lines of the directives of an image are read as its fields.
-use Rattle.std.proofs.Common.{◌≡◌, ℕ, ◌/◌, ◌%◌, ◌^◌, ◌<◌, ◌≤◌, Bool, true, false, ◌&&◌, ◌==◌, List, [], ◌∷◌, ◌++◌, map, codes, decimal, Option, Some, None, refl, ap, subst, ◌∙◌, nat_lt, nat_le, arith}
-use Rattle.std.specs.Prelude.{bit_and}
-use Rattle.std.specs.List.{list_all}
-use Rattle.std.proofs.lemmas.Bool.{and_parts, leb-true, ltb-true, le-leb, eqb-true}
+use Rattle.zl_code.proofs.Common.{◌≡◌, ℕ, ◌/◌, ◌%◌, ◌^◌, ◌<◌, ◌≤◌, Bool, true, false, ◌&&◌, ◌==◌, List, [], ◌∷◌, ◌++◌, map, codes, decimal, Option, Some, None, refl, ap, subst, ◌∙◌, nat_lt, nat_le, arith, bit_and, list_all, and_parts, leb-true, ltb-true, le-leb, eqb-true, condition_name, bits, within, is_start_in_range, is_slot_in_range, are_needs, needs_byte}
 use Rattle.std.proofs.lemmas.Nat.{and_le_l}
 use Rattle.zl_rights.specs.declared.kind.Kind.{Kind}
 use Rattle.zl_rights.specs.declared.kind.Kind.TheVariants as kind
 use Rattle.zl_rights.specs.declared.policy.Condition.{Condition}
 use Rattle.zl_rights.specs.declared.policy.Condition.TheVariants as condition
-use Rattle.zl_rights.specs.Names.{kind_named, condition_name, condition_named}
-use Rattle.zl_rights.specs.Numbers.{bits, within}
+use Rattle.zl_rights.specs.Names.{kind_named, condition_named}
 use Rattle.zl_code.specs.declared.image.Start.{Start}
 use Rattle.zl_code.specs.declared.image.SlotArray.{SlotArray}
 use Rattle.zl_code.specs.Image.{need_if}
-use Rattle.zl_code.specs.Spells.{rights_allowed, is_start_in_range, is_slot_in_range, are_needs, needs_byte}
+use Rattle.zl_code.specs.Spells.{rights_allowed}
 use Rattle.zl_code.proofs.ImageNeeds.{needs_fit}
 use Rattle.zl_asm.specs.declared.directive.Directive.TheVariants as directive
 use Rattle.zl_asm.specs.Words.{is_word, words_from, words_of}

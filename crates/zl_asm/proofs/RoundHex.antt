@@ -1,7 +1,5 @@
 -- Bytes in hexadecimal digits are read as they are written.
-use Rattle.std.proofs.Common.{◌≡◌, ℕ, ◌+◌, ◌*◌, ◌/◌, ◌%◌, ◌<◌, Bool, true, List, [], ◌∷◌, length, Some, refl, ap, nat_lt, arith}
-use Rattle.std.specs.List.{list_all}
-use Rattle.std.proofs.lemmas.Bool.{and_parts, and_from, ltb-true}
+use Rattle.zl_code.proofs.Common.{◌≡◌, ℕ, ◌+◌, ◌*◌, ◌/◌, ◌%◌, ◌<◌, Bool, true, List, [], ◌∷◌, length, Some, refl, ap, nat_lt, arith, list_all, and_parts, and_from, ltb-true}
 use Rattle.zl_code.proofs.Below.{all_below, below}
 use Rattle.zl_asm.specs.Words.{digit_of, hex_bytes}
 use Rattle.zl_asm.specs.Canonical.{hex_digit, hex_text}

@@ -1,12 +1,10 @@
 -- The line of an instruction is read as its bytes.
-use Rattle.std.proofs.Common.{◌≡◌, ℕ, zero, suc, ◌+◌, ◌^◌, ◌<◌, Bool, true, false, ◌==◌, List, [], ◌∷◌, ◌++◌, length, take, drop, codes, Option, Some, None, refl, ap, ◌∙◌, arith}
-use Rattle.std.specs.Prelude.{option_map, slice_index}
-use Rattle.std.specs.List.{list_all, starts_with}
+use Rattle.zl_code.proofs.Common.{◌≡◌, ℕ, zero, suc, ◌+◌, ◌^◌, ◌<◌, Bool, true, false, ◌==◌, List, [], ◌∷◌, ◌++◌, length, take, drop, codes, Option, Some, None, refl, ap, ◌∙◌, arith, slice_index, list_all, starts_with, and_parts, length-take, length-drop, get_or-drop, Row, layout_of, row_of, row_named, reading_of, number_of, row_bytes, instr_fault}
+use Rattle.std.specs.Prelude.{option_map}
 use Rattle.std.proofs.Math.Nat.{pow-suc}
-use Rattle.std.proofs.lemmas.Bool.{and_parts, eq-eqb}
-use Rattle.std.proofs.lemmas.List.{length-take, length-drop, get_or-drop}
-use Rattle.zl_code.specs.Instructions.{Row, layout, layout_of, row_of, row_named}
-use Rattle.zl_code.specs.Spells.{reading_of, number_of, row_bytes, instr_fault, is_ending_clear}
+use Rattle.std.proofs.lemmas.Bool.{eq-eqb}
+use Rattle.zl_code.specs.Instructions.{layout}
+use Rattle.zl_code.specs.Spells.{is_ending_clear}
 use Rattle.zl_code.proofs.ImageBytes.{IsBytes, list_all-from_IsBytes}
 use Rattle.zl_code.proofs.InstrFacts.{no_fault-row, row_bytes-again}
 use Rattle.zl_asm.specs.Words.{is_word, words_of}

@@ -1,11 +1,7 @@
 -- Labels stand once for the number of their instruction.
-use Rattle.std.proofs.Common.{◌≡◌, ◌≢◌, ℕ, suc, ◌+◌, ◌^◌, ◌<◌, ◌≤◌, Bool, true, false, ◌==◌, List, [], ◌∷◌, ◌++◌, length, map, Some, None, refl, ap, ◌∙◌, arith, inl, inr}
-use Rattle.std.specs.Prelude.{if◌then◌else◌, slice_index}
-use Rattle.std.specs.List.{list_any}
+use Rattle.zl_code.proofs.Common.{◌≡◌, ◌≢◌, ℕ, suc, ◌+◌, ◌^◌, ◌<◌, ◌≤◌, Bool, true, false, ◌==◌, List, [], ◌∷◌, ◌++◌, length, map, Some, None, refl, ap, ◌∙◌, arith, inl, inr, if◌then◌else◌, slice_index, list_any, and_from, cases_Bool, or_left, or_right, ltb-true, row_of, reading_of}
 use Rattle.std.specs.Cmp.Lexicographic.{pointwise, bytes_decides}
-use Rattle.std.proofs.lemmas.Bool.{and_from, cases_Bool, cases_eq, eq-eqb, or_left, or_right, ltb-true}
-use Rattle.zl_code.specs.Instructions.{row_of}
-use Rattle.zl_code.specs.Spells.{reading_of}
+use Rattle.std.proofs.lemmas.Bool.{cases_eq, eq-eqb}
 use Rattle.zl_asm.specs.Lines.{Line, Blank, Label, Code, all_of, onto_all}
 use Rattle.zl_asm.specs.Listing.{labels_from, position_of, names_once, resolved}
 use Rattle.zl_asm.specs.Canonical.{label_text, is_target, aims, aims_at}

@@ -1,8 +1,5 @@
 -- Lines of printed bytes, each ended by a line feed, are found again in the text.
-use Rattle.std.proofs.Common.{◌≡◌, ℕ, ◌<◌, Bool, true, false, ◌&&◌, ◌==◌, not, List, [], ◌∷◌, ◌++◌, codes, Option, Some, None, refl, ap, ◌∙◌, nat_lt, arith, append_assoc}
-use Rattle.std.specs.List.{list_all, flat_map}
-use Rattle.std.proofs.lemmas.Bool.{and_parts, and_from, ltb-true, lt-ltb, ne_eqb}
-use Rattle.std.proofs.lemmas.List.Folds.{list_all-append}
+use Rattle.zl_code.proofs.Common.{◌≡◌, ℕ, ◌<◌, Bool, true, false, ◌&&◌, ◌==◌, not, List, [], ◌∷◌, ◌++◌, codes, Option, Some, None, refl, ap, ◌∙◌, nat_lt, arith, append_assoc, list_all, flat_map, and_parts, and_from, ltb-true, lt-ltb, ne_eqb, list_all-append}
 use Rattle.std.proofs.lemmas.List.Splits.{slice_split-cons_yes, slice_split-cons_no}
 use Rattle.zl_asm.specs.Words.{lines_of, is_ascii, words_from, words_of}
 use Rattle.zl_asm.specs.Lines.{Line, Blank, line_of, all_of, onto_all}

@@ -1,8 +1,5 @@
 -- The fields that lines give, where directives stand before labels and instructions.
-use Rattle.std.proofs.Common.{◌≡◌, ℕ, suc, Bool, true, false, ◌&&◌, not, List, [], ◌∷◌, ◌++◌, length, map, Some, None, refl, ap, ◌∙◌}
-use Rattle.std.specs.Prelude.{if◌then◌else◌}
-use Rattle.std.specs.List.{list_all, flat_map}
-use Rattle.zl_code.specs.Image.{needs_named}
+use Rattle.zl_code.proofs.Common.{◌≡◌, ℕ, suc, Bool, true, false, ◌&&◌, not, List, [], ◌∷◌, ◌++◌, length, map, Some, None, refl, ap, ◌∙◌, if◌then◌else◌, list_all, flat_map, needs_named}
 use Rattle.zl_asm.specs.declared.directive.Directive.{Directive}
 use Rattle.zl_asm.specs.Lines.{Line, Blank, Declares, Label, Code, Source, all_of, if_fits}
 use Rattle.zl_asm.specs.Listing.{Listing, mark_in, memory_in, budget_in, need_in, start_in, slots_in, source_in, given, declares, directives_first, labels_from, names_once, resolved, is_listing, listing_with, listing_from}

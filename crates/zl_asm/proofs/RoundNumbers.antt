@@ -1,10 +1,8 @@
 -- Numbers, registers and labels as they are written are read again.
-use Rattle.std.proofs.Common.{◌≡◌, ℕ, ◌+◌, ◌-◌, ◌*◌, ◌/◌, ◌%◌, ◌^◌, ◌<◌, ◌≤◌, Bool, true, false, ◌&&◌, ◌||◌, ◌==◌, List, [], ◌∷◌, ◌++◌, length, codes, decimal, Option, Some, is_some, refl, sym, ap, ◌∙◌, nat_lt, nat_le, arith}
-use Rattle.std.specs.List.{list_all, starts_with}
+use Rattle.zl_code.proofs.Common.{◌≡◌, ℕ, ◌+◌, ◌-◌, ◌*◌, ◌/◌, ◌%◌, ◌^◌, ◌<◌, ◌≤◌, Bool, true, false, ◌&&◌, ◌||◌, ◌==◌, List, [], ◌∷◌, ◌++◌, length, codes, decimal, Option, Some, is_some, refl, sym, ap, ◌∙◌, nat_lt, nat_le, arith, list_all, starts_with, and_parts, and_from, le-leb, leb-true, lt-ltb, ne_eqb, or_left, or_right, list_all-append}
 use Rattle.std.specs.Option.{unwrap_or}
-use Rattle.std.proofs.lemmas.Bool.{and_parts, and_from, and_right, le-leb, leb-true, lt-ltb, ne_eqb, or_left, or_right, lt-leb, and_left}
+use Rattle.std.proofs.lemmas.Bool.{and_right, lt-leb, and_left}
 use Rattle.std.proofs.lemmas.Fmt.{decimal_by_steps, decimal_injective, length-decimal-le}
-use Rattle.std.proofs.lemmas.List.Folds.{list_all-append}
 use Rattle.std.proofs.lemmas.List.Sums.{fold-append}
 use Rattle.zl_asm.specs.Words.{digit_of, digit_value, is_digit, value_of, number_of, is_name, is_name_byte}
 use Rattle.zl_asm.specs.Canonical.{label_text}

@@ -1,10 +1,7 @@
 -- Registers, and the handles behind them, are read as they are written.
-use Rattle.std.proofs.Common.{◌≡◌, ℕ, zero, suc, ◌-◌, ◌<◌, ◌≤◌, Bool, true, false, ◌||◌, ◌==◌, not, List, [], ◌∷◌, ◌++◌, length, map, take, replicate, filter, Option, Some, None, refl, sym, ap, ◌∙◌, nat_lt, nat_le, arith}
-use Rattle.std.specs.Prelude.{if◌then◌else◌}
-use Rattle.std.specs.List.{list_all}
+use Rattle.zl_code.proofs.Common.{◌≡◌, ℕ, zero, suc, ◌-◌, ◌<◌, ◌≤◌, Bool, true, false, ◌||◌, ◌==◌, not, List, [], ◌∷◌, ◌++◌, length, map, take, replicate, filter, Option, Some, None, refl, sym, ap, ◌∙◌, nat_lt, nat_le, arith, if◌then◌else◌, list_all, and_parts, and_from, eqb-true, ltb-true, le-leb, are_registers}
 use Rattle.std.specs.Fmt.{digits}
-use Rattle.std.proofs.lemmas.Bool.{and_parts, and_from, eqb-true, ltb-true, le-leb}
-use Rattle.zl_code.specs.Spells.{are_registers, are_places, is_packed}
+use Rattle.zl_code.specs.Spells.{are_places, is_packed}
 use Rattle.zl_code.proofs.Below.{all_below, below}
 use Rattle.zl_asm.specs.Words.{register_of}
 use Rattle.zl_asm.specs.Lines.{all_of, places_of}

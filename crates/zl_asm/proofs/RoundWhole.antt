@@ -1,14 +1,6 @@
 -- The text of an image denotes it.
-use Rattle.std.proofs.Common.{◌≡◌, ℕ, ◌≤◌, Bool, true, false, not, List, [], ◌∷◌, ◌++◌, length, map, codes, decimal, Some, refl, ap, ◌∙◌, arith, append-nil, append_assoc}
-use Rattle.std.specs.Prelude.{if◌then◌else◌, is_some}
-use Rattle.std.specs.List.{list_all, flat_map}
-use Rattle.std.proofs.lemmas.Bool.{and_parts, and_from, le-leb}
-use Rattle.std.proofs.lemmas.List.{length-map}
-use Rattle.std.proofs.lemmas.List.Folds.{list_all-append}
-use Rattle.std.proofs.lemmas.Grind.{flat_map-append}
+use Rattle.zl_code.proofs.Common.{◌≡◌, ℕ, ◌≤◌, Bool, true, false, not, List, [], ◌∷◌, ◌++◌, length, map, codes, decimal, Some, refl, ap, ◌∙◌, arith, append-nil, append_assoc, if◌then◌else◌, is_some, list_all, flat_map, and_parts, and_from, le-leb, length-map, list_all-append, flat_map-append, Image, needs_named, instr_bytes, instr_fault, is_instr_in_range}
 use Rattle.zl_code.specs.declared.instr.Instr.{Instr}
-use Rattle.zl_code.specs.Image.{Image, needs_named}
-use Rattle.zl_code.specs.Spells.{instr_bytes, instr_fault, is_instr_in_range}
 use Rattle.zl_code.proofs.ImageNeeds.{needs_named-needs}
 use Rattle.zl_code.proofs.ImageRanges.{Ranges, ranges}
 use Rattle.zl_code.proofs.InstrFacts.{instr_bytes-no_fault, length-instr_bytes, IsBytes-instr_bytes}

@@ -1,12 +1,8 @@
 -- Worked examples of the assembler's text, by computation.
-use Rattle.std.proofs.Common.{◌≡◌, ℕ, List, [], ◌∷◌, refl}
-use Rattle.std.specs.Prelude.{codes, true, false, Some, None}
+use Rattle.zl_code.proofs.Common.{◌≡◌, ℕ, List, [], ◌∷◌, refl, codes, true, false, Some, None, row_of, row_named, instr_fault, local_parts, call_parts, rights_of}
 use Rattle.std.specs.Fmt.{digits}
-use Rattle.zl_code.specs.Instructions.{row_of, row_named}
-use Rattle.zl_code.specs.Spells.{instr_fault, local_parts, call_parts}
 use Rattle.zl_rights.specs.declared.kind.Kind.TheVariants as kind
 use Rattle.zl_rights.specs.declared.policy.Condition.TheVariants as condition
-use Rattle.zl_rights.specs.Numbers.{rights_of}
 use Rattle.zl_rights.specs.Names.{kind_named, condition_named}
 use Rattle.zl_code.proofs.Stored.{image}
 use Rattle.zl_asm.specs.Words.{is_word, words_from, digit_of, number_of, register_of, is_name, hex_bytes}

@@ -1,18 +1,13 @@
 -- The text of an image as the disassembler lays it out.
-use Rattle.std.specs.Prelude.{ℕ, suc, ◌+◌, ◌/◌, ◌%◌, Bool, true, false, ◌&&◌, not, ◌==◌, nat_lt, List, [], ◌∷◌, ◌++◌, codes, map, filter, length, take, slice_index, Option, Some, None, if◌then◌else◌, IsTrue}
-use Rattle.std.specs.List.{flat_map, list_any}
+use Rattle.zl_code.specs.Common.{ℕ, suc, ◌+◌, ◌/◌, ◌%◌, Bool, true, false, ◌&&◌, not, ◌==◌, nat_lt, List, [], ◌∷◌, ◌++◌, codes, map, filter, length, take, slice_index, Option, Some, None, if◌then◌else◌, IsTrue, flat_map, list_any, condition_name, bits, Image, Row, row_of, Reading, reading_of, instr_bytes, is_in_range}
 use Rattle.std.specs.Fmt.{decimal}
 use Rattle.zl_rights.specs.declared.kind.Kind.{Kind}
-use Rattle.zl_rights.specs.Names.{kind_name, condition_name}
-use Rattle.zl_rights.specs.Numbers.{bits}
+use Rattle.zl_rights.specs.Names.{kind_name}
 use Rattle.zl_code.specs.declared.image.Start.{Start}
 use Rattle.zl_code.specs.declared.image.SlotArray.{SlotArray}
 use Rattle.zl_code.specs.declared.layout.Ending.{Ending}
 use Rattle.zl_code.specs.declared.layout.Ending.TheVariants as ending
 use Rattle.zl_code.specs.Limits.{no_register}
-use Rattle.zl_code.specs.Image.{Image}
-use Rattle.zl_code.specs.Instructions.{Row, row_of}
-use Rattle.zl_code.specs.Spells.{Reading, reading_of, instr_bytes, is_in_range}
 use Rattle.zl_asm.specs.Denotes.{Denotes}
 
 -- ---- words

@@ -1,19 +1,14 @@
 -- What a line of a program's text says, by its words.
-use Rattle.std.specs.Prelude.{ℕ, ◌-◌, Bool, ◌&&◌, not, ◌==◌, nat_le, List, [], ◌∷◌, ◌++◌, codes, length, take, drop, replicate, slice_index, Option, Some, None, is_some, if◌then◌else◌}
-use Rattle.std.specs.Option.{option_map}
-use Rattle.std.specs.List.{starts_with}
+use Rattle.zl_code.specs.Common.{ℕ, ◌-◌, Bool, ◌&&◌, not, ◌==◌, nat_le, List, [], ◌∷◌, ◌++◌, codes, length, take, drop, replicate, slice_index, Option, Some, None, is_some, if◌then◌else◌, option_map, starts_with, rights_of, is_among, Row, row_named, layout_of, bytes_of, seven, is_start_in_range, is_slot_in_range}
 use Rattle.zl_rights.specs.declared.kind.Kind.{Kind}
 use Rattle.zl_rights.specs.declared.policy.Condition.{Condition}
 use Rattle.zl_rights.specs.Names.{kind_named, condition_named}
-use Rattle.zl_rights.specs.Numbers.{rights_of}
 use Rattle.zl_code.specs.declared.image.Start.{Start}
 use Rattle.zl_code.specs.declared.image.SlotArray.{SlotArray}
 use Rattle.zl_code.specs.declared.layout.Ending.{Ending}
 use Rattle.zl_code.specs.declared.layout.Ending.TheVariants as ending
 use Rattle.zl_code.specs.Limits.{most_memory, most_budget, most_places, most_handles, no_register, instruction_length}
-use Rattle.zl_code.specs.Image.{is_among, can_be_needed}
-use Rattle.zl_code.specs.Instructions.{Row, row_named, layout_of}
-use Rattle.zl_code.specs.Spells.{bytes_of, seven, is_start_in_range, is_slot_in_range}
+use Rattle.zl_code.specs.Image.{can_be_needed}
 use Rattle.zl_asm.specs.declared.directive.Directive.{Directive}
 use Rattle.zl_asm.specs.declared.directive.Directive.TheVariants as directive
 use Rattle.zl_asm.specs.Words.{is_word, comma, number_of, register_of, is_name, hex_bytes}

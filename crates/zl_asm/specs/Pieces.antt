@@ -1,16 +1,12 @@
 -- The pieces of a text as the disassembler writes them, each line with its end. No public clause cites this module.
-use Rattle.std.specs.Prelude.{ℕ, ◌≡◌, ◌<◌, Bool, false, List, [], ◌∷◌, ◌++◌, codes, map, length, take, get_or, Result, OnOk, String, string_bytes, if◌then◌else◌}
-use Rattle.std.specs.List.{flat_map}
+use Rattle.zl_code.specs.Common.{ℕ, ◌≡◌, ◌<◌, Bool, false, List, [], ◌∷◌, ◌++◌, codes, map, length, take, get_or, Result, OnOk, string_bytes, if◌then◌else◌, flat_map, condition_name, bits, Image, is_among, reading_of}
+use Rattle.std.specs.Prelude.{String}
 use Rattle.std.specs.Fmt.{decimal}
 use Rattle.zl_rights.specs.declared.policy.Condition.{Condition}
 use Rattle.zl_rights.specs.declared.policy.Condition.TheVariants as condition
-use Rattle.zl_rights.specs.Names.{condition_name}
-use Rattle.zl_rights.specs.Numbers.{bits}
 use Rattle.zl_code.specs.declared.image.Start.{Start}
 use Rattle.zl_code.specs.declared.image.SlotArray.{SlotArray}
 use Rattle.zl_code.specs.declared.layout.Ending.{Ending}
-use Rattle.zl_code.specs.Image.{Image, is_among}
-use Rattle.zl_code.specs.Spells.{reading_of}
 use Rattle.zl_asm.specs.Canonical.{kind_text, label_text, joined, register_text, tail_texts, instr_text, is_target}
 
 -- where it is done, the text has these bytes more at its end

@@ -1,21 +1,11 @@
 -- Which fault a statement of a boot has, from what the code tests.
+use Rattle.zl_code.proofs.Common.{or_left, or_right, length-map, ◌≡◌, ◌<◌, ◌≤◌, ℕ, true, false, ◌||◌, not, List, [], ◌∷◌, length, map, refl, Option, Some, None, inl, inr, ◌⊎◌, arith, slice_get, nat_lt, nat_le, option_map, nat_tests, then_some, first_some, get, Library, Program, body_in, boot_fault, is_job_body}
 use Rattle.zl_calls.specs.declared.objects.Body.{Body}
-use Rattle.std.proofs.lemmas.Bool.{or_left, or_right}
 use Rattle.std.proofs.lemmas.Option.{slice_get_past}
-use Rattle.std.proofs.lemmas.List.{length-map}
-use Rattle.std.proofs.Common.{◌≡◌, ◌<◌, ◌≤◌, ℕ, true, false, ◌||◌, not, List, [], ◌∷◌, length, map, refl, Option, Some, None, inl, inr, ◌⊎◌, arith}
-use Rattle.std.specs.Prelude.{slice_get, nat_lt, nat_le}
-use Rattle.std.specs.Option.{option_map}
-use Rattle.std.proofs.lemmas.Bool.Decides.{nat_tests}
-use Rattle.std.specs.Bool.{then_some}
-use Rattle.zl_code.specs.First.{first_some}
-use Rattle.zl_rights.specs.Map.{get}
 use Rattle.zl_code.specs.declared.boot.BootCause.{BootCause}
 use Rattle.zl_code.specs.declared.boot.BootCause.TheVariants as cause
 use Rattle.zl_code.specs.declared.boot.Statement.TheVariants as statement
-use Rattle.zl_code.specs.Image.{Library, Program}
-use Rattle.zl_code.specs.Tests.{body_in}
-use Rattle.zl_code.specs.Boot.{boot_fault, is_job_body, is_job, MOST_PROCESSES, MOST_KOIDS}
+use Rattle.zl_code.specs.Boot.{is_job, MOST_PROCESSES, MOST_KOIDS}
 use Rattle.zl_calls.specs.declared.objects.Body.TheVariants as body
 use Rattle.zl_calls.specs.declared.objects.Object.{Object}
 use Rattle.zl_calls.specs.declared.process.Process.{Process}

@@ -1,18 +1,7 @@
 -- What a boot has made meets the invariant of the world, once what isn't held is gone.
-use Rattle.std.proofs.Common.{◌≡◌, ◌<◌, ◌⊎◌, ℕ, false, ◌==◌, List, [], ◌∷◌, map, refl, sym, ap, ◌∙◌, subst, Option, Some, None, inl, inr, IsTrue, arith, length}
-use Rattle.std.specs.List.{All, sum_by, count_by}
-use Rattle.std.specs.Ordering.{nat_cmp}
-use Rattle.std.specs.FinMap.Entries.{below_all}
-use Rattle.std.proofs.lemmas.List.Sums.{sum_by-cons}
+use Rattle.zl_code.proofs.Common.{◌≡◌, ◌<◌, ◌⊎◌, ℕ, false, ◌==◌, List, [], ◌∷◌, map, refl, sym, ap, ◌∙◌, subst, Option, Some, None, inl, inr, IsTrue, arith, length, All, sum_by, count_by, nat_cmp, below_all, sum_by-cons, cases_Bool, eqb-true, false≢true, none-some, same_Some, Map, get, has_key, without, Process as ProcessValue, Object as ObjectValue, is_process, runs, state_passes, Settles, is_held, in_table, in_queue, has_living_child as living_child, handles_to}
 use Rattle.std.proofs.lemmas.List.Elements.{All-head, All-tail}
-use Rattle.std.proofs.lemmas.Bool.{cases_Bool, eqb-true, false≢true}
-use Rattle.std.proofs.lemmas.Option.{none-some, same_Some}
 use Rattle.zl_rights.specs.declared.entry.Entry.{Entry}
-use Rattle.zl_rights.specs.Map.{Map, get, has_key, without}
-use Rattle.zl_rights.specs.World.{Process as ProcessValue, Object as ObjectValue}
-use Rattle.zl_rights.specs.Signals.{is_process, runs, state_passes}
-use Rattle.zl_rights.specs.Settle.{Settles, is_held, in_table, in_queue, has_living_child as living_child}
-use Rattle.zl_code.specs.Tests.{handles_to}
 use Rattle.zl_table.specs.Table.{IsTable}
 use Rattle.zl_table.proofs.MapEdits.{below_parts, sorted_parts}
 use Rattle.zl_calls.specs.declared.objects.Object.{Object}

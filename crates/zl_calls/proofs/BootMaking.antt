@@ -1,15 +1,8 @@
 -- One process more: what was made goes on being what the definitions make.
-use Rattle.std.proofs.lemmas.Bool.{cases_Bool, eqb-true, false≢true}
-use Rattle.std.proofs.Common.{◌==◌, cond, ◌≡◌, ◌<◌, ◌≤◌, ◌+◌, ◌⊎◌, ℕ, true, false, List, [], ◌∷◌, ◌++◌, map, refl, sym, ap, ◌∙◌, Some, inl, inr, IsTrue, arith, length}
-use Rattle.std.specs.Prelude.{slice_get}
-use Rattle.std.proofs.lemmas.List.{map-append}
-use Rattle.std.proofs.lemmas.List.Elements.{All-push, All-nil}
-use Rattle.zl_rights.specs.Map.{Map, get, put, has_key}
-use Rattle.zl_rights.specs.World.{Process as ProcessValue}
+use Rattle.zl_code.proofs.Common.{cases_Bool, eqb-true, false≢true, ◌==◌, cond, ◌≡◌, ◌<◌, ◌≤◌, ◌+◌, ◌⊎◌, ℕ, true, false, List, [], ◌∷◌, ◌++◌, map, refl, sym, ap, ◌∙◌, Some, inl, inr, IsTrue, arith, length, slice_get, map-append, All-nil, Map, get, put, has_key, Process as ProcessValue, Image, Library, Program, with_object, boot_effect}
+use Rattle.std.proofs.lemmas.List.Elements.{All-push}
 use Rattle.zl_code.specs.declared.boot.Statement.TheVariants as statement
-use Rattle.zl_code.specs.Image.{Image, Library, Program}
-use Rattle.zl_code.specs.Effects.{with_object}
-use Rattle.zl_code.specs.Boot.{boot_effect, started_process, MOST_PROCESSES, MOST_KOIDS}
+use Rattle.zl_code.specs.Boot.{started_process, MOST_PROCESSES, MOST_KOIDS}
 use Rattle.zl_code.specs.Starting.{cpu_given, blank_cpu}
 use Rattle.zl_table.proofs.MapEdits.{sorted_put, put_key}
 use Rattle.zl_calls.specs.declared.objects.Body.TheVariants as body

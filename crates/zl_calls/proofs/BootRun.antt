@@ -1,13 +1,8 @@
 -- One statement after another: what was made is what the definitions make, up to the first fault.
-use Rattle.std.proofs.Common.{◌≢◌, ◌≡◌, ◌<◌, ◌≤◌, ◌+◌, ℕ, List, [], ◌∷◌, ◌++◌, take, length, refl, sym, ap, ◌∙◌, Option, Some, None, get_or, IsTrue, arith}
-use Rattle.std.proofs.lemmas.List.{take_more, take_all}
-use Rattle.std.proofs.lemmas.Option.{slice_get-get_or}
-use Rattle.zl_rights.specs.World.{World}
+use Rattle.zl_code.proofs.Common.{◌≢◌, ◌≡◌, ◌<◌, ◌≤◌, ◌+◌, ℕ, List, [], ◌∷◌, ◌++◌, take, length, refl, sym, ap, ◌∙◌, Option, Some, None, get_or, IsTrue, arith, take_more, take_all, slice_get-get_or, World, Library, boot_effect, boot_fault, may_boot, Boots, FirstFault, at_statement, at_limit, MOST_ITEMS, origin}
 use Rattle.zl_code.specs.declared.boot.Statement.{Statement}
 use Rattle.zl_code.specs.declared.boot.BootCause.{BootCause}
 use Rattle.zl_code.specs.declared.boot.BootCause.TheVariants as cause
-use Rattle.zl_code.specs.Image.{Library}
-use Rattle.zl_code.specs.Boot.{boot_effect, boot_fault, may_boot, Boots, FirstFault, at_statement, at_limit, MOST_ITEMS, origin}
 use Rattle.zl_calls.specs.declared.booting.Made.{Made}
 use Rattle.zl_calls.specs.Making.{IsMaking, root_alone}
 use Rattle.zl_calls.specs.Makes.{Makes, IsCauseOf, IsReached, seen}

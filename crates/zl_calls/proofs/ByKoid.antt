@@ -1,14 +1,9 @@
 -- What std's map from koids holds after a read or a write, in the words of the definitions.
-use Rattle.std.proofs.Common.{◌≡◌, ◌<◌, ◌+◌, ℕ, true, false, ◌||◌, [], ◌∷◌, ◌++◌, length, refl, sym, ap, ◌∙◌, cond, Option, Some, None, inl, inr, arith, IsTrue}
-use Rattle.std.specs.Prelude.{is_some, IsSome, IfSome, IfNone, ◌↔◌}
-use Rattle.std.specs.List.{list_any}
-use Rattle.std.specs.Ordering.{nat_cmp}
+use Rattle.zl_code.proofs.Common.{◌≡◌, ◌<◌, ◌+◌, ℕ, true, false, ◌||◌, [], ◌∷◌, ◌++◌, length, refl, sym, ap, ◌∙◌, cond, Option, Some, None, inl, inr, arith, IsTrue, is_some, IsSome, IfSome, IfNone, list_any, nat_cmp, cases_Bool, false≢true, nat_tests, Map, get, put, update, without, has_key}
+use Rattle.std.specs.Prelude.{◌↔◌}
 use Rattle.std.specs.Cmp.{unsigned_tied}
 use Rattle.std.specs.Map.{lookup, set_value, remove_entry, values_of}
 use Rattle.std.specs.BTreeMap.{BTreeMap, is_at, insert_entry, IsUnchanged, IsUpperBound, Updates}
-use Rattle.std.proofs.lemmas.Bool.{cases_Bool, false≢true}
-use Rattle.std.proofs.lemmas.Bool.Decides.{nat_tests}
-use Rattle.zl_rights.specs.Map.{Map, get, put, update, without, has_key}
 use Rattle.zl_table.proofs.MapEdits.{update_missing, put_key}
 use Rattle.zl_calls.specs.declared.objects.Object.{Object}
 use Rattle.zl_calls.specs.Objects.{AreBelow, lives_below, has_living_child}

@@ -1,10 +1,6 @@
 -- A table's handles close, and a process ends: the invariant holds afterwards, and the worlds are settled.
-use Rattle.std.proofs.Common.{◌≡◌, ℕ, Bool, true, false, not, ◌&&◌, ◌==◌, List, [], map, refl, Some, IsTrue, arith}
-use Rattle.std.specs.Ordering.{nat_cmp}
-use Rattle.std.specs.FinMap.Entries.{is_sorted}
+use Rattle.zl_code.proofs.Common.{◌≡◌, ℕ, Bool, true, false, not, ◌&&◌, ◌==◌, List, [], map, refl, Some, IsTrue, arith, nat_cmp, is_sorted, Map, get, without, Settles}
 use Rattle.zl_rights.specs.declared.entry.Entry.{Entry}
-use Rattle.zl_rights.specs.Map.{Map, get, without}
-use Rattle.zl_rights.specs.Settle.{Settles}
 use Rattle.zl_table.proofs.MapEdits.{sorted_without}
 use Rattle.zl_calls.specs.declared.process.Process.{Process}
 use Rattle.zl_calls.specs.Objects.{Objects, letting_go, released, Closes, none_left, one_more}

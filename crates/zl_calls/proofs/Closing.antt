@@ -1,17 +1,6 @@
 -- Handles close one after another: what isn't held any more goes, and the invariant is kept.
-use Rattle.std.proofs.Common.{◌≡◌, ◌+◌, ℕ, Bool, true, false, not, ◌&&◌, ◌||◌, ◌==◌, List, map, refl, sym, ap, ◌∙◌, subst, cond, Option, Some, None, inl, inr, ◌⊎◌, IsTrue, arith, eq-eqb}
-use Rattle.std.specs.Prelude.{nat_lt, is_some, if◌then◌else◌}
-use Rattle.std.specs.List.{count_by}
-use Rattle.std.specs.Ordering.{nat_cmp}
-use Rattle.std.specs.FinMap.Entries.{is_sorted}
-use Rattle.std.proofs.lemmas.Bool.{cases_Bool, eqb-true, false≢true}
-use Rattle.std.proofs.lemmas.Option.{none-some, same_Some}
+use Rattle.zl_code.proofs.Common.{◌≡◌, ◌+◌, ℕ, Bool, true, false, not, ◌&&◌, ◌||◌, ◌==◌, List, map, refl, sym, ap, ◌∙◌, subst, cond, Option, Some, None, inl, inr, ◌⊎◌, IsTrue, arith, eq-eqb, nat_lt, is_some, if◌then◌else◌, count_by, nat_cmp, is_sorted, cases_Bool, eqb-true, false≢true, none-some, same_Some, Map, get, has_key, without, World, Object as ObjectValue, is_process, runs, Settles, in_table, handles_to}
 use Rattle.zl_rights.specs.declared.entry.Entry.{Entry}
-use Rattle.zl_rights.specs.Map.{Map, get, has_key, without}
-use Rattle.zl_rights.specs.World.{World, Object as ObjectValue}
-use Rattle.zl_rights.specs.Signals.{is_process, runs}
-use Rattle.zl_rights.specs.Settle.{Settles, in_table}
-use Rattle.zl_code.specs.Tests.{handles_to}
 use Rattle.zl_table.proofs.MapEdits.{get-without, sorted_without, is_sorted-update, has_key-update}
 use Rattle.zl_calls.specs.declared.objects.Body.{Body}
 use Rattle.zl_calls.specs.declared.objects.Body.TheVariants as body

@@ -1,14 +1,6 @@
 -- How many handles name an object, after a change of one table.
-use Rattle.std.proofs.Common.{◌≡◌, ◌+◌, ◌<◌, ℕ, zero, suc, Bool, true, false, ◌||◌, ◌==◌, List, [], ◌∷◌, map, refl, sym, ◌∙◌, cond, Some, None, inl, inr, IsTrue, arith}
-use Rattle.std.specs.Prelude.{nat_lt}
-use Rattle.std.specs.List.{sum_by, count_by, list_any}
-use Rattle.std.proofs.lemmas.List.Sums.{sum_by-cons}
-use Rattle.std.proofs.lemmas.Bool.{cases_Bool, eqb-true, or_left, or_right}
-use Rattle.std.proofs.lemmas.Option.{none-some, same_Some}
-use Rattle.zl_rights.specs.Map.{Map, get, put, update}
-use Rattle.zl_rights.specs.World.{Process as ProcessValue}
-use Rattle.zl_rights.specs.Settle.{in_table}
-use Rattle.zl_code.specs.Tests.{handles_to, queued_to}
+use Rattle.zl_code.proofs.Common.{◌≡◌, ◌+◌, ◌<◌, ℕ, zero, suc, Bool, true, false, ◌||◌, ◌==◌, List, [], ◌∷◌, map, refl, sym, ◌∙◌, cond, Some, None, inl, inr, IsTrue, arith, nat_lt, sum_by, count_by, list_any, sum_by-cons, cases_Bool, eqb-true, or_left, or_right, none-some, same_Some, Map, get, put, update, Process as ProcessValue, in_table, handles_to}
+use Rattle.zl_code.specs.Tests.{queued_to}
 use Rattle.zl_calls.specs.declared.objects.Body.{Body}
 use Rattle.zl_calls.specs.declared.objects.Body.TheVariants as body
 use Rattle.zl_calls.specs.declared.objects.Object.{Object}

@@ -1,17 +1,11 @@
 -- That a call is done: it is a step, and the invariant holds afterwards.
-use Rattle.std.proofs.Common.{◌≡◌, ℕ, Bool, List, [], map, ap, sym, ◌∙◌, subst, Option, Result, Ok, Err}
+use Rattle.zl_code.proofs.Common.{◌≡◌, ℕ, Bool, List, [], map, ap, sym, ◌∙◌, subst, Option, Result, Ok, Err, World, Ready, Library, Site, refusal, Step, AtCall, next_for, Calls, grows, replied, taken}
 use Rattle.zl_rights.specs.declared.status.Status.{Status}
 use Rattle.zl_rights.specs.declared.status.Status.TheVariants as status
-use Rattle.zl_rights.specs.World.{World, Ready}
 use Rattle.zl_code.specs.declared.history.CallName.{CallName}
 use Rattle.zl_code.specs.declared.history.Outcome.{Outcome}
 use Rattle.zl_code.specs.declared.history.Outcome.TheVariants as outcome
 use Rattle.zl_code.specs.declared.history.TraceItem.TheVariants as item
-use Rattle.zl_code.specs.Image.{Library}
-use Rattle.zl_code.specs.Request.{Site}
-use Rattle.zl_code.specs.Refusals.{refusal}
-use Rattle.zl_code.specs.Steps.{Step, AtCall, next_for}
-use Rattle.zl_code.specs.Calls.{Calls, grows, replied, taken}
 use Rattle.zl_table.specs.Table.{Handles}
 use Rattle.zl_calls.specs.declared.process.Process.{Process}
 use Rattle.zl_calls.specs.Objects.{Objects}

@@ -1,30 +1,13 @@
 -- dup, from its table and objects to a step.
-use Rattle.std.proofs.Common.{◌≡◌, ◌+◌, ◌^◌, ℕ, Bool, true, false, not, ◌||◌, ◌==◌, List, [], ◌∷◌, map, refl, sym, ap, ◌∙◌, cond, Option, Some, None, Ok, Err, IsTrue, arith}
-use Rattle.std.specs.Prelude.{nat_le, nat_lt, if◌then◌else◌}
-use Rattle.std.proofs.lemmas.Bool.{eqb-true, or_left}
-use Rattle.std.proofs.lemmas.Bool.Decides.{nat_tests}
-use Rattle.std.specs.Bool.{then_some}
-use Rattle.std.specs.Option.{option_or}
-use Rattle.zl_code.specs.First.{first_some}
+use Rattle.zl_code.proofs.Common.{◌≡◌, ◌+◌, ◌^◌, ℕ, Bool, true, false, not, ◌||◌, ◌==◌, List, [], ◌∷◌, map, refl, sym, ap, ◌∙◌, cond, Option, Some, None, Ok, Err, IsTrue, arith, nat_le, nat_lt, if◌then◌else◌, eqb-true, or_left, nat_tests, then_some, option_or, first_some, bits, within, narrowed, default_rights_of, DUPLICATE, is_empty, Map, get, World, Object as ObjectValue, Ready, Library, Site, site, dup, examined, operand, operand_of, by_look_up, has_room, handles_to, table_of, entry_at, copy_of, with_rights, answer_if, any, row_of, refusal, handle_operands, listed, may_choose, new_handles, insert_all, remove_all, taken_handles, effect, with_effect, gives_ok, AtCall, next_for, Values, replied, taken}
 use Rattle.zl_rights.specs.declared.status.Status.TheVariants as status
 use Rattle.zl_rights.specs.declared.entry.Entry.{Entry}
 use Rattle.zl_rights.specs.declared.policy.Condition.TheVariants as condition
-use Rattle.zl_rights.specs.Numbers.{bits, within, narrowed, default_rights_of, DUPLICATE}
-use Rattle.zl_rights.specs.Signals.{is_empty}
-use Rattle.zl_rights.specs.Map.{Map, get}
-use Rattle.zl_rights.specs.World.{World, Object as ObjectValue, Ready}
 use Rattle.zl_rights.proofs.Narrowed.{narrowed_within}
 use Rattle.zl_code.specs.declared.history.CallName.{CallName}
 use Rattle.zl_code.specs.declared.history.Outcome.{Outcome}
 use Rattle.zl_code.specs.declared.history.Outcome.TheVariants as outcome
-use Rattle.zl_code.specs.Image.{Library}
-use Rattle.zl_code.specs.Request.{Site, site, dup}
-use Rattle.zl_code.specs.Tests.{examined, operand, operand_of, by_look_up, has_room, handles_to, table_of, entry_at, copy_of, with_rights, answer_if, any, koid_in}
-use Rattle.zl_code.specs.Instructions.{row_of}
-use Rattle.zl_code.specs.Refusals.{refusal, handle_operands, listed}
-use Rattle.zl_code.specs.Effects.{may_choose, new_handles, insert_all, remove_all, taken_handles, effect, with_effect, gives_ok}
-use Rattle.zl_code.specs.Steps.{AtCall, next_for}
-use Rattle.zl_code.specs.Calls.{Values, replied, taken}
+use Rattle.zl_code.specs.Tests.{koid_in}
 use Rattle.zl_calls.specs.declared.objects.Object.{Object}
 use Rattle.zl_calls.specs.declared.process.Process.{Process}
 use Rattle.zl_calls.specs.Objects.{Objects, has_place, held_once_more, holding}

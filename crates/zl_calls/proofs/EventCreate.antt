@@ -1,32 +1,14 @@
 -- event_create, from its table and objects to a step.
-use Rattle.std.proofs.Common.{◌≡◌, ◌<◌, ◌+◌, ◌^◌, ℕ, zero, suc, Bool, true, false, not, ◌&&◌, ◌||◌, ◌==◌, List, [], ◌∷◌, ◌++◌, map, refl, sym, ap, ◌∙◌, subst, cond, Option, Some, None, inl, inr, IsTrue, arith, eq-eqb}
-use Rattle.std.specs.Prelude.{nat_le, if◌then◌else◌, is_some}
-use Rattle.std.specs.List.{list_any}
-use Rattle.std.proofs.lemmas.Bool.{cases_Bool, eqb-true, false≢true}
-use Rattle.std.proofs.lemmas.List.{map-append}
-use Rattle.std.proofs.lemmas.Option.{same_Some}
-use Rattle.std.specs.Bool.{then_some}
-use Rattle.zl_code.specs.First.{first_some}
+use Rattle.zl_code.proofs.Common.{◌≡◌, ◌<◌, ◌+◌, ◌^◌, ℕ, zero, suc, Bool, true, false, not, ◌&&◌, ◌||◌, ◌==◌, List, [], ◌∷◌, ◌++◌, map, refl, sym, ap, ◌∙◌, subst, cond, Option, Some, None, inl, inr, IsTrue, arith, eq-eqb, nat_le, if◌then◌else◌, is_some, list_any, cases_Bool, eqb-true, false≢true, map-append, same_Some, then_some, first_some, Map, get, put, World, Process as ProcessValue, Object as ObjectValue, Ready, EventBody, is_process, runs, state_passes, in_table, Library, Site, site, event_create, examined, has_room, has_koids, handles_to, table_of, answer_if, row_of, refusal, handle_operands, listed, may_choose, new_handles, insert_all, remove_all, taken_handles, effect, with_effect, with_object, gives_ok, AtCall, next_for, Values, replied, taken}
 use Rattle.zl_rights.specs.declared.kind.Kind.TheVariants as kind
 use Rattle.zl_rights.specs.declared.status.Status.TheVariants as status
 use Rattle.zl_rights.specs.declared.entry.Entry.{Entry}
 use Rattle.zl_rights.specs.declared.policy.Condition.TheVariants as condition
-use Rattle.zl_rights.specs.Map.{Map, get, put}
-use Rattle.zl_rights.specs.World.{World, Process as ProcessValue, Object as ObjectValue, Ready, EventBody}
-use Rattle.zl_rights.specs.Signals.{is_process, runs, state_passes}
-use Rattle.zl_rights.specs.Settle.{in_table}
 use Rattle.zl_rights.proofs.MapLaws.{get-put}
 use Rattle.zl_code.specs.declared.history.CallName.{CallName}
 use Rattle.zl_code.specs.declared.history.Outcome.{Outcome}
 use Rattle.zl_code.specs.declared.history.Outcome.TheVariants as outcome
-use Rattle.zl_code.specs.Image.{Library}
-use Rattle.zl_code.specs.Request.{Site, site, event_create}
-use Rattle.zl_code.specs.Tests.{examined, has_room, has_koids, handles_to, table_of, answer_if}
-use Rattle.zl_code.specs.Instructions.{row_of}
-use Rattle.zl_code.specs.Refusals.{refusal, handle_operands, listed}
-use Rattle.zl_code.specs.Effects.{may_choose, new_handles, new_entry, insert_all, remove_all, taken_handles, effect, with_effect, with_object, gives_ok}
-use Rattle.zl_code.specs.Steps.{AtCall, next_for}
-use Rattle.zl_code.specs.Calls.{Values, replied, taken}
+use Rattle.zl_code.specs.Effects.{new_entry}
 use Rattle.zl_table.specs.Table.{IsTable}
 use Rattle.zl_table.proofs.MapEdits.{sorted_put, put_key}
 use Rattle.zl_calls.specs.declared.objects.Body.{Body}

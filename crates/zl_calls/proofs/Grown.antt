@@ -1,16 +1,7 @@
 -- One object more, with one handle: what the invariant says of the objects.
-use Rattle.std.proofs.Common.{◌≡◌, ◌<◌, ◌+◌, ◌^◌, ℕ, zero, suc, Bool, true, false, ◌||◌, ◌==◌, List, [], ◌∷◌, ◌++◌, map, refl, sym, ap, ◌∙◌, subst, cond, Option, Some, None, inl, inr, IsTrue, arith, eq-eqb}
-use Rattle.std.specs.Prelude.{if◌then◌else◌, is_some}
-use Rattle.std.specs.List.{list_any}
-use Rattle.std.proofs.lemmas.Bool.{cases_Bool, eqb-true, false≢true}
-use Rattle.std.proofs.lemmas.Option.{same_Some}
+use Rattle.zl_code.proofs.Common.{◌≡◌, ◌<◌, ◌+◌, ◌^◌, ℕ, zero, suc, Bool, true, false, ◌||◌, ◌==◌, List, [], ◌∷◌, ◌++◌, map, refl, sym, ap, ◌∙◌, subst, cond, Option, Some, None, inl, inr, IsTrue, arith, eq-eqb, if◌then◌else◌, is_some, list_any, cases_Bool, eqb-true, false≢true, same_Some, Map, get, put, Process as ProcessValue, is_process, runs, state_passes, in_table, handles_to}
 use Rattle.zl_rights.specs.declared.entry.Entry.{Entry}
-use Rattle.zl_rights.specs.Map.{Map, get, put}
-use Rattle.zl_rights.specs.World.{Process as ProcessValue}
-use Rattle.zl_rights.specs.Signals.{is_process, runs, state_passes}
-use Rattle.zl_rights.specs.Settle.{in_table}
 use Rattle.zl_rights.proofs.MapLaws.{get-put}
-use Rattle.zl_code.specs.Tests.{handles_to}
 use Rattle.zl_table.specs.Table.{IsTable}
 use Rattle.zl_table.proofs.MapEdits.{sorted_put, put_key}
 use Rattle.zl_calls.specs.declared.objects.Body.{Body}

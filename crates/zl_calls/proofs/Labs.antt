@@ -1,27 +1,13 @@
 -- What follows from the invariant of the world, and that it makes a call a step.
-use Rattle.std.proofs.Common.{◌≡◌, ◌<◌, ◌^◌, ℕ, Bool, true, false, not, ◌&&◌, ◌||◌, ◌==◌, List, [], ◌∷◌, map, refl, sym, ap, ◌∙◌, Option, Some, None, inl, inr, ◌⊎◌, eq-eqb, IsTrue, arith}
-use Rattle.std.specs.Prelude.{nat_le, nat_lt, is_some}
-use Rattle.std.specs.List.{list_any}
-use Rattle.std.specs.Option.{option_map}
-use Rattle.std.proofs.lemmas.Bool.{cases_Bool, eqb-true, or_cases, or_left, or_right, and_from, and_parts, false≢true}
-use Rattle.std.proofs.lemmas.Option.{none-some, same_Some}
-use Rattle.std.specs.Ordering.{nat_cmp}
-use Rattle.std.specs.FinMap.Entries.{is_sorted, below_all}
+use Rattle.zl_code.proofs.Common.{◌≡◌, ◌<◌, ◌^◌, ℕ, Bool, true, false, not, ◌&&◌, ◌||◌, ◌==◌, List, [], ◌∷◌, map, refl, sym, ap, ◌∙◌, Option, Some, None, inl, inr, ◌⊎◌, eq-eqb, IsTrue, arith, nat_le, nat_lt, is_some, list_any, option_map, cases_Bool, eqb-true, or_left, or_right, and_from, and_parts, false≢true, none-some, same_Some, nat_cmp, is_sorted, below_all, nat_tests, Map, get, has_key, each, World, Process as ProcessValue, State as StateValue, Created, Ready, Blocked, Ended, Gone, is_process, runs, lives, state_passes, Settles, Koids, is_held, in_table, in_queue, has_living_child as living_child, process_settled, Library, Site, handles_to, Step, AtCall, next_for, Calls}
+use Rattle.std.proofs.lemmas.Bool.{or_cases}
 use Rattle.zl_table.proofs.MapEdits.{sorted_parts, without_lower, get-without}
-use Rattle.std.proofs.lemmas.Bool.Decides.{nat_tests}
 use Rattle.zl_rights.specs.declared.entry.Entry.{Entry}
-use Rattle.zl_rights.specs.Map.{Map, get, has_key, each}
-use Rattle.zl_rights.specs.World.{World, Process as ProcessValue, State as StateValue, Created, Ready, Blocked, Ended, Gone}
-use Rattle.zl_rights.specs.Signals.{is_process, runs, lives, is_job_below, is_process_of, state_passes}
-use Rattle.zl_rights.specs.Settle.{Settles, Koids, is_held, in_table, in_queue, has_living_child as living_child, process_settled, state_without}
+use Rattle.zl_rights.specs.Signals.{is_job_below, is_process_of}
+use Rattle.zl_rights.specs.Settle.{state_without}
 use Rattle.zl_code.specs.declared.history.CallName.{CallName}
 use Rattle.zl_code.specs.declared.history.Outcome.{Outcome}
 use Rattle.zl_code.specs.declared.history.TraceItem.TheVariants as item
-use Rattle.zl_code.specs.Image.{Library}
-use Rattle.zl_code.specs.Request.{Site}
-use Rattle.zl_code.specs.Tests.{handles_to}
-use Rattle.zl_code.specs.Steps.{Step, AtCall, next_for}
-use Rattle.zl_code.specs.Calls.{Calls}
 use Rattle.zl_calls.specs.declared.objects.Body.{Body}
 use Rattle.zl_calls.specs.declared.objects.Body.TheVariants as body
 use Rattle.zl_calls.specs.declared.objects.Object.{Object}

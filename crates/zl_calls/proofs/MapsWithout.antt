@@ -1,12 +1,5 @@
 -- Maps that an entry has left: tests, counts, and what is seen.
-use Rattle.std.proofs.Common.{◌≡◌, ◌+◌, ℕ, Bool, true, false, ◌||◌, ◌==◌, [], ◌∷◌, map, refl, sym, ap, ◌∙◌, cond, Some, inl, inr, IsTrue, arith}
-use Rattle.std.specs.List.{list_any, count_by}
-use Rattle.std.specs.Ordering.{nat_cmp}
-use Rattle.std.specs.FinMap.Entries.{is_sorted}
-use Rattle.std.proofs.lemmas.List.Sums.{sum_by-cons}
-use Rattle.std.proofs.lemmas.Bool.{cases_Bool, eqb-true, false≢true}
-use Rattle.std.proofs.lemmas.Option.{none-some, same_Some}
-use Rattle.zl_rights.specs.Map.{Map, get, without}
+use Rattle.zl_code.proofs.Common.{◌≡◌, ◌+◌, ℕ, Bool, true, false, ◌||◌, ◌==◌, [], ◌∷◌, map, refl, sym, ap, ◌∙◌, cond, Some, inl, inr, IsTrue, arith, list_any, count_by, nat_cmp, is_sorted, sum_by-cons, cases_Bool, eqb-true, false≢true, none-some, same_Some, Map, get, without}
 use Rattle.zl_table.proofs.MapEdits.{sorted_parts, without_lower}
 
 module _ {X : Type 0} where

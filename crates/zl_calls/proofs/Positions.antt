@@ -1,12 +1,7 @@
 -- The first element with a key: what it reads and writes, in the map by keys.
-use Rattle.std.proofs.Common.{◌≡◌, ◌<◌, ℕ, zero, suc, Bool, true, false, ◌==◌, List, [], ◌∷◌, length, map, get_or, set, refl, sym, ap, ◌∙◌, Some, None, inl, inr, arith, ◌≤◌}
-use Rattle.std.specs.Prelude.{nat_lt}
-use Rattle.std.specs.List.{position, position_or_len}
-use Rattle.std.proofs.lemmas.Bool.{cases_Bool, eqb-true}
+use Rattle.zl_code.proofs.Common.{◌≡◌, ◌<◌, ℕ, zero, suc, Bool, true, false, ◌==◌, List, [], ◌∷◌, length, map, get_or, set, refl, sym, ap, ◌∙◌, Some, None, inl, inr, arith, ◌≤◌, nat_lt, position, cases_Bool, eqb-true, nat_tests, none-some, Map, get, update}
+use Rattle.std.specs.List.{position_or_len}
 use Rattle.std.proofs.lemmas.List.Quantifiers.{position-Some}
-use Rattle.std.proofs.lemmas.Bool.Decides.{nat_tests}
-use Rattle.std.proofs.lemmas.Option.{none-some}
-use Rattle.zl_rights.specs.Map.{Map, get, update}
 
 -- the element at place i is the first with the key k
 pub record IsFirst {X : Type 0} (key : X → ℕ) (xs : List X) (k i : ℕ) (d : X) : Type 0 where

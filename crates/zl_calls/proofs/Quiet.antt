@@ -1,14 +1,9 @@
 -- Worlds in which nothing waits: waking changes nothing, and settling takes away what isn't held.
-use Rattle.std.proofs.Common.{◌≡◌, ℕ, Bool, true, false, ◌&&◌, ◌||◌, ◌==◌, [], ◌∷◌, refl, sym, ap, ◌∙◌, cond, Some, inl, inr, IsTrue, eq-eqb}
-use Rattle.std.specs.Prelude.{is_some}
-use Rattle.std.specs.List.{list_any}
-use Rattle.std.proofs.lemmas.Bool.{cases_Bool, and_parts, eqb-true, false≢true}
+use Rattle.zl_code.proofs.Common.{◌≡◌, ℕ, Bool, true, false, ◌&&◌, ◌||◌, ◌==◌, [], ◌∷◌, refl, sym, ap, ◌∙◌, cond, Some, inl, inr, IsTrue, eq-eqb, is_some, list_any, cases_Bool, and_parts, eqb-true, false≢true, Map, get, has_key, without, where_key, each, World, Process, Object, Body, PortBody, is_process, lives, Koids, Settles, is_held, in_table, in_queue, has_living_child, queue_of, without_others, process_settled, wakes, fired}
 use Rattle.std.proofs.lemmas.List.{append-nil}
-use Rattle.zl_rights.specs.Map.{Map, get, has_key, without, where_key, each}
-use Rattle.zl_rights.specs.World.{World, Process, Object, Body, PortBody}
-use Rattle.zl_rights.specs.Signals.{is_process, lives, is_job_below, is_process_of}
-use Rattle.zl_rights.specs.Settle.{Koids, Settles, IsHeld, is_held, in_table, in_queue, has_living_child, names, queue_of, without_others, process_settled}
-use Rattle.zl_rights.specs.Wakes.{wakes, fired, body_with_packets}
+use Rattle.zl_rights.specs.Signals.{is_job_below, is_process_of}
+use Rattle.zl_rights.specs.Settle.{IsHeld, names}
+use Rattle.zl_rights.specs.Wakes.{body_with_packets}
 use Rattle.zl_rights.proofs.MapTests.{each_same}
 use Rattle.zl_rights.proofs.Settling.{is_held-larger}
 use Rattle.zl_table.proofs.MapEdits.{get-without}

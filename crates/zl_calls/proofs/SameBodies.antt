@@ -1,12 +1,6 @@
 -- A change of one object that leaves its body as it is: what the invariant says of bodies stays.
-use Rattle.std.proofs.Common.{◌≡◌, ℕ, false, ◌||◌, ◌==◌, [], ◌∷◌, refl, sym, ap, ◌∙◌, Option, Some, None, inl, inr, IsTrue}
-use Rattle.std.specs.Prelude.{if◌then◌else◌}
-use Rattle.std.specs.List.{list_any}
-use Rattle.std.specs.Option.{option_map}
-use Rattle.std.proofs.lemmas.Bool.{cases_Bool}
-use Rattle.std.proofs.lemmas.Option.{none-some, same_Some}
+use Rattle.zl_code.proofs.Common.{◌≡◌, ℕ, false, ◌||◌, ◌==◌, [], ◌∷◌, refl, sym, ap, ◌∙◌, Option, Some, None, inl, inr, IsTrue, if◌then◌else◌, list_any, option_map, cases_Bool, none-some, same_Some, Map, get, update}
 use Rattle.zl_rights.specs.declared.entry.Entry.{Entry}
-use Rattle.zl_rights.specs.Map.{Map, get, update}
 use Rattle.zl_rights.proofs.MapLaws.{get-update}
 use Rattle.zl_calls.specs.declared.objects.Body.{Body}
 use Rattle.zl_calls.specs.declared.objects.Body.TheVariants as body

@@ -1,15 +1,7 @@
 -- A process loses handles, or ends: the invariant but for what keeps the objects.
-use Rattle.std.proofs.Common.{◌≡◌, ℤ, ◌+◌, ◌<◌, ℕ, Bool, true, false, ◌==◌, List, map, refl, sym, ap, ◌∙◌, subst, Option, Some, None, inl, inr, IsTrue, eq-eqb}
-use Rattle.std.specs.Prelude.{if◌then◌else◌}
-use Rattle.std.specs.List.{count_by}
-use Rattle.std.specs.Option.{option_map}
-use Rattle.std.proofs.lemmas.Bool.{cases_Bool, eqb-true}
+use Rattle.zl_code.proofs.Common.{◌≡◌, ℤ, ◌+◌, ◌<◌, ℕ, Bool, true, false, ◌==◌, List, map, refl, sym, ap, ◌∙◌, subst, Option, Some, None, inl, inr, IsTrue, eq-eqb, if◌then◌else◌, count_by, option_map, cases_Bool, eqb-true, Map, get, has_key, Process as ProcessValue, Object as ObjectValue, kind_of, is_process, runs, handles_to}
 use Rattle.zl_rights.specs.declared.entry.Entry.{Entry}
-use Rattle.zl_rights.specs.Map.{Map, get, has_key}
-use Rattle.zl_rights.specs.World.{Process as ProcessValue, Object as ObjectValue, kind_of}
-use Rattle.zl_rights.specs.Signals.{is_process, runs}
 use Rattle.zl_rights.proofs.MapLaws.{get-update}
-use Rattle.zl_code.specs.Tests.{handles_to}
 use Rattle.zl_table.specs.Table.{IsTable}
 use Rattle.zl_table.proofs.MapEdits.{is_sorted-update, has_key-update}
 use Rattle.zl_calls.specs.declared.objects.Body.{Body}

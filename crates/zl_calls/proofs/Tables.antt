@@ -1,16 +1,11 @@
 -- Tables that handles enter and leave, and empty ones.
-use Rattle.std.proofs.Common.{false, ◌^◌, bit_and, ◌≡◌, ◌<◌, ◌≤◌, ℕ, [], ◌∷◌, length, Some, None, Result, Err, refl, sym, ap, ◌∙◌, arith, inl, inr, ◌==◌}
-use Rattle.std.specs.Prelude.{if◌then◌else◌}
-use Rattle.std.proofs.lemmas.Bool.{cases_Bool, eqb-true}
-use Rattle.std.proofs.lemmas.Option.{same_Some}
+use Rattle.zl_code.proofs.Common.{false, ◌^◌, bit_and, ◌≡◌, ◌<◌, ◌≤◌, ℕ, [], ◌∷◌, length, Some, None, Result, Err, refl, sym, ap, ◌∙◌, arith, inl, inr, ◌==◌, if◌then◌else◌, cases_Bool, eqb-true, same_Some, Map, get, without, within}
 use Rattle.std.proofs.lemmas.Nat.{and_le_l}
 use Rattle.zl_rights.specs.declared.entry.Entry.{Entry}
 use Rattle.zl_rights.specs.declared.kind.Kind.{Kind}
 use Rattle.zl_rights.specs.declared.kind.Kind.TheVariants as kind
 use Rattle.zl_rights.specs.declared.status.Status.{Status}
 use Rattle.zl_rights.specs.declared.status.Status.TheVariants as status
-use Rattle.zl_rights.specs.Map.{Map, get, without}
-use Rattle.zl_rights.specs.Numbers.{within}
 use Rattle.zl_rights.specs.LookUp.{looked_up}
 use Rattle.zl_rights.proofs.MapLaws.{get-put}
 use Rattle.zl_table.specs.Table.{Handles, IsTable, Inserts, Drains}

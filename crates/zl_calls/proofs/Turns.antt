@@ -1,18 +1,9 @@
 -- A step of a process that was looked up: a call, a local instruction, or the end of a stuck process.
-use Rattle.std.proofs.Common.{◌≡◌, ℕ, Bool, true, false, ◌==◌, List, map, set, get_or, refl, sym, subst, ◌∙◌, Option, Some, None, IsTrue}
-use Rattle.std.specs.Prelude.{IsSome, IfNone}
-use Rattle.std.specs.List.{position}
-use Rattle.std.proofs.lemmas.Option.{same_Some}
-use Rattle.zl_rights.specs.Numbers.{STUCK}
-use Rattle.zl_rights.specs.Map.{get}
-use Rattle.zl_rights.specs.Signals.{is_ready, is_process}
+use Rattle.zl_code.proofs.Common.{◌≡◌, ℕ, Bool, true, false, ◌==◌, List, map, set, get_or, refl, sym, subst, ◌∙◌, Option, Some, None, IsTrue, IsSome, IfNone, position, same_Some, STUCK, get, is_ready, is_process, Library, site_of, name_of, Moves, IsStuck, calls_at, next_for}
 use Rattle.zl_code.specs.declared.instr.CallInstr.{CallInstr}
 use Rattle.zl_code.specs.declared.history.CallName.{CallName}
 use Rattle.zl_code.specs.declared.history.Outcome.{Outcome}
 use Rattle.zl_code.specs.declared.history.TraceItem.TheVariants as item
-use Rattle.zl_code.specs.Image.{Library}
-use Rattle.zl_code.specs.Request.{site_of, name_of}
-use Rattle.zl_code.specs.Steps.{Moves, IsStuck, calls_at, next_for}
 use Rattle.zl_calls.specs.declared.process.Process.{Process}
 use Rattle.zl_calls.specs.Acted.{Acted}
 use Rattle.zl_calls.specs.Consistent.{IsConsistent}

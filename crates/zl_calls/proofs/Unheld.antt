@@ -1,18 +1,9 @@
 -- What nothing keeps isn't held.
-use Rattle.std.proofs.Common.{◌≡◌, ◌+◌, ◌<◌, ◌≤◌, ◌^◌, ℕ, Bool, true, false, ◌&&◌, ◌||◌, ◌==◌, List, [], ◌∷◌, map, refl, sym, ap, ◌∙◌, cond, Some, inl, inr, IsTrue, arith}
-use Rattle.std.specs.Prelude.{nat_lt}
-use Rattle.std.specs.List.{sum_by, count_by, list_any}
-use Rattle.std.specs.Ordering.{nat_cmp}
-use Rattle.std.specs.FinMap.Entries.{is_sorted}
-use Rattle.std.proofs.lemmas.List.Sums.{sum_by-cons}
-use Rattle.std.proofs.lemmas.Bool.{cases_Bool, eqb-true, or_cases, and_parts, false≢true}
-use Rattle.std.proofs.lemmas.Bool.Decides.{nat_tests}
+use Rattle.zl_code.proofs.Common.{◌≡◌, ◌+◌, ◌<◌, ◌≤◌, ◌^◌, ℕ, Bool, true, false, ◌&&◌, ◌||◌, ◌==◌, List, [], ◌∷◌, map, refl, sym, ap, ◌∙◌, cond, Some, inl, inr, IsTrue, arith, nat_lt, sum_by, count_by, list_any, nat_cmp, is_sorted, sum_by-cons, cases_Bool, eqb-true, and_parts, false≢true, nat_tests, Map, get, has_key, World, Process as ProcessValue, Object as ObjectValue, is_process, runs, lives, state_passes, Koids, is_held, in_table, in_queue, has_living_child as living_child, queue_of, handles_to}
+use Rattle.std.proofs.lemmas.Bool.{or_cases}
 use Rattle.zl_rights.specs.declared.entry.Entry.{Entry}
-use Rattle.zl_rights.specs.Map.{Map, get, has_key}
-use Rattle.zl_rights.specs.World.{World, Process as ProcessValue, Object as ObjectValue}
-use Rattle.zl_rights.specs.Signals.{is_process, runs, lives, is_job_below, is_process_of, state_passes}
-use Rattle.zl_rights.specs.Settle.{Koids, is_held, in_table, in_queue, has_living_child as living_child, names, queue_of}
-use Rattle.zl_code.specs.Tests.{handles_to}
+use Rattle.zl_rights.specs.Signals.{is_job_below, is_process_of}
+use Rattle.zl_rights.specs.Settle.{names}
 use Rattle.zl_table.specs.Table.{IsTable}
 use Rattle.zl_calls.specs.declared.objects.Body.{Body}
 use Rattle.zl_calls.specs.declared.objects.Body.TheVariants as body

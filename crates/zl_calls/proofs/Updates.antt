@@ -1,9 +1,5 @@
 -- Changes of one value of a map: two after another, none, at the end, and as they are seen from outside.
-use Rattle.std.proofs.Common.{◌≡◌, ◌<◌, ℕ, true, false, ◌==◌, [], ◌∷◌, ◌++◌, refl, sym, ap, ◌∙◌, cond, Some, inl, inr, IsTrue, map, eq-eqb, arith}
-use Rattle.std.specs.Prelude.{is_some}
-use Rattle.std.proofs.lemmas.Bool.{cases_Bool, eqb-true}
-use Rattle.std.proofs.lemmas.Bool.Decides.{nat_tests}
-use Rattle.zl_rights.specs.Map.{Map, get, put, update, has_key}
+use Rattle.zl_code.proofs.Common.{◌≡◌, ◌<◌, ℕ, true, false, ◌==◌, [], ◌∷◌, ◌++◌, refl, sym, ap, ◌∙◌, cond, Some, inl, inr, IsTrue, map, eq-eqb, arith, is_some, cases_Bool, eqb-true, nat_tests, Map, get, put, update, has_key}
 
 pub update_twice : {X : Type 0} (m : Map X) (k : ℕ) (f g : X → X) → update (update m k f) k g ≡ update m k (λ x. g (f x))
 unfolding update

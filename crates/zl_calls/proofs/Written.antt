@@ -1,18 +1,8 @@
 -- A process of the list is written: the map by pids, and what the invariant says of processes.
-use Rattle.std.proofs.Common.{Option, None, ◌≡◌, ◌<◌, ◌≤◌, ◌+◌, ℕ, false, ◌==◌, List, map, length, get_or, set, refl, sym, ap, ◌∙◌, cond, Some, inl, inr, ◌⊎◌, ◌^◌, subst, IsTrue, arith, [], ◌∷◌}
+use Rattle.zl_code.proofs.Common.{Option, None, ◌≡◌, ◌<◌, ◌≤◌, ◌+◌, ℕ, false, ◌==◌, List, map, length, get_or, set, refl, sym, ap, ◌∙◌, cond, Some, inl, inr, ◌⊎◌, ◌^◌, subst, IsTrue, arith, [], ◌∷◌, position, count_by, option_map, nat_cmp, is_sorted, cases_Bool, eqb-true, none-some, same_Some, slice_get-get_or, Map, get, update, has_key, Process as ProcessValue, is_process, runs, state_passes, handles_to}
 use Rattle.std.specs.Prelude.{MatchOption}
-use Rattle.std.specs.List.{position, count_by}
-use Rattle.std.specs.Option.{option_map}
-use Rattle.std.specs.Ordering.{nat_cmp}
-use Rattle.std.specs.FinMap.Entries.{is_sorted}
-use Rattle.std.proofs.lemmas.Bool.{cases_Bool, eqb-true}
-use Rattle.std.proofs.lemmas.Option.{none-some, same_Some, slice_get-get_or}
 use Rattle.zl_rights.specs.declared.entry.Entry.{Entry}
-use Rattle.zl_rights.specs.Map.{Map, get, update, has_key}
-use Rattle.zl_rights.specs.World.{Process as ProcessValue}
-use Rattle.zl_rights.specs.Signals.{is_process, runs, state_passes}
 use Rattle.zl_rights.proofs.MapLaws.{get-update}
-use Rattle.zl_code.specs.Tests.{handles_to}
 use Rattle.zl_table.specs.Table.{IsTable, Inserts}
 use Rattle.zl_table.proofs.MapEdits.{is_sorted-update, has_key-update}
 use Rattle.zl_calls.specs.declared.objects.Object.{Object}

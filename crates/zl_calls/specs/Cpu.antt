@@ -1,12 +1,9 @@
 -- The Cpu of a process that starts, its slots, and instructions that are never stuck. No public clause cites this module.
-use Rattle.std.specs.Prelude.{ℕ, Bool, true, false, List, [], Option, Some, None, slice_get, slice_set, replicate}
-use Rattle.zl_rights.specs.World.{Cpu}
+use Rattle.zl_code.specs.Common.{ℕ, Bool, true, false, List, [], Option, Some, None, slice_get, slice_set, replicate, Cpu, Image, bytes_of}
 use Rattle.zl_code.specs.declared.instr.LocalInstr.{LocalInstr}
 use Rattle.zl_code.specs.declared.instr.LocalInstr.TheVariants as local
 use Rattle.zl_code.specs.declared.image.SlotArray.{SlotArray}
-use Rattle.zl_code.specs.Image.{Image}
 use Rattle.zl_code.specs.Local.{reg, sets, overwritten}
-use Rattle.zl_code.specs.Spells.{bytes_of}
 use Rattle.zl_code.specs.Starting.{blank_cpu, cpu_given}
 
 -- all is 0 but the word in register 1

@@ -1,11 +1,9 @@
 -- What one statement of a boot does to the processes and objects made so far.
-use Rattle.std.specs.Prelude.{ℕ, ◌≡◌, ◌<◌, List, length, take, max, Option, Some, None, IsTrue}
-use Rattle.zl_rights.specs.World.{World}
+use Rattle.zl_code.specs.Common.{ℕ, ◌≡◌, ◌<◌, List, length, take, Option, Some, None, IsTrue, World, Library, boot_fault, boot_effect, may_boot, Boots, origin}
+use Rattle.std.specs.Prelude.{max}
 use Rattle.zl_code.specs.declared.boot.BootCause.{BootCause}
 use Rattle.zl_code.specs.declared.boot.BootCause.TheVariants as cause
 use Rattle.zl_code.specs.declared.boot.Statement.{Statement}
-use Rattle.zl_code.specs.Image.{Library}
-use Rattle.zl_code.specs.Boot.{boot_fault, boot_effect, may_boot, Boots, origin}
 use Rattle.zl_calls.specs.declared.booting.Made.{Made}
 use Rattle.zl_calls.specs.World.{world_value}
 use Rattle.zl_calls.specs.Making.{IsMaking}

@@ -1,6 +1,5 @@
 -- What the definitions see of a program.
-use Rattle.std.specs.Prelude.{false}
-use Rattle.zl_code.specs.Image.{Program as ProgramValue}
+use Rattle.zl_code.specs.Common.{false, Program as ProgramValue}
 use Rattle.zl_calls.specs.declared.program.Program.{Program}
 use Rattle.zl_calls.specs.declared.program.Program.TheVariants as program
 

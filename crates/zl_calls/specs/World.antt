@@ -1,18 +1,11 @@
 -- What the definitions see of the world of this crate.
-use Rattle.std.specs.Prelude.{ℕ, ◌≡◌, ◌<◌, Bool, false, length, slice_get, List, [], map, Option, Some, None, if◌then◌else◌}
-use Rattle.std.specs.Option.{option_map}
-use Rattle.zl_rights.specs.Map.{get}
-use Rattle.zl_rights.specs.World.{World as WorldValue, Process as ProcessValue, State as StateValue, Created, Ready, Blocked, Ended, Gone, Object as ObjectValue, Body as BodyValue, JobBody, ProcessBody, EventBody}
-use Rattle.zl_rights.specs.Signals.{is_ready, is_process}
+use Rattle.zl_code.specs.Common.{ℕ, ◌≡◌, ◌<◌, Bool, false, length, slice_get, List, [], map, Option, Some, None, if◌then◌else◌, option_map, get, World as WorldValue, Process as ProcessValue, State as StateValue, Created, Ready, Blocked, Ended, Gone, Object as ObjectValue, Body as BodyValue, JobBody, ProcessBody, EventBody, is_ready, is_process, Library, local_effect, name_of, site_of, Next, AtCall, Moves, IsStuck, calls_at, next_for}
 use Rattle.zl_code.specs.declared.history.CallName.{CallName}
 use Rattle.zl_code.specs.declared.history.ProcState.{ProcState}
 use Rattle.zl_code.specs.declared.history.ProcState.TheVariants as seen
-use Rattle.zl_code.specs.Image.{Library}
 use Rattle.zl_code.specs.declared.instr.CallInstr.{CallInstr}
 use Rattle.zl_code.specs.declared.instr.LocalInstr.{LocalInstr}
-use Rattle.zl_code.specs.Local.{local_effect}
-use Rattle.zl_code.specs.Request.{name_of, site_of}
-use Rattle.zl_code.specs.Steps.{Next, AtCall, Moves, IsStuck, moves, calls_at, next_for}
+use Rattle.zl_code.specs.Steps.{moves}
 use Rattle.zl_calls.specs.declared.objects.Body.{Body}
 use Rattle.zl_calls.specs.declared.objects.Body.TheVariants as body
 use Rattle.zl_calls.specs.declared.objects.Object.{Object}

@@ -1,6 +1,5 @@
 -- A fact of each number below a bound, by one computation.
-use Rattle.std.proofs.Common.{◌≡◌, ℕ, zero, suc, ◌<◌, Bool, true, ◌==◌, ◌&&◌, ap, ◌∙◌, arith, inl, inr}
-use Rattle.std.proofs.lemmas.Bool.{and_parts, eqb-true, cases_Bool}
+use Rattle.zl_code.proofs.Common.{◌≡◌, ℕ, zero, suc, ◌<◌, Bool, true, ◌==◌, ◌&&◌, ap, ◌∙◌, arith, inl, inr, and_parts, eqb-true, cases_Bool}
 
 -- the test holds for each number below n
 unfoldable pub all_below : (ℕ → Bool) → ℕ → Bool

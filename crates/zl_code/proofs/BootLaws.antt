@@ -1,19 +1,11 @@
 -- A boot makes a world or comes to a first fault, never both, whichever values new handles get.
-use Rattle.std.proofs.Common.{◌≡◌, ◌<◌, ◌≤◌, ◌+◌, ◌⊎◌, ◌==◌, ℕ, zero, suc, true, false, cond, List, [], ◌∷◌, take, length, refl, sym, ap, ◌∙◌, Option, Some, None, inl, inr, IsTrue, arith}
-use Rattle.std.specs.Prelude.{slice_get, nat_lt}
-use Rattle.std.proofs.lemmas.Bool.{cases_lt}
-use Rattle.std.proofs.lemmas.List.{length-map}
-use Rattle.std.proofs.lemmas.Option.{none-some, same_Some}
-use Rattle.zl_rights.specs.Map.{Map, put}
-use Rattle.zl_rights.specs.World.{World, ProcessBody}
+use Rattle.zl_code.proofs.Common.{◌≡◌, ◌<◌, ◌≤◌, ◌+◌, ◌⊎◌, ◌==◌, ℕ, zero, suc, true, false, cond, List, [], ◌∷◌, take, length, refl, sym, ap, ◌∙◌, Option, Some, None, inl, inr, IsTrue, arith, slice_get, nat_lt, cases_lt, length-map, none-some, same_Some, Map, put, World, ProcessBody, Library, with_object, boot_fault, boot_effect, may_boot, Boots, IsBoot, FirstFault, at_statement, at_limit, MOST_ITEMS, origin}
 use Rattle.zl_rights.proofs.Settling.{settled_in, keys_of, Settles-exists, Settles-unique}
 use Rattle.zl_code.specs.declared.boot.Statement.{Statement}
 use Rattle.zl_code.specs.declared.boot.Statement.TheVariants as statement
 use Rattle.zl_code.specs.declared.boot.BootCause.{BootCause}
 use Rattle.zl_code.specs.declared.boot.BootCause.TheVariants as cause
-use Rattle.zl_code.specs.Image.{Library}
-use Rattle.zl_code.specs.Effects.{with_object}
-use Rattle.zl_code.specs.Boot.{boot_fault, boot_effect, may_boot, Boots, IsBoot, IsBooted, FirstFault, at_statement, at_limit, MOST_ITEMS, origin}
+use Rattle.zl_code.specs.Boot.{IsBooted}
 
 -- ---- worlds that differ by handles alone
 

@@ -1,12 +1,6 @@
 -- Handles stay sound: at places of their own, with no right beyond the defaults of their kinds.
-use Rattle.std.proofs.Common.{◌≡◌, ℕ, not, ◌==◌, [], refl, IsTrue, Some}
-use Rattle.std.specs.List.{list_all}
-use Rattle.std.proofs.lemmas.Option.{none-some}
+use Rattle.zl_code.proofs.Common.{◌≡◌, ℕ, not, ◌==◌, [], refl, IsTrue, Some, list_all, none-some, Map, get, put, without, where_key, World, Process, Object, process_settled, Settles, without_others, queue_of, in_order, has_default_rights, HandlesAreSound}
 use Rattle.zl_rights.specs.declared.entry.Entry.{Entry}
-use Rattle.zl_rights.specs.Map.{Map, get, put, without, where_key}
-use Rattle.zl_rights.specs.World.{World, Process, Object}
-use Rattle.zl_rights.specs.Settle.{process_settled, Settles, without_others, queue_of}
-use Rattle.zl_code.specs.Handles.{in_order, has_default_rights, HandlesAreSound}
 use Rattle.zl_code.proofs.MapKept.{in_order-put, in_order-where_key, in_order-each, each_put, each_where_key, changed, changed_each, each_changed}
 use Rattle.zl_code.proofs.Changes.{ObjectChange, signals_change, packets_change, Change, table_kept}
 

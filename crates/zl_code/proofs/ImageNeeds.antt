@@ -1,13 +1,10 @@
 -- The byte of the needs.
-use Rattle.std.proofs.Common.{◌≡◌, ℕ, ◌<◌, ◌/◌, ◌%◌, Bool, true, false, ◌==◌, ◌||◌, not, if◌then◌else◌, List, [], ◌∷◌, refl, ap, ◌∙◌}
-use Rattle.std.specs.Prelude.{nat_lt, map}
-use Rattle.std.proofs.lemmas.Bool.{and_parts, eqb-true, ltb-true}
+use Rattle.zl_code.proofs.Common.{◌≡◌, ℕ, ◌<◌, ◌/◌, ◌%◌, Bool, true, false, ◌==◌, ◌||◌, not, if◌then◌else◌, List, [], ◌∷◌, refl, ap, ◌∙◌, nat_lt, map, and_parts, eqb-true, ltb-true, condition_number, is_among, needs_named, needs_value, needs_byte, are_needs}
 use Rattle.zl_rights.specs.declared.policy.Condition.{Condition}
 use Rattle.zl_rights.specs.declared.policy.Condition.TheVariants as condition
-use Rattle.zl_rights.specs.Numbers.{condition_number}
 use Rattle.zl_code.specs.declared.image.Needs.{Needs}
-use Rattle.zl_code.specs.Image.{is_among, need_if, needs_named, needs_value}
-use Rattle.zl_code.specs.Spells.{needs_byte, is_needs_byte, are_needs, ascend_from}
+use Rattle.zl_code.specs.Image.{need_if}
+use Rattle.zl_code.specs.Spells.{is_needs_byte, ascend_from}
 use Rattle.zl_code.proofs.Below.{all_below, below}
 
 -- the needs whose bits are in the byte

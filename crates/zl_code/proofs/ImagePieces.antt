@@ -1,13 +1,9 @@
 -- A list of bytes in pieces of one size.
-use Rattle.std.proofs.Common.{◌≡◌, ℕ, zero, suc, ◌+◌, ◌-◌, ◌*◌, ◌/◌, ◌≤◌, Bool, true, List, [], ◌∷◌, ◌++◌, length, take, drop, map, Option, None, refl, ap, ◌∙◌, arith, append_assoc}
-use Rattle.std.specs.List.{list_all, flat_map}
+use Rattle.zl_code.proofs.Common.{◌≡◌, ℕ, zero, suc, ◌+◌, ◌-◌, ◌*◌, ◌/◌, ◌≤◌, Bool, true, List, [], ◌∷◌, ◌++◌, length, take, drop, map, Option, None, refl, ap, ◌∙◌, arith, append_assoc, list_all, flat_map, and_parts, length-drop, take_at, drop_at, first_some, pieces}
 use Rattle.std.specs.Simd.{first_chunks}
-use Rattle.std.proofs.lemmas.Bool.{and_parts}
-use Rattle.std.proofs.lemmas.List.{length-append, length-drop, take-append-drop, drop-drop, take_at, drop_at, take_rest}
+use Rattle.std.proofs.lemmas.List.{length-append, take-append-drop, drop-drop, take_rest}
 use Rattle.std.proofs.lemmas.List.Concat.{flat_map-cons}
-use Rattle.zl_code.specs.First.{first_some}
 use Rattle.zl_code.specs.declared.image.DecodeFault.{DecodeFault}
-use Rattle.zl_code.specs.Spells.{pieces}
 
 -- ---- chunks
 

@@ -1,16 +1,11 @@
 -- The ranges of an image, one by one, and of an image to which one thing is added.
-use Rattle.std.proofs.Common.{◌≡◌, ℕ, ◌<◌, ◌≤◌, Bool, true, List, [], ◌∷◌, ◌++◌, length, refl, arith}
-use Rattle.std.specs.Prelude.{nat_le, nat_lt}
-use Rattle.std.specs.List.{list_all}
-use Rattle.std.proofs.lemmas.Bool.{and_parts, and_from, leb-true, ltb-true, le-leb, lt-ltb}
+use Rattle.zl_code.proofs.Common.{◌≡◌, ℕ, ◌<◌, ◌≤◌, Bool, true, List, [], ◌∷◌, ◌++◌, length, refl, arith, nat_le, nat_lt, list_all, and_parts, and_from, leb-true, ltb-true, le-leb, lt-ltb, Image, are_needs, is_in_range, is_start_in_range, is_slot_in_range, is_instr_in_range}
 use Rattle.std.proofs.lemmas.List.{length-append}
 use Rattle.zl_rights.specs.declared.policy.Condition.{Condition}
 use Rattle.zl_code.specs.declared.image.Start.{Start}
 use Rattle.zl_code.specs.declared.image.SlotArray.{SlotArray}
 use Rattle.zl_code.specs.declared.instr.Instr.{Instr}
 use Rattle.zl_code.specs.declared.instr.Instr.TheVariants as instr
-use Rattle.zl_code.specs.Image.{Image}
-use Rattle.zl_code.specs.Spells.{are_needs, is_in_range, is_start_in_range, is_slot_in_range, is_instr_in_range}
 use Rattle.zl_code.proofs.ImageCode.{list_all_push}
 
 -- an image in range, fact by fact

@@ -1,10 +1,8 @@
 -- The rows of the table, by opcode and by name.
-use Rattle.std.proofs.Common.{◌≡◌, ◌≢◌, ℕ, ◌+◌, ◌<◌, ◌≤◌, Bool, true, false, ◌==◌, ◌&&◌, not, nat_lt, List, [], ◌∷◌, Option, Some, None, refl, ap, sym, subst, ◌∙◌, inl, inr, arith}
-use Rattle.std.specs.List.{find, list_all}
-use Rattle.std.specs.Option.{option_map}
+use Rattle.zl_code.proofs.Common.{◌≡◌, ◌≢◌, ℕ, ◌+◌, ◌<◌, ◌≤◌, Bool, true, false, ◌==◌, ◌&&◌, not, nat_lt, List, [], ◌∷◌, Option, Some, None, refl, ap, sym, subst, ◌∙◌, inl, inr, arith, find, list_all, option_map, cases_Bool, and_parts, and_from, eqb-true, ltb-true, Row, row_of, row_named}
 use Rattle.std.specs.Cmp.Lexicographic.{pointwise}
-use Rattle.std.proofs.lemmas.Bool.{cases_Bool, and_parts, and_from, eq-eqb, eqb-true, ltb-true}
-use Rattle.zl_code.specs.Instructions.{Row, rows, row_among, row_of, row_named}
+use Rattle.std.proofs.lemmas.Bool.{eq-eqb}
+use Rattle.zl_code.specs.Instructions.{rows, row_among}
 
 -- the fact holds of each row
 abbrev Each : (Row → Type 0) → List Row → Type 0

@@ -1,17 +1,10 @@
 -- What each value of a map has, and the order of its keys, after a change.
-use Rattle.std.proofs.Common.{◌≡◌, ℕ, inl, inr, Bool, true, false, ◌==◌, [], ◌∷◌, refl, ap, sym, subst, ◌∙◌, Option, Some, None, T, arith, eq-eqb}
-use Rattle.std.specs.Prelude.{IsTrue}
-use Rattle.std.specs.Option.{option_map}
-use Rattle.std.specs.Ordering.{nat_cmp}
+use Rattle.zl_code.proofs.Common.{◌≡◌, ℕ, inl, inr, Bool, true, false, ◌==◌, [], ◌∷◌, refl, ap, sym, subst, ◌∙◌, Option, Some, None, arith, eq-eqb, IsTrue, option_map, nat_cmp, below_all, cases_Bool, eqb-true, nat_tests, none-some, same_Some, Map, get, put, where_key, each, update, in_order}
+use Rattle.std.proofs.Common.{T}
 use Rattle.std.specs.Cmp.{nat_cmp_total}
-use Rattle.std.specs.FinMap.Entries.{below_all, is_sorted-put, is_sorted-where_key}
-use Rattle.std.proofs.lemmas.Bool.{cases_Bool, eqb-true}
-use Rattle.std.proofs.lemmas.Bool.Decides.{nat_tests}
-use Rattle.std.proofs.lemmas.Option.{none-some, same_Some}
-use Rattle.zl_rights.specs.Map.{Map, get, put, where_key, each, update}
+use Rattle.std.specs.FinMap.Entries.{is_sorted-put, is_sorted-where_key}
 use Rattle.zl_rights.proofs.MapLaws.{get-put, get-update, get-each, get-where_key-in, get-where_key-out}
 use Rattle.zl_rights.proofs.Canonical.{put-std}
-use Rattle.zl_code.specs.Handles.{in_order}
 
 IsTrue-from_T : (b : Bool) → T b → IsTrue b
 IsTrue-from_T true h = refl

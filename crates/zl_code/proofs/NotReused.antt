@@ -1,15 +1,10 @@
 -- No koid is given again, no object changes its kind, and no process vanishes or changes its program.
-use Rattle.std.proofs.Common.{◌≡◌, ◌<◌, ◌≤◌, inl, inr, arith, ℕ, refl, ap, sym, ◌∙◌, Option, Some, None}
-use Rattle.std.specs.Prelude.{is_some}
-use Rattle.std.proofs.lemmas.Bool.{true≢false, cases_Bool}
-use Rattle.std.proofs.lemmas.Option.{none-some, same_Some}
+use Rattle.zl_code.proofs.Common.{◌≡◌, ◌<◌, ◌≤◌, inl, inr, arith, ℕ, refl, ap, sym, ◌∙◌, Option, Some, None, is_some, cases_Bool, none-some, same_Some, get, World, Process, Object, kind_of, Settles, without_others, process_settled, HasGivenKoids, IsSound}
+use Rattle.std.proofs.lemmas.Bool.{true≢false}
 use Rattle.zl_rights.specs.declared.kind.Kind.{Kind}
-use Rattle.zl_rights.specs.Map.{get}
-use Rattle.zl_rights.specs.World.{World, Process, Object, kind_of}
-use Rattle.zl_rights.specs.Settle.{Settles, without_others, process_settled}
 use Rattle.zl_rights.proofs.MapLaws.{get-each, get-where_key-in, get-where_key-out}
-use Rattle.zl_code.specs.Koids.{HasGivenKoids, KeepsKoids}
-use Rattle.zl_code.specs.Sound.{IsSound, KeepsProcesses}
+use Rattle.zl_code.specs.Koids.{KeepsKoids}
+use Rattle.zl_code.specs.Sound.{KeepsProcesses}
 use Rattle.zl_code.proofs.MapKept.{same, changed, new}
 use Rattle.zl_code.proofs.Changes.{ProcessChange, handle_enters, handle_leaves, computes, ends, wakes, ObjectChange, signals_change, packets_change, Change, Changes, kept}
 

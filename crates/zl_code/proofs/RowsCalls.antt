@@ -1,8 +1,6 @@
 -- Each cause of each call, by computation in small worlds.
-use Rattle.std.proofs.Common.{◌≡◌, ℕ, ◌+◌, ◌-◌, ◌^◌, ◌==◌, IsTrue, [], ◌∷◌, refl, Option, Some, None}
-use Rattle.std.specs.Prelude.{true, false, pos, negsuc}
-use Rattle.std.proofs.lemmas.Bool.{and_parts, eqb-true}
-use Rattle.std.specs.Option.{option_map}
+use Rattle.zl_code.proofs.Common.{◌≡◌, ℕ, ◌+◌, ◌-◌, ◌^◌, ◌==◌, IsTrue, [], ◌∷◌, refl, Option, Some, None, true, false, pos, and_parts, eqb-true, option_map, DUPLICATE, SIGNAL, SIGNALED, condition_number, has_key, World, Ended, kind_of, Request, close, dup, event_create, signal, process_exit, table_of, body_of, refusal, may_choose, effect, Choice, Refused, WantsMemory, Values, ok_outcome}
+use Rattle.std.specs.Prelude.{negsuc}
 use Rattle.zl_rights.specs.declared.kind.Kind.{Kind}
 use Rattle.zl_rights.specs.declared.kind.Kind.TheVariants as kind
 use Rattle.zl_rights.specs.declared.status.Status.TheVariants as status
@@ -10,9 +8,7 @@ use Rattle.zl_rights.specs.declared.policy.Action.{Action}
 use Rattle.zl_rights.specs.declared.policy.Action.TheVariants as action
 use Rattle.zl_rights.specs.declared.policy.Condition.{Condition}
 use Rattle.zl_rights.specs.declared.policy.Condition.TheVariants as condition
-use Rattle.zl_rights.specs.Numbers.{DUPLICATE, SIGNAL, SAME_RIGHTS, READABLE, SIGNALED, TERMINATED, condition_number}
-use Rattle.zl_rights.specs.Map.{has_key}
-use Rattle.zl_rights.specs.World.{World, Ended, kind_of}
+use Rattle.zl_rights.specs.Numbers.{SAME_RIGHTS, READABLE, TERMINATED}
 use Rattle.zl_rights.specs.Signals.{active}
 use Rattle.zl_code.specs.declared.instr.Instr.TheVariants as instr
 use Rattle.zl_code.specs.declared.instr.CallInstr.{CallInstr}
@@ -21,11 +17,6 @@ use Rattle.zl_code.specs.declared.history.CallName.TheVariants as name
 use Rattle.zl_code.specs.declared.history.Outcome.{Outcome}
 use Rattle.zl_code.specs.declared.history.Outcome.TheVariants as outcome
 use Rattle.zl_code.specs.declared.history.TraceItem.TheVariants as item
-use Rattle.zl_code.specs.Request.{Request, close, dup, event_create, signal, process_exit}
-use Rattle.zl_code.specs.Tests.{table_of, body_of}
-use Rattle.zl_code.specs.Refusals.{refusal}
-use Rattle.zl_code.specs.Effects.{may_choose, effect}
-use Rattle.zl_code.specs.Calls.{Choice, Refused, WantsMemory, Values, ok_outcome}
 use Rattle.zl_code.proofs.Running.{Acted, step_by, computing}
 use Rattle.zl_code.proofs.RowsWords.{world_of, process_of, event_with, job_with, FIRST_RIGHTS, times, program_of, told, after, state_of, last_of}
 

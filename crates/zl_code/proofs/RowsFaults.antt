@@ -1,10 +1,7 @@
 -- The first fault of some bytes, by computation.
-use Rattle.std.proofs.Common.{◌≡◌, ℕ, List, [], ◌∷◌, ◌++◌, refl, take, replicate, Some, None}
-use Rattle.std.specs.Prelude.{slice_set}
+use Rattle.zl_code.proofs.Common.{◌≡◌, ℕ, List, [], ◌∷◌, ◌++◌, refl, take, replicate, Some, None, slice_set, row_of, first_fault, header_fault, start_fault, slot_fault, instr_fault, pieces}
 use Rattle.zl_code.specs.declared.image.DecodeFault.{DecodeFault}
 use Rattle.zl_code.specs.declared.image.DecodeFault.TheVariants as fault
-use Rattle.zl_code.specs.Instructions.{row_of}
-use Rattle.zl_code.specs.Spells.{first_fault, header_fault, start_fault, slot_fault, instr_fault, pieces}
 
 -- an image without instructions: version 1, no mark, no memory, budget 1
 abbrev empty : List ℕ

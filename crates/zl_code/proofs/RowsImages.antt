@@ -1,18 +1,13 @@
 -- The table of instructions, and images with declarations and messages, by computation.
-use Rattle.std.proofs.Common.{◌≡◌, ℕ, zero, suc, ◌+◌, true, List, [], ◌∷◌, ◌++◌, map, length, refl, replicate, Some, None}
-use Rattle.std.specs.Prelude.{nat_le, slice_set, false}
-use Rattle.std.specs.List.{list_all}
+use Rattle.zl_code.proofs.Common.{◌≡◌, ℕ, zero, suc, ◌+◌, true, List, [], ◌∷◌, ◌++◌, map, length, refl, replicate, Some, None, nat_le, slice_set, false, list_all, rights_of, Image, row_of, Spells, local_parts, call_parts, first_fault, header_fault, start_fault, slot_fault, instr_fault, pieces}
 use Rattle.zl_rights.specs.declared.kind.Kind.TheVariants as kind
 use Rattle.zl_rights.specs.declared.policy.Condition.TheVariants as condition
-use Rattle.zl_rights.specs.Numbers.{rights_of}
 use Rattle.zl_code.specs.declared.image.DecodeFault.{DecodeFault}
 use Rattle.zl_code.specs.declared.image.DecodeFault.TheVariants as fault
 use Rattle.zl_code.specs.declared.instr.Instr.TheVariants as instr
 use Rattle.zl_code.specs.declared.instr.LocalInstr.TheVariants as local
 use Rattle.zl_code.specs.declared.instr.CallInstr.TheVariants as call
-use Rattle.zl_code.specs.Image.{Image}
-use Rattle.zl_code.specs.Instructions.{rows, row_of}
-use Rattle.zl_code.specs.Spells.{Spells, local_parts, call_parts, first_fault, header_fault, start_fault, slot_fault, instr_fault, pieces}
+use Rattle.zl_code.specs.Instructions.{rows}
 
 -- ---- the table
 

@@ -1,16 +1,9 @@
 -- Worlds whose handles name objects of their kinds, and worlds with a handle that doesn't, by computation.
-use Rattle.std.proofs.Common.{◌≡◌, arith, ◌==◌, [], ◌∷◌, refl, ap, sym, subst, ◌∙◌, None, inl, inr}
-use Rattle.std.specs.List.{All}
-use Rattle.std.proofs.lemmas.Bool.{cases_Bool}
-use Rattle.std.proofs.lemmas.Option.{none-some, same_Some}
-use Rattle.std.proofs.lemmas.List.Elements.{All-nil, All-cons}
+use Rattle.zl_code.proofs.Common.{◌≡◌, arith, ◌==◌, [], ◌∷◌, refl, ap, sym, subst, ◌∙◌, None, inl, inr, All, cases_Bool, none-some, same_Some, All-nil, rights_of, Map, get, World, Process, Object, ChannelEnd, EventBody, kind_of, queue_of, names_its_object, HandlesAreNamed}
+use Rattle.std.proofs.lemmas.List.Elements.{All-cons}
 use Rattle.zl_rights.specs.declared.kind.Kind.TheVariants as kind
 use Rattle.zl_rights.specs.declared.entry.Entry.{Entry}
-use Rattle.zl_rights.specs.Numbers.{rights_of}
-use Rattle.zl_rights.specs.Map.{Map, get}
-use Rattle.zl_rights.specs.World.{World, Process, Object, Message, ChannelEnd, EventBody, kind_of}
-use Rattle.zl_rights.specs.Settle.{queue_of}
-use Rattle.zl_code.specs.Handles.{names_its_object, HandlesAreNamed}
+use Rattle.zl_rights.specs.World.{Message}
 use Rattle.zl_code.proofs.MapKept.{Each}
 use Rattle.zl_code.proofs.RowsWords.{world_of, process_of, event_with}
 

@@ -1,8 +1,6 @@
 -- Boot, its faults, and the run of a program that ends stuck, by computation.
-use Rattle.std.proofs.Common.{◌≡◌, ℕ, arith, Bool, true, ◌&&◌, IsTrue, List, [], ◌∷◌, refl, replicate, map, take, Option, Some, None}
-use Rattle.std.specs.Prelude.{not, is_some, negsuc}
-use Rattle.std.proofs.lemmas.Bool.{and_parts}
-use Rattle.zl_rights.specs.World.{World, Ready, Ended}
+use Rattle.zl_code.proofs.Common.{◌≡◌, ℕ, arith, Bool, true, ◌&&◌, IsTrue, List, [], ◌∷◌, refl, replicate, map, take, Option, Some, None, not, is_some, and_parts, World, Ready, Ended, Library, Choice, Refused, IsLegalHistory, IsBoot, Boots, FirstFault, at_statement, at_limit, boot_fault, boot_effect, may_boot, origin}
+use Rattle.std.specs.Prelude.{negsuc}
 use Rattle.zl_rights.proofs.Settling.{settled_in, Settles-by}
 use Rattle.zl_code.specs.declared.boot.BootCause.TheVariants as cause
 use Rattle.zl_code.specs.declared.boot.Statement.{Statement}
@@ -11,10 +9,7 @@ use Rattle.zl_code.specs.declared.instr.Instr.TheVariants as instr
 use Rattle.zl_code.specs.declared.instr.LocalInstr.TheVariants as local
 use Rattle.zl_code.specs.declared.history.TraceItem.{TraceItem}
 use Rattle.zl_code.specs.declared.history.TraceItem.TheVariants as item
-use Rattle.zl_code.specs.Image.{Library}
-use Rattle.zl_code.specs.Calls.{Choice, Refused}
-use Rattle.zl_code.specs.Steps.{IsLegalHistory}
-use Rattle.zl_code.specs.Boot.{IsBoot, Boots, FirstFault, at_statement, at_limit, boot_fault, boot_effect, may_boot, origin, started_process}
+use Rattle.zl_code.specs.Boot.{started_process}
 use Rattle.zl_code.proofs.Running.{run_by, IsLegalHistory-by, computing, world_after}
 use Rattle.zl_code.proofs.RowsWords.{program_of, state_of, registers_of, event_with, FIRST_RIGHTS}
 

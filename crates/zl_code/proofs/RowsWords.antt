@@ -1,15 +1,10 @@
 -- Small worlds for worked examples, and what is told of them.
-use Rattle.std.proofs.Common.{ℕ, zero, suc, List, [], ◌∷◌, ◌++◌, take, replicate, Option, Some, None}
-use Rattle.std.specs.Prelude.{true, false}
+use Rattle.zl_code.proofs.Common.{ℕ, zero, suc, List, [], ◌∷◌, ◌++◌, take, replicate, Option, Some, None, true, false, rights_of, Map, get, World, Process, State, Ready, EventBody, JobBody, ProcessBody, Library}
 use Rattle.zl_rights.specs.declared.kind.Kind.TheVariants as kind
 use Rattle.zl_rights.specs.declared.policy.Action.{Action}
 use Rattle.zl_rights.specs.declared.entry.Entry.{Entry}
-use Rattle.zl_rights.specs.Numbers.{rights_of}
-use Rattle.zl_rights.specs.Map.{Map, get}
-use Rattle.zl_rights.specs.World.{World, Process, State, Ready, EventBody, JobBody, ProcessBody}
 use Rattle.zl_code.specs.declared.instr.Instr.{Instr}
 use Rattle.zl_code.specs.declared.history.TraceItem.{TraceItem}
-use Rattle.zl_code.specs.Image.{Library}
 use Rattle.zl_code.proofs.Running.{Acted}
 
 -- ---- what is told

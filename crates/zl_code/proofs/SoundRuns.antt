@@ -1,22 +1,11 @@
 -- What steps keep, along runs and histories from a boot world.
-use Rattle.std.proofs.Common.{◌≡◌, ◌<◌, arith, inl, inr, ℕ, ◌==◌, List, [], ◌∷◌, refl, subst, IsTrue, Option, Some, None}
-use Rattle.std.specs.Prelude.{is_some}
-use Rattle.std.specs.List.{list_all, flat_map}
-use Rattle.std.proofs.lemmas.Bool.{cases_Bool, eqb-true, false≢true}
-use Rattle.std.proofs.lemmas.Option.{none-some, same_Some}
-use Rattle.zl_rights.specs.Numbers.{within}
-use Rattle.zl_rights.specs.Map.{get}
-use Rattle.zl_rights.specs.World.{World, Object}
-use Rattle.zl_rights.specs.Signals.{is_process}
-use Rattle.zl_rights.specs.Settle.{queue_of}
+use Rattle.zl_code.proofs.Common.{◌≡◌, ◌<◌, arith, inl, inr, ℕ, ◌==◌, List, [], ◌∷◌, refl, subst, IsTrue, Option, Some, None, is_some, list_all, flat_map, cases_Bool, eqb-true, false≢true, none-some, same_Some, within, get, World, Object, is_process, queue_of, Library, Step, pid_of, single, IsLegalHistory, Boots, IsBoot, boot_effect, origin, HasGivenKoids, has_default_rights, HandlesAreSound, HandlesAreNamed, raisable, IsSound}
 use Rattle.zl_code.specs.declared.boot.Statement.{Statement}
 use Rattle.zl_code.specs.declared.history.TraceItem.{TraceItem}
-use Rattle.zl_code.specs.Image.{Library}
-use Rattle.zl_code.specs.Steps.{Step, Runs, pid_of, single, IsLegalHistory}
-use Rattle.zl_code.specs.Boot.{Boots, IsBoot, boot_effect, origin}
-use Rattle.zl_code.specs.Koids.{HasGivenKoids, KeepsKoids}
-use Rattle.zl_code.specs.Handles.{has_default_rights, HandlesAreSound, HandlesAreNamed, Throughout}
-use Rattle.zl_code.specs.Sound.{raisable, IsSound, KeepsProcesses}
+use Rattle.zl_code.specs.Steps.{Runs}
+use Rattle.zl_code.specs.Koids.{KeepsKoids}
+use Rattle.zl_code.specs.Handles.{Throughout}
+use Rattle.zl_code.specs.Sound.{KeepsProcesses}
 use Rattle.zl_code.proofs.Changes.{Changes, kept}
 use Rattle.zl_code.proofs.StepChanges.{step_changes, boot_changes}
 use Rattle.zl_code.proofs.HandlesKept.{sound_change, sound_settled}

@@ -1,22 +1,17 @@
 -- Which changes a step is made of: each call, each statement of a boot, and waking say it once.
-use Rattle.std.proofs.Common.{◌≡◌, ◌<◌, ◌≤◌, inl, inr, arith, ℕ, suc, ◌+◌, Bool, true, false, not, List, [], ◌∷◌, length, refl, ap, sym, subst, ◌∙◌, IsTrue, Option, Some, None, eq-eqb}
-use Rattle.std.specs.Prelude.{if◌then◌else◌, is_some}
-use Rattle.std.specs.List.{All, fold}
-use Rattle.std.specs.Bool.{then_some}
-use Rattle.std.proofs.lemmas.Bool.{and_parts, cases_Bool, not-false, or_parts, true≢false, leb-true, ne_eqb}
-use Rattle.std.proofs.lemmas.Bool.Decides.{nat_tests}
-use Rattle.std.proofs.lemmas.Option.{none-some, same_Some}
-use Rattle.std.proofs.lemmas.List.Elements.{All-nil, All-cons, All-head, All-tail}
+use Rattle.zl_code.proofs.Common.{◌≡◌, ◌<◌, ◌≤◌, inl, inr, arith, ℕ, suc, ◌+◌, Bool, true, false, not, List, [], ◌∷◌, length, refl, ap, sym, subst, ◌∙◌, IsTrue, Option, Some, None, eq-eqb, if◌then◌else◌, is_some, All, then_some, and_parts, cases_Bool, leb-true, ne_eqb, nat_tests, none-some, same_Some, All-nil, bits, within, narrowed, rights_of, default_rights_of, SIGNAL, Map, get, put, has_key, without, World, Process, State, Ready, Blocked, Object, Body, EventBody, PortBody, ProcessBody, kind_of, runs, is_empty, wakes, fired, first_some, Library, row_of, Site, Request, close, dup, event_create, signal, process_exit, entry_at, object_at, body_in, by_look_up, operand, examined, has_room, has_koids, with_rights, copy_of, answer_if, refusal, listed, handle_operands, on_process, insert_all, remove_all, with_object, process_with, process_without, effect, with_effect, gives_ok, gives_refused, taken_handles, new_handles, may_get, may_choose, cpu_answered, replied, taken, ok_outcome, Choice, Refused, WantsMemory, Values, Next, Moves, AtCall, IsStuck, next_for, Acts, Step, boot_fault, boot_effect, is_job_body, has_default_rights, names_its_object, HandlesAreSound, HandlesAreNamed, raisable, IsSound}
+use Rattle.std.specs.List.{fold}
+use Rattle.std.proofs.lemmas.Bool.{not-false, or_parts, true≢false}
+use Rattle.std.proofs.lemmas.List.Elements.{All-cons, All-head, All-tail}
 use Rattle.zl_rights.specs.declared.kind.Kind.TheVariants as kind
 use Rattle.zl_rights.specs.declared.rights.Rights.{Rights}
 use Rattle.zl_rights.specs.declared.entry.Entry.{Entry}
 use Rattle.zl_rights.specs.declared.status.Status.{Status}
 use Rattle.zl_rights.specs.declared.status.Status.TheVariants as status
-use Rattle.zl_rights.specs.Numbers.{bits, within, narrowed, meets, rights_of, default_rights_of, SIGNAL}
-use Rattle.zl_rights.specs.Map.{Map, get, put, has_key, without}
-use Rattle.zl_rights.specs.World.{World, Process, State, Ready, Blocked, SignalOf, PacketAt, Object, Body, EventBody, PortBody, ProcessBody, Packet, kind_of}
-use Rattle.zl_rights.specs.Signals.{active, runs, is_empty}
-use Rattle.zl_rights.specs.Wakes.{wakes, fired, packet_values, woken, made_ready, with_body, woken_by_first, woken_by, woken_at_port, woken_from, woken_if_there}
+use Rattle.zl_rights.specs.Numbers.{meets}
+use Rattle.zl_rights.specs.World.{SignalOf, PacketAt, Packet}
+use Rattle.zl_rights.specs.Signals.{active}
+use Rattle.zl_rights.specs.Wakes.{packet_values, woken, made_ready, with_body, woken_by_first, woken_by, woken_at_port, woken_from, woken_if_there}
 use Rattle.zl_rights.specs.LookUp.{granted}
 use Rattle.zl_rights.proofs.MapLaws.{get-put, get-update}
 use Rattle.zl_rights.proofs.Narrowed.{narrowed_within}
@@ -26,18 +21,11 @@ use Rattle.zl_code.specs.declared.boot.BootCause.TheVariants as cause
 use Rattle.zl_code.specs.declared.history.Outcome.{Outcome}
 use Rattle.zl_code.specs.declared.history.Outcome.TheVariants as outcome
 use Rattle.zl_code.specs.declared.history.TraceItem.{TraceItem}
-use Rattle.zl_code.specs.First.{first_some}
-use Rattle.zl_code.specs.Image.{Library}
-use Rattle.zl_code.specs.Instructions.{row_of}
-use Rattle.zl_code.specs.Request.{Site, Request, close, dup, event_create, signal, process_exit}
-use Rattle.zl_code.specs.Tests.{handles_in, entry_at, object_at, body_in, by_look_up, operand, examined, has_room, has_koids, with_rights, copy_of, answer_if}
-use Rattle.zl_code.specs.Refusals.{refusal, listed, handle_operands, settable_of}
-use Rattle.zl_code.specs.Effects.{on_process, insert_all, remove_all, with_object, process_with, process_without, effect, with_effect, gives_ok, gives_refused, taken_handles, new_entry, new_handles, may_get, may_get_all, may_choose, object_changed}
-use Rattle.zl_code.specs.Calls.{cpu_answered, replied, taken, after_refusal, after_ok, ok_outcome, Choice, Refused, WantsMemory, Values, CallBy}
-use Rattle.zl_code.specs.Steps.{Next, Moves, AtCall, IsStuck, next_for, Acts, Step}
-use Rattle.zl_code.specs.Boot.{boot_fault, boot_effect, is_job, is_job_body}
-use Rattle.zl_code.specs.Handles.{has_default_rights, names_its_object, HandlesAreSound, HandlesAreNamed}
-use Rattle.zl_code.specs.Sound.{raisable, IsSound}
+use Rattle.zl_code.specs.Tests.{handles_in}
+use Rattle.zl_code.specs.Refusals.{settable_of}
+use Rattle.zl_code.specs.Effects.{new_entry, may_get_all, object_changed}
+use Rattle.zl_code.specs.Calls.{after_refusal, after_ok, CallBy}
+use Rattle.zl_code.specs.Boot.{is_job}
 use Rattle.zl_code.proofs.MapKept.{changed}
 use Rattle.zl_code.proofs.Changes.{MayEnter, handle_enters, computes, signals_change, Changes, stays, changes, settles, join, one, process_changes, handle_goes, process_ends, process_wakes, process_is_made, object_changes, object_is_made, packet_goes, waits_fire}
 use Rattle.zl_code.proofs.Stepping.{first_none, answer_none, listed_none, length_filter}

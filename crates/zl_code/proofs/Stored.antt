@@ -1,8 +1,6 @@
 -- The stored run: its bytes, its boot world and its history, by computation.
-use Rattle.std.proofs.Common.{◌≡◌, ℕ, List, [], ◌∷◌, refl, Some}
-use Rattle.std.specs.Prelude.{true, false, pos}
+use Rattle.zl_code.proofs.Common.{◌≡◌, ℕ, List, [], ◌∷◌, refl, Some, true, false, pos, World, Ended, Image, Library, Spells, local_parts, call_parts, Choice, Refused, Values, IsLegalHistory, IsBoot, boot_fault, boot_effect, origin}
 use Rattle.zl_rights.specs.declared.status.Status.TheVariants as status
-use Rattle.zl_rights.specs.World.{World, Ended}
 use Rattle.zl_rights.proofs.Settling.{settled_in, Settles-by}
 use Rattle.zl_code.specs.declared.boot.Statement.{Statement}
 use Rattle.zl_code.specs.declared.boot.Statement.TheVariants as statement
@@ -13,11 +11,6 @@ use Rattle.zl_code.specs.declared.history.CallName.TheVariants as name
 use Rattle.zl_code.specs.declared.history.Outcome.TheVariants as outcome
 use Rattle.zl_code.specs.declared.history.TraceItem.{TraceItem}
 use Rattle.zl_code.specs.declared.history.TraceItem.TheVariants as item
-use Rattle.zl_code.specs.Image.{Image, Library}
-use Rattle.zl_code.specs.Spells.{Spells, local_parts, call_parts}
-use Rattle.zl_code.specs.Calls.{Choice, Refused, Values}
-use Rattle.zl_code.specs.Steps.{IsLegalHistory}
-use Rattle.zl_code.specs.Boot.{IsBoot, boot_fault, boot_effect, origin}
 use Rattle.zl_code.proofs.Running.{run_by, IsLegalHistory-by, computing, world_after}
 use Rattle.zl_code.proofs.RowsWords.{state_of}
 

@@ -1,14 +1,13 @@
 -- The table of calls: what a call does that is answered OK, and what its answer gives.
-use Rattle.std.specs.Prelude.{ℕ, ◌+◌, ◌%◌, ◌^◌, ℤ, pos, ◌-ℤ◌, Bool, true, false, ◌&&◌, not, ◌==◌, nat_lt, List, [], ◌∷◌, ◌++◌, map, Option, Some, None, if◌then◌else◌}
+use Rattle.zl_rights.specs.Common.{ℕ, ◌+◌, ◌%◌, ◌^◌, ℤ, pos, Bool, true, false, ◌&&◌, not, ◌==◌, nat_lt, List, [], ◌∷◌, ◌++◌, map, Option, Some, None, if◌then◌else◌, rights_of, default_rights_of, get, put, without, update, has_key, World, Process, Blocked, Ended, Object, Body, EventBody, lives}
+use Rattle.std.specs.Prelude.{◌-ℤ◌}
 use Rattle.std.specs.List.{filter}
 use Rattle.zl_rights.specs.declared.kind.Kind.{Kind}
 use Rattle.zl_rights.specs.declared.kind.Kind.TheVariants as kind
 use Rattle.zl_rights.specs.declared.status.Status.{Status}
 use Rattle.zl_rights.specs.declared.entry.Entry.{Entry}
-use Rattle.zl_rights.specs.Numbers.{rights_of, default_rights_of, changed}
-use Rattle.zl_rights.specs.Map.{get, put, without, update, has_key}
-use Rattle.zl_rights.specs.World.{World, Process, Awaited, Blocked, Ended, Object, Body, EventBody}
-use Rattle.zl_rights.specs.Signals.{lives}
+use Rattle.zl_rights.specs.Numbers.{changed}
+use Rattle.zl_rights.specs.World.{Awaited}
 use Rattle.zl_code.specs.Image.{Library}
 use Rattle.zl_code.specs.Request.{Request, close, dup, event_create, signal, process_exit}
 use Rattle.zl_code.specs.Local.{overwritten}

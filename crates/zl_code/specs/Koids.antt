@@ -1,7 +1,5 @@
 -- Koids are given once: what a step may do to them.
-use Rattle.std.specs.Prelude.{ℕ, ◌≡◌, ◌<◌, ◌≤◌, false, Some, IsTrue}
-use Rattle.zl_rights.specs.Map.{get, has_key}
-use Rattle.zl_rights.specs.World.{World, Object, kind_of}
+use Rattle.zl_rights.specs.Common.{ℕ, ◌≡◌, ◌<◌, ◌≤◌, false, Some, IsTrue, get, has_key, World, Object, kind_of}
 
 -- each object has a koid that was given
 pub record HasGivenKoids (w : World) : Type 0 where

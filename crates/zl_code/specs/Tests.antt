@@ -1,7 +1,6 @@
 -- The words in which the table of calls is written.
-use Rattle.std.specs.Prelude.{ℕ, ◌+◌, ◌^◌, Bool, ◌&&◌, ◌==◌, nat_le, List, [], ◌∷◌, length, Option, Some, None, Result, Ok, Err, if◌then◌else◌, unwrap_or}
-use Rattle.std.specs.List.{list_any, sum_by, count_by}
-use Rattle.std.specs.Bool.{then_some}
+use Rattle.zl_rights.specs.Common.{ℕ, ◌+◌, ◌^◌, Bool, ◌&&◌, ◌==◌, nat_le, List, [], ◌∷◌, length, Option, Some, None, Result, Ok, Err, if◌then◌else◌, list_any, sum_by, count_by, then_some, narrowed, condition_number, Map, get, World, Process, Object, Body, ChannelEnd, JobBody, ProcessBody}
+use Rattle.std.specs.Prelude.{unwrap_or}
 use Rattle.zl_code.specs.First.{first_some}
 use Rattle.zl_rights.specs.declared.rights.Rights.{Rights}
 use Rattle.zl_rights.specs.declared.kind.Kind.{Kind}
@@ -12,10 +11,8 @@ use Rattle.zl_rights.specs.declared.policy.Condition.TheVariants as condition
 use Rattle.zl_rights.specs.declared.policy.Action.{Action}
 use Rattle.zl_rights.specs.declared.policy.Action.TheVariants as action
 use Rattle.zl_rights.specs.declared.entry.Entry.{Entry}
-use Rattle.zl_rights.specs.Numbers.{narrowed, condition_number, BY_POLICY}
-use Rattle.zl_rights.specs.Map.{Map, get}
+use Rattle.zl_rights.specs.Numbers.{BY_POLICY}
 use Rattle.zl_rights.specs.LookUp.{granted}
-use Rattle.zl_rights.specs.World.{World, Process, Object, Body, ChannelEnd, JobBody, ProcessBody}
 use Rattle.zl_code.specs.declared.history.Outcome.{Outcome}
 use Rattle.zl_code.specs.declared.history.Outcome.TheVariants as outcome
 

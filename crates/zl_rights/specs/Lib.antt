@@ -6,3 +6,4 @@ pub mod World
 pub mod Signals
 pub mod Settle
 pub mod Wakes
+pub mod Common

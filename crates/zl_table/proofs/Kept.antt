@@ -1,12 +1,11 @@
 -- That operations keep how a table is stored.
-use Rattle.std.proofs.Common.{◌≡◌, ◌≢◌, ℕ, ◌+◌, ◌-◌, ◌<◌, ◌≤◌, ◌⊎◌, inl, inr, List, [], ◌∷◌, ◌++◌, length, get_or, take, refl, sym, ◌∙◌, Option, Some, None, arith, length-append}
-use Rattle.std.specs.Prelude.{Result, Ok, Err, is_ok, true, OnOk, IsTrue, IfSome, slice_index}
+use Rattle.zl_rights.proofs.Common.{◌≡◌, ◌≢◌, ℕ, ◌+◌, ◌-◌, ◌<◌, ◌≤◌, ◌⊎◌, inl, inr, List, [], ◌∷◌, ◌++◌, length, get_or, take, refl, sym, ◌∙◌, Option, Some, None, arith, length-append, Result, Ok, Err, true, OnOk, IsTrue, IfSome, slice_index, length-take-le, slice_get-get_or, false≢true, cases_lt, Map, get, put, without, update, has_key}
+use Rattle.std.specs.Prelude.{is_ok}
 use Rattle.std.proofs.Math.Seq.{get_or-append_seam}
-use Rattle.std.proofs.lemmas.List.{length-take-le, get_or-take, get_or_append_left}
-use Rattle.std.proofs.lemmas.Option.{slice_get-get_or, slice_get_past}
-use Rattle.std.proofs.lemmas.Bool.{false≢true, cases_lt, eq-eqb}
+use Rattle.std.proofs.lemmas.List.{get_or-take, get_or_append_left}
+use Rattle.std.proofs.lemmas.Option.{slice_get_past}
+use Rattle.std.proofs.lemmas.Bool.{eq-eqb}
 use Rattle.zl_rights.specs.declared.entry.Entry.{Entry}
-use Rattle.zl_rights.specs.Map.{Map, get, put, without, update, has_key}
 use Rattle.zl_table.proofs.MapEdits.{none_not_some, none_unless_some, sorted_put, length-put_new, put_key, get-put_none, get-without, get-without_none, sorted_without, length-without, is_sorted-update, length-update, has_key-update, get-update_none}
 use Rattle.zl_table.specs.Places.{IsKept, next_value}
 use Rattle.zl_table.specs.Table.{CAPACITY}

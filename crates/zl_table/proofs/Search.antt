@@ -1,14 +1,10 @@
 -- What a search finds in a map, and what an edit at the place that was found does to it.
-use Rattle.std.proofs.Common.{◌≡◌, ℕ, zero, suc, ◌-◌, ◌<◌, ◌≤◌, [], ◌∷◌, length, get_or, set, refl, sym, ap, ◌∙◌, Some, None, Result, Ok, Err, IfOk, IfErr, arith}
-use Rattle.std.specs.Prelude.{IsTrue, slice_get}
+use Rattle.zl_rights.proofs.Common.{◌≡◌, ℕ, zero, suc, ◌-◌, ◌<◌, ◌≤◌, [], ◌∷◌, length, get_or, set, refl, sym, ap, ◌∙◌, Some, None, Result, Ok, Err, IfOk, IfErr, arith, IsTrue, slice_get, nat_cmp, is_sorted, below_all, nat_tests, Map, get, put, without, update}
 use Rattle.std.specs.List.{insert, remove}
 use Rattle.std.specs.List.Sorted.{IsSearchInRange, IsBinarySearchResult, IsNonDecreasingBy}
-use Rattle.std.specs.Ordering.{nat_cmp, ordering_index}
-use Rattle.std.specs.FinMap.Entries.{is_sorted, below_all}
+use Rattle.std.specs.Ordering.{ordering_index}
 use Rattle.std.proofs.lemmas.Cmp.{ranked}
 use Rattle.std.proofs.lemmas.Option.{slice_get_within, get_or_from_slice_get}
-use Rattle.std.proofs.lemmas.Bool.Decides.{nat_tests}
-use Rattle.zl_rights.specs.Map.{Map, get, put, without, update}
 use Rattle.zl_table.proofs.MapEdits.{below_parts, sorted_parts, without_lower}
 use Rattle.zl_table.specs.Places.{IsAt, IsGapFor}
 

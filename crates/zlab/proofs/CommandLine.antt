@@ -1,7 +1,7 @@
 -- What clap finds in the words that it takes for the program's commands.
-use Rattle.std.proofs.Common.{◌≡◌, ◌∙◌, ◌&&◌, ◌||◌, Bool, true, false, not, cond, refl, sym, ap, true≢false, List, [], ◌∷◌, ◌++◌, ℕ, codes, Option, Some, None, IfSome, IsSome, is_some, option_map, Result, Err, Ok, IfErr, ◌⊎◌, inl, inr, subst}
-use Rattle.std.specs.Prelude.{option_and_then, slice_get, unwrap_or}
-use Rattle.std.specs.List.{find}
+use Rattle.zl_code.proofs.Common.{◌≡◌, ◌∙◌, ◌&&◌, ◌||◌, Bool, true, false, not, cond, refl, sym, ap, true≢false, List, [], ◌∷◌, ◌++◌, ℕ, codes, Option, Some, None, IfSome, IsSome, is_some, Result, Err, Ok, IfErr, ◌⊎◌, inl, inr, subst, slice_get, find}
+use Rattle.std.proofs.Common.{option_map}
+use Rattle.std.specs.Prelude.{option_and_then, unwrap_or}
 use Rattle.std.specs.Option.{option_map_or}
 use Rattle.std.specs.Str.{bytes_eq}
 use Rattle.std.proofs.lemmas.Slice.Eq.{bytes_eq-Decides}

@@ -1,11 +1,6 @@
 -- A run that is computed along a schedule follows it.
-use Rattle.std.proofs.Common.{◌≡◌, ℕ, Bool, true, false, List, [], ◌∷◌, map, refl, ap, Some, None}
-use Rattle.std.specs.Prelude.{is_some}
-use Rattle.zl_rights.specs.World.{World}
-use Rattle.zl_rights.specs.Signals.{is_process, is_ready}
+use Rattle.zl_code.proofs.Common.{◌≡◌, ℕ, Bool, true, false, List, [], ◌∷◌, map, refl, ap, Some, None, is_some, World, is_process, is_ready, Library, Choice}
 use Rattle.zl_code.specs.declared.history.TraceItem.{TraceItem}
-use Rattle.zl_code.specs.Image.{Library}
-use Rattle.zl_code.specs.Calls.{Choice}
 use Rattle.zl_code.proofs.Running.{Acted, step_by, step_by-Step, Went, onto, items_of, world_after}
 use Rattle.zlab.specs.Follows.{Follows, ends, skips, goes}
 

@@ -1,6 +1,5 @@
 -- The digits of bytes.
-use Rattle.std.proofs.Common.{◌≡◌, ℕ, ◌+◌, ◌*◌, ◌/◌, ◌%◌, List, [], ◌∷◌, ◌++◌, length, refl, arith, length-append}
-use Rattle.std.specs.List.{flat_map}
+use Rattle.zl_code.proofs.Common.{◌≡◌, ℕ, ◌+◌, ◌*◌, ◌/◌, ◌%◌, List, [], ◌∷◌, ◌++◌, length, refl, arith, length-append, flat_map}
 use Rattle.zlab.specs.Lines.{hex_digits_of_byte, bytes_of_digits}
 
 -- two digits for a byte

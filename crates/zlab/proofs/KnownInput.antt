@@ -1,5 +1,5 @@
 -- What has been read so far, of a reader that may tell its bytes.
-use Rattle.std.proofs.Common.{ℕ, ◌<◌, List, length, Option, None, Some, refl, sym, subst, arith, length-append}
+use Rattle.zl_code.proofs.Common.{ℕ, ◌<◌, List, length, Option, None, Some, refl, sym, subst, arith, length-append}
 use Rattle.std.specs.Io.KnownBytes.{Consumes}
 use Rattle.zlab.specs.declared.input.Input.TheVariants as input
 use Rattle.zlab.specs.Input.{MOST_INPUT, IsInputOf}

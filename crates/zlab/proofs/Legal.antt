@@ -1,11 +1,9 @@
 -- What follows a schedule is a legal history.
-use Rattle.std.proofs.Common.{◌≡◌, ℕ, List, [], ◌∷◌, refl, sym, subst, IsTrue}
-use Rattle.zl_rights.specs.World.{World}
+use Rattle.zl_code.proofs.Common.{◌≡◌, ℕ, List, [], ◌∷◌, refl, sym, subst, IsTrue, World, Library, Step, Acts, Next, Moves, AtCall, IsStuck, next_for, pid_of, single, IsLegalHistory}
 use Rattle.zl_code.specs.declared.history.CallName.{CallName}
 use Rattle.zl_code.specs.declared.history.TraceItem.{TraceItem}
 use Rattle.zl_code.specs.declared.history.TraceItem.TheVariants as item
-use Rattle.zl_code.specs.Image.{Library}
-use Rattle.zl_code.specs.Steps.{Step, Acts, Next, Moves, AtCall, IsStuck, next_for, pid_of, single, has_count, IsLegalHistory}
+use Rattle.zl_code.specs.Steps.{has_count}
 use Rattle.zlab.specs.declared.system.End.{End}
 use Rattle.zlab.specs.declared.system.End.TheVariants as end
 use Rattle.zlab.specs.Follows.{Follows, ends, skips, goes, EndsBy}

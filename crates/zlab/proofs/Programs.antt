@@ -1,11 +1,5 @@
 -- The programs of a scenario, and the bytes that spell them.
-use Rattle.std.proofs.Common.{◌≡◌, ℕ, ◌<◌, true, false, ◌&&◌, ltb, List, [], ◌∷◌, ◌++◌, length, Result, Ok, IsTrue, refl, sym, ap, ◌∙◌, arith}
-use Rattle.std.specs.List.{list_all}
-use Rattle.std.proofs.lemmas.Bool.{and_parts}
-use Rattle.std.proofs.lemmas.Bool.Decides.{nat_tests}
-use Rattle.std.proofs.lemmas.List.Folds.{list_all-append}
-use Rattle.zl_code.specs.Image.{Image, Library, Program}
-use Rattle.zl_code.specs.Spells.{Spells, spelling, is_in_range}
+use Rattle.zl_code.proofs.Common.{◌≡◌, ℕ, ◌<◌, true, false, ◌&&◌, ltb, List, [], ◌∷◌, ◌++◌, length, Result, Ok, IsTrue, refl, sym, ap, ◌∙◌, arith, list_all, and_parts, nat_tests, list_all-append, Image, Library, Program, Spells, spelling, is_in_range}
 use Rattle.zlab.specs.declared.fault.Cause.{Cause}
 use Rattle.zlab.specs.Reading.{Lists, spellings, has_ranges}
 use Rattle.zlab.specs.Scenario.{Scenario, MOST_PROGRAMS, none_refused, with_program, program_said}

@@ -1,8 +1,5 @@
 -- A process that is told to be ready is ready, and no other.
-use Rattle.std.proofs.Common.{◌≡◌, ℕ, false, Option, Some, None, IsTrue, refl}
-use Rattle.zl_rights.specs.Map.{get}
-use Rattle.zl_rights.specs.World.{State, Process, Created, Ready, Blocked, Ended, Gone}
-use Rattle.zl_rights.specs.Signals.{is_ready, is_process, state_passes}
+use Rattle.zl_code.proofs.Common.{◌≡◌, ℕ, false, Option, Some, None, IsTrue, refl, get, State, Process, Created, Ready, Blocked, Ended, Gone, is_ready, is_process, state_passes}
 use Rattle.zl_code.specs.declared.history.ProcState.TheVariants as seen
 use Rattle.zl_calls.specs.World.{World, state_in, seen_in, seen_of, is_ready_in}
 

@@ -1,5 +1,6 @@
 -- Command lines, as clap's definitions read them.
-use Rattle.std.proofs.Common.{◌≡◌, refl, true, [], ◌∷◌, List, Option, Some, None, codes, option_map}
+use Rattle.zl_code.proofs.Common.{◌≡◌, refl, true, [], ◌∷◌, List, Option, Some, None, codes}
+use Rattle.std.proofs.Common.{option_map}
 use Rattle.clap.specs.Words.{Text, fault_of, first_of, is_simple_and_free, subcommand_of, takes}
 use Rattle.clap.specs.declared.error.kind.ErrorKind.TheVariants as kind
 use Rattle.clap.proofs.OnLiterals.{clap_on_literals}

@@ -1,17 +1,8 @@
 -- The text of a run, written piece by piece.
-use Rattle.std.proofs.Common.{◌≡◌, ℕ, ◌<◌, ◌≤◌, List, [], ◌∷◌, ◌++◌, length, map, take, get_or, Option, Some, None, refl, sym, ap, ◌∙◌, subst, append_assoc, append-nil, IsTrue, arith, zero, suc, inl, inr, ◌+◌, ◌==◌, true, eq-eqb}
-use Rattle.std.specs.Prelude.{slice_get}
-use Rattle.std.specs.List.{flat_map}
-use Rattle.std.specs.Option.{option_map}
-use Rattle.std.specs.Ordering.{nat_cmp, is_lt}
-use Rattle.std.specs.FinMap.Entries.{is_sorted, below_all}
+use Rattle.zl_code.proofs.Common.{◌≡◌, ℕ, ◌<◌, ◌≤◌, List, [], ◌∷◌, ◌++◌, length, map, take, get_or, Option, Some, None, refl, sym, ap, ◌∙◌, subst, append_assoc, append-nil, IsTrue, arith, zero, suc, inl, inr, ◌+◌, ◌==◌, true, eq-eqb, slice_get, flat_map, option_map, nat_cmp, is_sorted, below_all, and_parts, cases_Bool, eqb-true, nat_tests, none-some, same_Some, length-map, take_all, Map, get, Process}
+use Rattle.std.specs.Ordering.{is_lt}
 use Rattle.std.specs.Io.KnownBytes.{Appends}
-use Rattle.std.proofs.lemmas.Bool.{and_parts, cases_Bool, eqb-true}
-use Rattle.std.proofs.lemmas.Bool.Decides.{nat_tests}
-use Rattle.std.proofs.lemmas.Option.{slice_get-map, slice_get_within, get_or_from_slice_get, none-some, same_Some}
-use Rattle.std.proofs.lemmas.List.{length-map, take_all}
-use Rattle.zl_rights.specs.Map.{Map, get}
-use Rattle.zl_rights.specs.World.{Process}
+use Rattle.std.proofs.lemmas.Option.{slice_get-map, slice_get_within, get_or_from_slice_get}
 use Rattle.zl_code.specs.declared.history.ProcState.{ProcState}
 use Rattle.zl_calls.specs.World.{World, seen_in, seen_of, state_in}
 use Rattle.zlab.specs.declared.system.End.{End}

@@ -1,10 +1,7 @@
 -- The stored run: its history follows its schedule, and has its text, by computation.
-use Rattle.std.proofs.Common.{◌≡◌, ℕ, List, [], ◌∷◌, ◌++◌, refl}
-use Rattle.std.specs.Prelude.{codes, pos, replicate}
+use Rattle.zl_code.proofs.Common.{◌≡◌, ℕ, List, [], ◌∷◌, ◌++◌, refl, codes, pos, replicate, Choice, Refused, boot_effect}
 use Rattle.std.specs.Fmt.{digits}
 use Rattle.zl_code.specs.declared.history.ProcState.TheVariants as seen
-use Rattle.zl_code.specs.Calls.{Choice, Refused}
-use Rattle.zl_code.specs.Boot.{boot_effect}
 use Rattle.zl_code.proofs.Running.{computing, world_after}
 use Rattle.zl_code.proofs.Stored.{library, boot, history, turns}
 use Rattle.zlab.specs.declared.system.End.TheVariants as end

@@ -1,7 +1,5 @@
 -- What a turn is answered for which the trace has no room.
-use Rattle.std.proofs.Common.{◌<◌, ◌≤◌, ℕ, Bool, true, false, inl, inr, refl, length}
-use Rattle.std.specs.Prelude.{if◌then◌else◌}
-use Rattle.std.proofs.lemmas.Bool.{cases_Bool}
+use Rattle.zl_code.proofs.Common.{◌<◌, ◌≤◌, ℕ, Bool, true, false, inl, inr, refl, length, if◌then◌else◌, cases_Bool}
 use Rattle.zl_calls.specs.World.{is_ready_in}
 use Rattle.zlab.specs.declared.system.Stepped.{Stepped}
 use Rattle.zlab.specs.declared.system.Stepped.TheVariants as stepped

@@ -1,11 +1,8 @@
 -- Turns, one after another: what was walked, and what follows it.
-use Rattle.std.proofs.Common.{◌≡◌, ℕ, ◌+◌, ◌-◌, ◌<◌, ◌≤◌, false, List, [], ◌∷◌, ◌++◌, length, replicate, take, drop, take-append-drop, get_or, refl, sym, ap, ◌∙◌, subst, IsTrue, arith, append_assoc, append-nil, zero, suc}
-use Rattle.std.proofs.lemmas.List.{length-append, replicate_more, replicate-append-replicate, take_more}
+use Rattle.zl_code.proofs.Common.{◌≡◌, ℕ, ◌+◌, ◌-◌, ◌<◌, ◌≤◌, false, List, [], ◌∷◌, ◌++◌, length, replicate, take, drop, take-append-drop, get_or, refl, sym, ap, ◌∙◌, subst, IsTrue, arith, append_assoc, append-nil, zero, suc, take_more, World, is_process, is_ready, Library}
+use Rattle.std.proofs.lemmas.List.{length-append, replicate_more, replicate-append-replicate}
 use Rattle.std.proofs.lemmas.List.Concat.{flat_map-append}
-use Rattle.zl_rights.specs.World.{World}
-use Rattle.zl_rights.specs.Signals.{is_process, is_ready}
 use Rattle.zl_code.specs.declared.history.TraceItem.{TraceItem}
-use Rattle.zl_code.specs.Image.{Library}
 use Rattle.zl_calls.specs.World.{is_ready_in}
 use Rattle.zlab.specs.declared.system.End.{End}
 use Rattle.zlab.specs.declared.system.End.TheVariants as end

@@ -1,6 +1,5 @@
 -- A block is read whole.
-use Rattle.std.proofs.Common.{◌≡◌, ℕ, ◌+◌, Bool, true, false, ◌&&◌, not, cond, List, [], ◌∷◌, ◌++◌, length, Option, Some, None, Result, Ok, Err, refl, sym, ap, ◌∙◌, arith, append_assoc, append-nil}
-use Rattle.std.specs.Prelude.{codes}
+use Rattle.zl_code.proofs.Common.{◌≡◌, ℕ, ◌+◌, Bool, true, false, ◌&&◌, not, cond, List, [], ◌∷◌, ◌++◌, length, Option, Some, None, Result, Ok, Err, refl, sym, ap, ◌∙◌, arith, append_assoc, append-nil, codes}
 use Rattle.zlab.specs.declared.fault.Cause.{Cause}
 use Rattle.zl_asm.specs.Denotes.{image_bytes_of}
 use Rattle.zl_asm.specs.Words.{is_ascii, is_word}

@@ -1,8 +1,6 @@
 -- The answer of the assembler to a text, for one writer or for the other.
-use Rattle.std.specs.Prelude.{ℕ, ◌≡◌, ◌≢◌, ◌⊎◌, ◌<◌, List, length, Option, None}
+use Rattle.zl_code.specs.Common.{ℕ, ◌≡◌, ◌≢◌, ◌⊎◌, ◌<◌, List, length, Option, None, Image, Spells}
 use Rattle.std.specs.Io.KnownBytes.{Appends}
-use Rattle.zl_code.specs.Image.{Image}
-use Rattle.zl_code.specs.Spells.{Spells}
 use Rattle.zl_asm.specs.declared.fault.AsmFault.{AsmFault}
 use Rattle.zl_asm.specs.declared.fault.AsmCause.TheVariants as cause
 use Rattle.zl_asm.specs.Causes.{cause_name}

@@ -1,17 +1,11 @@
 -- What the step engine answers to the bytes that it has read.
-use Rattle.std.specs.Prelude.{ℕ, ◌≡◌, ◌<◌, ◌≤◌, List, [], length, map, Option, Some, None, IfSome, slice_get}
-use Rattle.std.specs.List.{flat_map}
+use Rattle.zl_code.specs.Common.{ℕ, ◌≡◌, ◌<◌, ◌≤◌, List, [], length, map, Option, Some, None, IfSome, slice_get, flat_map, World, IsBoot, FirstFault, Library, IsLegalHistory, single, IsSound}
 use Rattle.std.specs.Io.KnownBytes.{Appends}
-use Rattle.zl_rights.specs.World.{World}
 use Rattle.zl_code.specs.declared.boot.BootCause.{BootCause}
 use Rattle.zl_code.specs.declared.boot.BootCause.TheVariants as boot
 use Rattle.zl_code.specs.declared.history.ProcState.{ProcState}
 use Rattle.zl_code.specs.declared.history.TraceItem.{TraceItem}
-use Rattle.zl_code.specs.Boot.{IsBoot, FirstFault}
-use Rattle.zl_code.specs.Image.{Library}
-use Rattle.zl_code.specs.Steps.{IsLegalHistory, single}
 use Rattle.zl_code.specs.Handles.{Throughout}
-use Rattle.zl_code.specs.Sound.{IsSound}
 use Rattle.zl_calls.specs.World.{seen_in}
 use Rattle.zlab.specs.declared.engine.Booted.{Booted}
 use Rattle.zlab.specs.declared.engine.Booted.TheVariants as booted

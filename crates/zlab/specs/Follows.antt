@@ -1,11 +1,6 @@
 -- A history that follows a schedule, turn by turn, and how it ends.
-use Rattle.std.specs.Prelude.{ℕ, ◌≡◌, ◌<◌, true, false, List, [], ◌∷◌, ◌++◌, length, replicate, IsTrue}
-use Rattle.std.specs.List.{flat_map}
-use Rattle.zl_rights.specs.World.{World}
-use Rattle.zl_rights.specs.Signals.{is_process, is_ready}
+use Rattle.zl_code.specs.Common.{ℕ, ◌≡◌, ◌<◌, true, false, List, [], ◌∷◌, ◌++◌, length, replicate, IsTrue, flat_map, World, is_process, is_ready, Library, Step}
 use Rattle.zl_code.specs.declared.history.TraceItem.{TraceItem}
-use Rattle.zl_code.specs.Image.{Library}
-use Rattle.zl_code.specs.Steps.{Step}
 use Rattle.zlab.specs.declared.system.End.{End}
 use Rattle.zlab.specs.declared.system.End.TheVariants as end
 

@@ -1,9 +1,7 @@
 -- What the lines of a scenario and of its schedule say, one after another, and the first fault of each.
-use Rattle.std.specs.Prelude.{ℕ, ◌≡◌, ◌≤◌, ◌+◌, ◌%◌, Bool, false, ◌&&◌, not, ◌==◌, nat_lt, nat_le, List, [], ◌∷◌, ◌++◌, length, codes, Option, Some, None, is_some, IfSome, Result, Ok, Err, if◌then◌else◌}
+use Rattle.zl_code.specs.Common.{ℕ, ◌≡◌, ◌≤◌, ◌+◌, ◌%◌, Bool, false, ◌&&◌, not, ◌==◌, nat_lt, nat_le, List, [], ◌∷◌, ◌++◌, length, codes, Option, Some, None, is_some, IfSome, Result, Ok, Err, if◌then◌else◌, MOST_ITEMS, first_fault}
 use Rattle.zl_code.specs.declared.boot.Statement.{Statement}
 use Rattle.zl_code.specs.declared.boot.Statement.TheVariants as statement
-use Rattle.zl_code.specs.Boot.{MOST_ITEMS}
-use Rattle.zl_code.specs.Spells.{first_fault}
 use Rattle.zl_asm.specs.Denotes.{image_bytes_of}
 use Rattle.zl_asm.specs.Words.{lines_of, is_ascii, is_word}
 use Rattle.zlab.specs.declared.fault.Cause.{Cause}

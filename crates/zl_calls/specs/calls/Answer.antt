@@ -1,15 +1,12 @@
 -- How a call is refused and answered, which is alike for all calls. No public clause cites this module.
-use Rattle.std.specs.Prelude.{ℕ, ℤ, ◌≡◌, ◌+◌, Bool, true, false, nat_le, List, [], ◌∷◌, length, Option, Some, None, Result, Ok, Err, ⊤, IfOk, IfErr, OnErr}
+use Rattle.zl_code.specs.Common.{ℕ, ℤ, ◌≡◌, ◌+◌, Bool, true, false, nat_le, List, [], ◌∷◌, length, Option, Some, None, Result, Ok, Err, ⊤, IfOk, IfErr, Map, answered, Site, cpu_answered}
+use Rattle.std.specs.Prelude.{OnErr}
 use Rattle.zl_rights.specs.declared.status.Status.{Status}
 use Rattle.zl_rights.specs.declared.status.Status.TheVariants as status
 use Rattle.zl_rights.specs.declared.entry.Entry.{Entry}
-use Rattle.zl_rights.specs.Map.{Map}
 use Rattle.zl_rights.specs.Numbers.{status_magnitude}
-use Rattle.zl_rights.specs.World.{answered}
 use Rattle.zl_code.specs.declared.history.Outcome.{Outcome}
 use Rattle.zl_code.specs.declared.history.Outcome.TheVariants as outcome
-use Rattle.zl_code.specs.Request.{Site}
-use Rattle.zl_code.specs.Calls.{cpu_answered}
 use Rattle.zl_table.specs.Table.{Handles}
 use Rattle.zl_calls.specs.declared.process.Process.{Process}
 use Rattle.zl_calls.specs.Objects.{Objects}

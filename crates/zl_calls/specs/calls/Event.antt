@@ -1,15 +1,13 @@
 -- What calls on events do: event_create and signal. No public clause cites this module.
-use Rattle.std.specs.Prelude.{ℕ, ◌≡◌, ◌<◌, ◌+◌, ◌^◌, Bool, true, false, ◌&&◌, not, nat_le, bit_or, length, Option, Some, None, Result, ⊤, if◌then◌else◌}
-use Rattle.std.specs.Bool.{then_some}
-use Rattle.std.specs.Option.{option_or}
+use Rattle.zl_code.specs.Common.{ℕ, ◌≡◌, ◌<◌, ◌+◌, ◌^◌, Bool, true, false, ◌&&◌, not, nat_le, length, Option, Some, None, Result, ⊤, if◌then◌else◌, then_some, option_or, bits, within, SIGNAL, SIGNALED, Map, get}
+use Rattle.std.specs.Prelude.{bit_or}
 use Rattle.zl_rights.specs.declared.kind.Kind.{Kind}
 use Rattle.zl_rights.specs.declared.kind.Kind.TheVariants as kind
 use Rattle.zl_rights.specs.declared.status.Status.{Status}
 use Rattle.zl_rights.specs.declared.status.Status.TheVariants as status
 use Rattle.zl_rights.specs.declared.entry.Entry.{Entry}
 use Rattle.zl_rights.specs.declared.signals.Signals.{Signals}
-use Rattle.zl_rights.specs.Numbers.{bits, within, SIGNAL, SIGNALED, USER_SIGNALS}
-use Rattle.zl_rights.specs.Map.{Map, get}
+use Rattle.zl_rights.specs.Numbers.{USER_SIGNALS}
 use Rattle.zl_code.specs.Effects.{new_entry}
 use Rattle.zl_table.specs.Table.{Handles, Inserts}
 use Rattle.zl_calls.specs.declared.objects.Body.TheVariants as body

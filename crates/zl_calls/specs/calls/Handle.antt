@@ -1,15 +1,9 @@
 -- What calls on handles do: close and dup. No public clause cites this module.
-use Rattle.std.specs.Prelude.{ℕ, ◌≡◌, ◌<◌, IsTrue, true, ◌||◌, not, length, Option, Some, None, Result, ⊤, ◌==◌, if◌then◌else◌}
-use Rattle.std.specs.Bool.{then_some}
-use Rattle.std.specs.Option.{option_or}
+use Rattle.zl_code.specs.Common.{ℕ, ◌≡◌, ◌<◌, IsTrue, true, ◌||◌, not, length, Option, Some, None, Result, ⊤, ◌==◌, if◌then◌else◌, then_some, option_or, bits, within, narrowed, DUPLICATE, Map, get, has_key, without, is_empty, with_rights}
 use Rattle.zl_rights.specs.declared.status.Status.{Status}
 use Rattle.zl_rights.specs.declared.status.Status.TheVariants as status
 use Rattle.zl_rights.specs.declared.entry.Entry.{Entry}
 use Rattle.zl_rights.specs.declared.rights.Rights.{Rights}
-use Rattle.zl_rights.specs.Numbers.{bits, within, narrowed, DUPLICATE}
-use Rattle.zl_rights.specs.Map.{Map, get, has_key, without}
-use Rattle.zl_rights.specs.Signals.{is_empty}
-use Rattle.zl_code.specs.Tests.{with_rights}
 use Rattle.zl_table.specs.Table.{Handles, Inserts}
 use Rattle.zl_calls.specs.declared.objects.Object.{Object}
 use Rattle.zl_calls.specs.Objects.{Objects, has_place, holding, released}

@@ -1,5 +1,4 @@
-use Rattle.std.proofs.Common.{ℕ, List, length, eqb, rules, sym, subst, inl, inr, ◌∷◌, []}
-use Rattle.std.proofs.lemmas.List.{map-append}
+use Rattle.zl_code.proofs.Common.{ℕ, List, length, eqb, rules, sym, subst, inl, inr, ◌∷◌, [], map-append}
 use Rattle.std.proofs.lemmas.Iterator.Consumers.{YieldsList-so_far, YieldsList-turn, YieldsList-end, YieldsList-from_enumerate}
 use Rattle.std.proofs.lemmas.Iterator.Splits.{YieldsList-from_slice_split}
 use Rattle.zl_asm.specs.Words.{lines_of}

@@ -1,4 +1,4 @@
-use Rattle.std.proofs.Common.{◌≡◌, ◌++◌, take, string_bytes}
+use Rattle.zl_code.proofs.Common.{◌≡◌, ◌++◌, take, string_bytes}
 use Rattle.zl_asm.specs.Canonical.{hex_text}
 use Rattle.zl_asm.proofs.disassembling.push_bytes.Given as goal
 

@@ -1,5 +1,4 @@
-use Rattle.std.proofs.Common.{◌≡◌, ◌++◌, map, drop, string_bytes}
-use Rattle.zl_code.specs.Spells.{instr_bytes}
+use Rattle.zl_code.proofs.Common.{◌≡◌, ◌++◌, map, drop, string_bytes, instr_bytes}
 use Rattle.zl_asm.specs.Canonical.{code_lines_from, code_lines}
 use Rattle.zl_asm.specs.Pieces.{ended}
 use Rattle.zl_asm.proofs.disassembling.push_code.Given as goal

@@ -1,5 +1,4 @@
-use Rattle.std.proofs.Common.{◌≡◌, ℕ, List, ◌++◌, true, false, eqb, not, take, get_or, string_bytes, append_assoc, sym, ap, ◌∙◌, arith}
-use Rattle.std.proofs.lemmas.Bool.Decides.{nat_tests}
+use Rattle.zl_code.proofs.Common.{◌≡◌, ℕ, List, ◌++◌, true, false, eqb, not, take, get_or, string_bytes, append_assoc, sym, ap, ◌∙◌, arith, nat_tests}
 use Rattle.zl_asm.specs.Canonical.{register_text}
 use Rattle.zl_asm.specs.Pieces.{behind}
 use Rattle.zl_asm.proofs.Joined.{texts, between_now, place_written, place_after, place_passed}

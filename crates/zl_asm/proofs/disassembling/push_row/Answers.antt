@@ -1,6 +1,4 @@
-use Rattle.std.proofs.Common.{◌≡◌, length, take, string_bytes, arith}
-use Rattle.std.proofs.lemmas.List.{length-take-le}
-use Rattle.zl_code.specs.Spells.{reading_of}
+use Rattle.zl_code.proofs.Common.{◌≡◌, length, take, string_bytes, arith, length-take-le, reading_of}
 use Rattle.zl_asm.specs.Canonical.{tail_texts}
 use Rattle.zl_asm.proofs.Joined.{row_written}
 use Rattle.zl_asm.proofs.disassembling.push_row.Goals as goal

@@ -1,5 +1,4 @@
-use Rattle.std.proofs.Common.{◌≡◌, ◌++◌, take, string_bytes}
-use Rattle.std.specs.List.{flat_map}
+use Rattle.zl_code.proofs.Common.{◌≡◌, ◌++◌, take, string_bytes, flat_map}
 use Rattle.zl_asm.specs.Pieces.{start_text}
 use Rattle.zl_asm.proofs.disassembling.push_starts.Given as goal
 

@@ -1,5 +1,4 @@
-use Rattle.std.proofs.Common.{length, map, take}
-use Rattle.zl_code.specs.Spells.{instr_bytes}
+use Rattle.zl_code.proofs.Common.{length, map, take, instr_bytes}
 use Rattle.zl_asm.specs.Pieces.{TargetsAre}
 use Rattle.zl_asm.proofs.disassembling.targets_of.Given as goal
 

@@ -1,7 +1,5 @@
-use Rattle.std.proofs.Common.{◌≡◌, take, drop, Option, List, ℕ, ap, sym, ◌∙◌}
-use Rattle.std.specs.Option.{option_map}
+use Rattle.zl_code.proofs.Common.{◌≡◌, take, drop, Option, List, ℕ, ap, sym, ◌∙◌, option_map, row_named}
 use Rattle.std.specs.Result.{result_ok}
-use Rattle.zl_code.specs.Instructions.{row_named}
 use Rattle.zl_asm.specs.declared.fault.AsmCause.TheVariants.{NoMemory}
 use Rattle.zl_asm.specs.Lines.{operands_of, instruction_of, then_with, registers_of, tail_of, source_with}
 use Rattle.zl_asm.specs.Values.{source_value}

@@ -1,5 +1,4 @@
-use Rattle.std.proofs.Common.{◌≡◌, ◌*◌, ◌++◌, length, take, drop}
-use Rattle.std.specs.Option.{option_map}
+use Rattle.zl_code.proofs.Common.{◌≡◌, ◌*◌, ◌++◌, length, take, drop, option_map}
 use Rattle.zl_asm.specs.Words.{hex_bytes}
 use Rattle.zl_asm.proofs.numbers.sixteen_bytes.Given as goal
 

@@ -1,5 +1,4 @@
-use Rattle.std.proofs.Common.{ap, ◌∙◌}
-use Rattle.std.specs.Option.{option_map}
+use Rattle.zl_code.proofs.Common.{ap, ◌∙◌, option_map}
 use Rattle.zl_asm.specs.Values.{tail_value}
 use Rattle.zl_asm.proofs.LineOperands.{too_many, no_handles, handles_placed}
 use Rattle.zl_asm.proofs.Answered.{no_answer}

@@ -1,5 +1,4 @@
-use Rattle.std.proofs.Common.{◌≡◌, ◌++◌, map, take, drop}
-use Rattle.std.specs.Option.{option_map}
+use Rattle.zl_code.proofs.Common.{◌≡◌, ◌++◌, map, take, drop, option_map}
 use Rattle.zl_asm.specs.Words.{register_of}
 use Rattle.zl_asm.specs.Lines.{all_of}
 use Rattle.zl_asm.proofs.operands.put_registers.Given as goal

@@ -1,6 +1,4 @@
-use Rattle.std.proofs.Common.{sym, inr, arith}
-use Rattle.std.proofs.lemmas.List.{map-append}
-use Rattle.std.proofs.lemmas.Bool.Decides.{nat_tests}
+use Rattle.zl_code.proofs.Common.{sym, inr, arith, map-append, nat_tests}
 use Rattle.zl_asm.specs.Lines.{operands_of}
 use Rattle.zl_asm.specs.Values.{texts}
 use Rattle.zl_asm.proofs.LineOperands.{no_words, at_first, one_more, at_comma, at_words, at_last, at_last_comma, at_end}

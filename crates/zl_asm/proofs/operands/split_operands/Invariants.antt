@@ -1,5 +1,4 @@
-use Rattle.std.proofs.Common.{◌≡◌, ◌++◌, length, map}
-use Rattle.std.specs.Option.{option_map}
+use Rattle.zl_code.proofs.Common.{◌≡◌, ◌++◌, length, map, option_map}
 use Rattle.zl_asm.specs.Lines.{operands_of, operands_after}
 use Rattle.zl_asm.proofs.operands.split_operands.Given as goal
 

@@ -1,5 +1,4 @@
-use Rattle.std.proofs.Common.{rules, ◌∷◌, ◌++◌, ◌∙◌, ap, ℕ}
-use Rattle.zl_code.specs.Spells.{bytes_of}
+use Rattle.zl_code.proofs.Common.{rules, ◌∷◌, ◌++◌, ◌∙◌, ap, ℕ, bytes_of}
 use Rattle.zl_asm.proofs.DraftGives.{retargeted}
 use Rattle.zl_asm.proofs.resolving.with_target.Goals as goal
 

@@ -1,6 +1,5 @@
-use Rattle.std.proofs.Common.{◌<◌, ◌≢◌, get_or, map, length, arith}
+use Rattle.zl_code.proofs.Common.{◌<◌, ◌≢◌, get_or, map, length, arith, map-append}
 use Rattle.std.proofs.lemmas.Result.{IfOk-equal}
-use Rattle.std.proofs.lemmas.List.{map-append}
 use Rattle.zl_asm.specs.Words.{words_of}
 use Rattle.zl_asm.proofs.WordsSplit.{after_semicolon, after_space, after_comma, after_letter, at_line_end}
 use Rattle.zl_asm.proofs.words.split_words.Goals as goal

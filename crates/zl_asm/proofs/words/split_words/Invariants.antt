@@ -1,4 +1,4 @@
-use Rattle.std.proofs.Common.{◌≡◌, ◌-◌, ◌≤◌, ◌++◌, map, take, drop}
+use Rattle.zl_code.proofs.Common.{◌≡◌, ◌-◌, ◌≤◌, ◌++◌, map, take, drop}
 use Rattle.zl_asm.specs.Words.{words_from, words_of}
 use Rattle.zl_asm.proofs.words.split_words.Given as goal
 

@@ -1,7 +1,4 @@
-use Rattle.std.proofs.Common.{◌≡◌, true, None, map, take}
-use Rattle.std.specs.List.{list_all}
-use Rattle.zl_code.specs.First.{first_some}
-use Rattle.zl_code.specs.Spells.{slot_bytes, is_slot_in_range, slot_fault}
+use Rattle.zl_code.proofs.Common.{◌≡◌, true, None, map, take, list_all, first_some, slot_bytes, is_slot_in_range, slot_fault}
 use Rattle.zl_code.proofs.declarations.slots_of.Given as goal
 
 abbrev pub invariant-loop-piece : goal.invariant-loop-piece

@@ -1,7 +1,4 @@
-use Rattle.std.proofs.Common.{◌≡◌, true, None, map, take}
-use Rattle.std.specs.List.{list_all}
-use Rattle.zl_code.specs.First.{first_some}
-use Rattle.zl_code.specs.Spells.{start_bytes, is_start_in_range, start_fault}
+use Rattle.zl_code.proofs.Common.{◌≡◌, true, None, map, take, list_all, first_some, start_bytes, is_start_in_range, start_fault}
 use Rattle.zl_code.proofs.declarations.starts_of.Given as goal
 
 abbrev pub invariant-loop-piece : goal.invariant-loop-piece

@@ -1,4 +1,4 @@
-use Rattle.std.proofs.Common.{length}
+use Rattle.zl_code.proofs.Common.{length}
 use Rattle.zl_code.proofs.fields.+is_packed.Given as goal
 
 abbrev pub decreases-is_packed : goal.decreases-is_packed

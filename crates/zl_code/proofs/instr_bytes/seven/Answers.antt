@@ -1,4 +1,4 @@
-use Rattle.std.proofs.Common.{◌∙◌, arith}
+use Rattle.zl_code.proofs.Common.{◌∙◌, arith}
 use Rattle.std.proofs.lemmas.Grind.{common_steps}
 use Rattle.zl_code.proofs.ImageCells.{one_placed, all_placed}
 use Rattle.zl_code.proofs.instr_bytes.seven.Goals as goal

@@ -1,4 +1,4 @@
-use Rattle.std.proofs.Common.{◌≡◌, length, take, drop}
+use Rattle.zl_code.proofs.Common.{◌≡◌, length, take, drop}
 use Rattle.zl_code.proofs.instr_bytes.seven.Given as goal
 
 abbrev pub invariant-loop-place : goal.invariant-loop-place

@@ -1,7 +1,4 @@
-use Rattle.std.proofs.Common.{◌≡◌, true, None, map, take}
-use Rattle.std.specs.List.{list_all}
-use Rattle.zl_code.specs.First.{first_some}
-use Rattle.zl_code.specs.Spells.{instr_bytes, is_instr_in_range, instr_fault}
+use Rattle.zl_code.proofs.Common.{◌≡◌, true, None, map, take, list_all, first_some, instr_bytes, is_instr_in_range, instr_fault}
 use Rattle.zl_code.proofs.known.code_of.Given as goal
 
 abbrev pub invariant-loop-piece : goal.invariant-loop-piece

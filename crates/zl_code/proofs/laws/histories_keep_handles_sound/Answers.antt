@@ -1,4 +1,4 @@
-use Rattle.zl_code.specs.Handles.{HandlesAreSound}
+use Rattle.zl_code.proofs.Common.{HandlesAreSound}
 use Rattle.zl_code.proofs.SoundRuns.{history_keeps}
 use Rattle.zl_code.proofs.laws.histories_keep_handles_sound.Goals as goal
 

@@ -1,4 +1,4 @@
-use Rattle.zl_code.specs.Sound.{IsSound}
+use Rattle.zl_code.proofs.Common.{IsSound}
 use Rattle.zl_code.proofs.SoundRuns.{history_keeps}
 use Rattle.zl_code.proofs.laws.histories_keep_worlds_sound.Goals as goal
 

@@ -1,4 +1,4 @@
-use Rattle.std.proofs.Common.{rules}
+use Rattle.zl_rights.proofs.Common.{rules}
 use Rattle.std.proofs.lemmas.List.Sorted.{answers_always}
 use Rattle.zl_table.proofs.Search.{searched}
 use Rattle.zl_table.proofs.table.place_of.Goals as goal

@@ -1,4 +1,4 @@
-use Rattle.std.proofs.Common.{refl, sym, ap, ◌∙◌}
+use Rattle.zl_code.proofs.Common.{refl, sym, ap, ◌∙◌}
 use Rattle.zlab.specs.Engine.{Starts}
 use Rattle.zlab.specs.Scenario.{none_refused}
 use Rattle.zlab.specs.System.{System}

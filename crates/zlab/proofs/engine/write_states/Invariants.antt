@@ -1,5 +1,4 @@
-use Rattle.std.proofs.Common.{string_bytes, take}
-use Rattle.std.specs.List.{flat_map}
+use Rattle.zl_code.proofs.Common.{string_bytes, take, flat_map}
 use Rattle.zlab.specs.Engine.{states_of}
 use Rattle.zlab.specs.Output.{Gathers}
 use Rattle.zlab.specs.Text.{state_line}

@@ -1,4 +1,5 @@
-use Rattle.std.proofs.Common.{◌≡◌, ◌+◌, ◌-◌, ◌≤◌, length, vec_len}
+use Rattle.zl_code.proofs.Common.{◌≡◌, ◌+◌, ◌-◌, ◌≤◌, length}
+use Rattle.std.proofs.Common.{vec_len}
 use Rattle.std.specs.Io.KnownBytes.{Consumes}
 use Rattle.zlab.specs.declared.input.TheConstants.{BLOCK}
 use Rattle.zlab.specs.Input.{MOST_INPUT}

@@ -1,4 +1,5 @@
-use Rattle.std.proofs.Common.{ap, ap₂, ◌≡◌, ◌∙◌, true}
+use Rattle.zl_code.proofs.Common.{ap, ◌≡◌, ◌∙◌, true}
+use Rattle.std.proofs.Common.{ap₂}
 use Rattle.std.proofs.lemmas.Result.{IfOk-weaker}
 use Rattle.clap.specs.Words.{app_of, with_subcommand}
 use Rattle.clap.specs.Simple.{app_of_fields, on_top}

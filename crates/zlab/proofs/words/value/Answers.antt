@@ -1,4 +1,5 @@
-use Rattle.std.proofs.Common.{◌∙◌, ap, sym, is_some, option_map}
+use Rattle.zl_code.proofs.Common.{◌∙◌, ap, sym, is_some}
+use Rattle.std.proofs.Common.{option_map}
 use Rattle.clap.specs.Words.{found_of}
 use Rattle.clap.proofs.WalkLemmas.{first_value-rows}
 use Rattle.zlab.proofs.CommandLine.{mapped_some}

@@ -1,4 +1,4 @@
-use Rattle.std.proofs.Common.{◌≡◌, ◌∙◌, sym, subst, ap, map, true, []}
+use Rattle.zl_code.proofs.Common.{◌≡◌, ◌∙◌, sym, subst, ap, map, true, []}
 use Rattle.clap.specs.Words.{app_of, fault_of, is_simple_and_free, is_simple, subcommand_of}
 use Rattle.clap.specs.Takes.{takes}
 use Rattle.zlab.specs.Words.{HasValues, commands}

@@ -1,4 +1,4 @@
-use Rattle.std.proofs.Common.{inr, sym, subst}
+use Rattle.zl_code.proofs.Common.{inr, sym, subst}
 use Rattle.zl_asm.specs.declared.directive.Directive.{Directive}
 use Rattle.zl_asm.specs.Lines.{Declares}
 use Rattle.zl_asm.specs.Draft.{held_by, Holds}

@@ -1,5 +1,4 @@
-use Rattle.std.proofs.Common.{List, inl, inr, sym, ap, arith, length}
-use Rattle.std.proofs.lemmas.List.{length-map}
+use Rattle.zl_code.proofs.Common.{List, inl, inr, sym, ap, arith, length, length-map}
 use Rattle.zl_asm.specs.Values.{source_value}
 use Rattle.zl_asm.specs.declared.draft.SourceLine.{SourceLine}
 use Rattle.zl_asm.specs.Draft.{held_by, sources_shown}

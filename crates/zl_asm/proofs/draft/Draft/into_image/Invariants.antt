@@ -1,4 +1,4 @@
-use Rattle.std.proofs.Common.{◌-◌, length}
+use Rattle.zl_code.proofs.Common.{◌-◌, length}
 use Rattle.zl_asm.specs.Draft.{held_by}
 use Rattle.zl_asm.proofs.DraftGives.{Resolves}
 use Rattle.zl_asm.proofs.draft.Draft.into_image.Given as goal

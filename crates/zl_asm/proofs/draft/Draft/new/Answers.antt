@@ -1,4 +1,4 @@
-use Rattle.std.proofs.Common.{ap, map}
+use Rattle.zl_code.proofs.Common.{ap, map}
 use Rattle.zl_asm.specs.declared.draft.SourceLine.{SourceLine}
 use Rattle.zl_asm.specs.Values.{source_value}
 use Rattle.zl_asm.proofs.DraftHolds.{nothing_held}

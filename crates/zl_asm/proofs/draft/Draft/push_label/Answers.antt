@@ -1,11 +1,9 @@
-use Rattle.std.proofs.Common.{arith, inr, sym, ap, ◌∙◌, is_some}
+use Rattle.zl_code.proofs.Common.{arith, inr, sym, ap, ◌∙◌, is_some, refl, length-map}
 use Rattle.zl_asm.specs.Draft.{held_by}
 use Rattle.zl_asm.proofs.Labels.{lookup_is}
 use Rattle.zl_asm.specs.declared.draft.SourceLine.{SourceLine}
 use Rattle.zl_asm.specs.Values.{source_value}
 use Rattle.zl_asm.proofs.DraftAdds.{label_added, none_by}
-use Rattle.std.proofs.Common.{refl}
-use Rattle.std.proofs.lemmas.List.{length-map}
 use Rattle.zl_asm.proofs.DraftRefuses.{label_refused}
 use Rattle.indexmap.proofs.CallerLemmas.{insert_entry-new}
 use Rattle.zl_asm.proofs.draft.Draft.push_label.Goals as goal

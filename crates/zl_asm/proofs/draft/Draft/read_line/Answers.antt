@@ -1,4 +1,4 @@
-use Rattle.std.proofs.Common.{◌≡◌, true, ap, ◌∙◌, map, Some}
+use Rattle.zl_code.proofs.Common.{◌≡◌, true, ap, ◌∙◌, map, Some}
 use Rattle.zl_asm.specs.Words.{is_ascii}
 use Rattle.zl_asm.specs.Values.{line_value}
 use Rattle.zl_asm.specs.declared.line.Line.{Line}

@@ -1,7 +1,6 @@
-use Rattle.std.proofs.Common.{ap, inl, inr, sym, ◌∙◌, refl, arith}
+use Rattle.zl_code.proofs.Common.{ap, inl, inr, sym, ◌∙◌, refl, arith, Image}
 use Rattle.zl_calls.proofs.BootFaults.{fault_no_program, fault_no_job, fault_limit, wants_memory}
 use Rattle.zl_calls.proofs.BootMaking.{makes}
-use Rattle.zl_code.specs.Image.{Image}
 use Rattle.zl_calls.specs.declared.process.State.TheVariants as state
 use Rattle.zl_calls.specs.Cpu.{started_cpu}
 use Rattle.zl_calls.specs.Program.{program_value}

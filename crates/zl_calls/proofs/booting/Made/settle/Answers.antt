@@ -1,4 +1,4 @@
-use Rattle.std.proofs.Common.{rules}
+use Rattle.zl_code.proofs.Common.{rules}
 use Rattle.zl_calls.proofs.BootLab.{ends_with, ends_without}
 use Rattle.zl_calls.proofs.booting.Made.settle.Goals as goal
 

@@ -1,4 +1,4 @@
-use Rattle.std.proofs.Common.{◌≡◌, ap, ◌∙◌, rules}
+use Rattle.zl_code.proofs.Common.{◌≡◌, ap, ◌∙◌, rules}
 use Rattle.zl_calls.specs.declared.process.Process.{Process}
 use Rattle.zl_calls.specs.Objects.{process_ended, Closes}
 use Rattle.zl_calls.proofs.Tables.{drained_is_shorter, drained_closes, all_closed}

@@ -1,4 +1,4 @@
-use Rattle.std.proofs.Common.{length}
+use Rattle.zl_code.proofs.Common.{length}
 use Rattle.zl_calls.specs.Objects.{Objects, Closes}
 use Rattle.zl_calls.proofs.calls.process.end.Given as goal
 

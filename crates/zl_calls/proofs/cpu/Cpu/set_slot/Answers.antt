@@ -1,5 +1,4 @@
-use Rattle.std.proofs.Common.{ℕ, List, ap}
-use Rattle.std.specs.Prelude.{slice_set}
+use Rattle.zl_code.proofs.Common.{ℕ, List, ap, slice_set}
 use Rattle.std.specs.Vec.{with_item}
 use Rattle.zl_calls.proofs.Slots.{slot_written}
 use Rattle.zl_calls.proofs.cpu.Cpu.set_slot.Goals as goal

@@ -1,6 +1,4 @@
-use Rattle.std.proofs.Common.{ap, sym, ◌∙◌}
-use Rattle.std.specs.Option.{option_map}
-use Rattle.zl_code.specs.Request.{name_of}
+use Rattle.zl_code.proofs.Common.{ap, sym, ◌∙◌, option_map, name_of}
 use Rattle.zl_calls.proofs.Performing.{lab_value}
 use Rattle.zl_calls.proofs.Turns.{absent, not_ready, takes_call, takes_local, takes_end}
 use Rattle.zl_calls.proofs.world.World.step.Goals as goal

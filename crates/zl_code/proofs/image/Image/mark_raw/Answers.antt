@@ -1,4 +1,4 @@
-use Rattle.zl_code.specs.Image.{needs_value}
+use Rattle.zl_code.proofs.Common.{needs_value}
 use Rattle.zl_code.proofs.ImageRanges.{raw_in_range}
 use Rattle.zl_code.proofs.image.Image.mark_raw.Goals as goal
 

@@ -1,4 +1,4 @@
-use Rattle.zl_code.specs.Image.{needs_value}
+use Rattle.zl_code.proofs.Common.{needs_value}
 use Rattle.zl_code.proofs.ImageRanges.{slots_in_range}
 use Rattle.zl_code.proofs.image.Image.push_slot_array.Goals as goal
 

@@ -1,6 +1,4 @@
-use Rattle.std.proofs.Common.{◌≡◌, None, sym, ap, arith}
-use Rattle.std.specs.Option.{option_map}
-use Rattle.zl_code.specs.Instructions.{row_named}
+use Rattle.zl_code.proofs.Common.{◌≡◌, None, sym, ap, arith, option_map, row_named}
 use Rattle.zl_code.proofs.InstrTable.{IsFound, same_by_name, opcode_by_name, not_here, no_row, other_name, no_name}
 use Rattle.zl_code.proofs.layout.Row.named.Goals as goal
 

@@ -1,5 +1,4 @@
-use Rattle.std.proofs.Common.{◌≡◌, ◌≤◌, Some}
-use Rattle.zl_code.specs.Instructions.{Row, row_named}
+use Rattle.zl_code.proofs.Common.{◌≡◌, ◌≤◌, Some, Row, row_named}
 use Rattle.zl_code.proofs.layout.Row.named.Given as goal
 
 -- no opcode so far has the name

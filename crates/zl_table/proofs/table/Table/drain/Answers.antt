@@ -1,4 +1,4 @@
-use Rattle.std.proofs.Common.{◌≡◌, ◌-◌, Option, Some, None, IfNone, length, slice_get, sym}
+use Rattle.zl_rights.proofs.Common.{◌≡◌, ◌-◌, Option, Some, None, IfNone, length, slice_get, sym}
 use Rattle.std.proofs.lemmas.Option.{IfSome_then}
 use Rattle.zl_table.proofs.Search.{last_at, at_none}
 use Rattle.zl_table.proofs.table.Table.drain.Goals as goal

@@ -1,4 +1,4 @@
-use Rattle.std.proofs.Common.{sym}
+use Rattle.zl_rights.proofs.Common.{sym}
 use Rattle.zl_table.proofs.Search.{get_read, get_gap}
 use Rattle.zl_table.specs.Places.{IsAt}
 use Rattle.zl_table.proofs.table.Table.get.Goals as goal

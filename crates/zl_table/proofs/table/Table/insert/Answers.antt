@@ -1,6 +1,6 @@
+use Rattle.zl_rights.proofs.Common.{◌≡◌, ◌-◌, true, length, take, refl, ◌∙◌, arith, put}
 use Rattle.std.specs.Prelude.{vec_len}
-use Rattle.std.proofs.Common.{◌≡◌, ◌-◌, true, is_ok, length, take, refl, ◌∙◌, arith}
-use Rattle.zl_rights.specs.Map.{put}
+use Rattle.std.proofs.Common.{is_ok}
 use Rattle.zl_table.specs.Places.{IsAt, IsGapFor, next_value}
 use Rattle.zl_table.proofs.Search.{at_none, insert_gap}
 use Rattle.zl_table.proofs.Kept.{from_ok, next_unused, next_in_range, next_again, kept_inserted}

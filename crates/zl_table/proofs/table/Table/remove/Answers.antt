@@ -1,5 +1,4 @@
-use Rattle.std.proofs.Common.{◌≡◌, ◌++◌, ◌∷◌, [], IsTrue, is_some, ap, refl, ◌∙◌}
-use Rattle.zl_rights.specs.Map.{without, has_key}
+use Rattle.zl_rights.proofs.Common.{◌≡◌, ◌++◌, ◌∷◌, [], IsTrue, is_some, ap, refl, ◌∙◌, without, has_key}
 use Rattle.zl_table.specs.Places.{IsAt}
 use Rattle.zl_table.proofs.Search.{get_read, get_gap, remove_at}
 use Rattle.zl_table.proofs.Kept.{kept_removed}

@@ -1,4 +1,4 @@
-use Rattle.std.proofs.Common.{is_some, sym, ap}
+use Rattle.zl_rights.proofs.Common.{is_some, sym, ap}
 use Rattle.zl_table.specs.Places.{IsAt}
 use Rattle.zl_table.proofs.Search.{get_read, get_gap, update_read}
 use Rattle.zl_table.proofs.MapEdits.{update_missing}

@@ -1,5 +1,4 @@
-use Rattle.std.proofs.Common.{sym, ◌∙◌, arith}
-use Rattle.std.proofs.lemmas.List.{at_drop_all}
+use Rattle.zl_code.proofs.Common.{sym, ◌∙◌, arith, at_drop_all}
 use Rattle.zlab.specs.Lines.{digits_of}
 use Rattle.zlab.specs.Scenario.{digits_said}
 use Rattle.zlab.proofs.LineDigits.{after_space, after_digit, at_other, at_line_end}

@@ -1,4 +1,4 @@
-use Rattle.std.proofs.Common.{◌≡◌, drop}
+use Rattle.zl_code.proofs.Common.{◌≡◌, drop}
 use Rattle.zlab.specs.Lines.{digits_of}
 use Rattle.zlab.specs.Scenario.{digits_said}
 use Rattle.zlab.proofs.scenario.body.push_digits.Given as goal

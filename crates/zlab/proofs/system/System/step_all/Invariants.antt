@@ -1,4 +1,4 @@
-use Rattle.std.proofs.Common.{take}
+use Rattle.zl_code.proofs.Common.{take}
 use Rattle.zlab.specs.declared.system.End.TheVariants as end
 use Rattle.zlab.specs.Follows.{turns_of}
 use Rattle.zlab.specs.System.{Walks}

@@ -1,4 +1,4 @@
-use Rattle.std.proofs.Common.{replicate}
+use Rattle.zl_code.proofs.Common.{replicate}
 use Rattle.zlab.specs.declared.system.End.TheVariants as end
 use Rattle.zlab.specs.System.{Walks}
 use Rattle.zlab.proofs.system.System.step_turns.Given as goal

@@ -1,4 +1,4 @@
-use Rattle.std.proofs.Common.{◌≡◌, ℕ, ◌+◌, List, ◌++◌, length, map}
+use Rattle.zl_code.proofs.Common.{◌≡◌, ℕ, ◌+◌, List, ◌++◌, length, map}
 use Rattle.zlab.specs.Scenario.{none_refused, reading_from}
 use Rattle.zlab.proofs.scenario.reader.Reader.read_lines.Given as goal
 

@@ -1,0 +1,26 @@
+-- The names that most definitions above this crate cite, passed on from one place. Declares nothing.
+pub use Rattle.zl_rights.specs.Common.{All, Blocked, Body, Bool, ChannelEnd, Cpu, Created, DUPLICATE, Ended, Err, EventBody, Gone, IfErr, IfNone, IfOk, IfSome, IsSome, IsTrue, JobBody, Koids, List, Map, None, Object, Ok, OnOk, Option, PortBody, Process, ProcessBody, Ready, Result, SIGNAL, SIGNALED, STUCK, Settles, Some, State, World, [], below_all, bit_and, bits, codes, condition_name, condition_number, count_by, default_rights_of, drop, false, filter, find, flat_map, fold, get_or, has_key, if◌then◌else◌, is_empty, is_ready, is_some, is_sorted, kind_of, length, list_all, list_any, lives, map, narrowed, nat_cmp, nat_le, nat_lt, not, option_map, option_or, pos, position, process_settled, queue_of, replicate, rights_of, runs, slice_get, slice_index, slice_set, starts_with, state_passes, string_bytes, suc, sum_by, take, then_some, true, within, zero, ℕ, ℤ, ⊤, ◌%◌, ◌&&◌, ◌*◌, ◌++◌, ◌+◌, ◌-◌, ◌/◌, ◌<◌, ◌==◌, ◌^◌, ◌||◌, ◌∷◌, ◌≡◌, ◌≢◌, ◌≤◌, ◌⊎◌}
+unfoldable pub use Rattle.zl_rights.specs.Common.{answered, each, fired, get, has_living_child, in_queue, in_table, is_held, is_process, put, update, wakes, where_key, without, without_others}
+pub use Rattle.zl_code.specs.Boot.{Boots, FirstFault, IsBoot, MOST_ITEMS, at_limit, at_statement, is_job_body, may_boot, origin}
+unfoldable pub use Rattle.zl_code.specs.Boot.{boot_effect, boot_fault}
+pub use Rattle.zl_code.specs.CallNames.{call_name}
+pub use Rattle.zl_code.specs.Calls.{Calls, Choice, Refused, Values, WantsMemory, cpu_answered, grows, ok_outcome, taken}
+unfoldable pub use Rattle.zl_code.specs.Calls.{replied}
+pub use Rattle.zl_code.specs.Effects.{may_get, process_with, process_without, with_effect}
+unfoldable pub use Rattle.zl_code.specs.Effects.{effect, ended, gives_ok, gives_refused, insert_all, may_choose, new_handles, on_process, remove_all, taken_handles, with_object}
+pub use Rattle.zl_code.specs.First.{first_some}
+pub use Rattle.zl_code.specs.Handles.{HandlesAreNamed, HandlesAreSound, has_default_rights, in_order, names_its_object}
+pub use Rattle.zl_code.specs.Image.{Image, Library, Program, is_among, needs_named, needs_value}
+pub use Rattle.zl_code.specs.Instructions.{Layout, Row, layout_of}
+unfoldable pub use Rattle.zl_code.specs.Instructions.{row_named, row_of}
+pub use Rattle.zl_code.specs.Koids.{HasGivenKoids}
+unfoldable pub use Rattle.zl_code.specs.Local.{local_effect}
+unfoldable pub use Rattle.zl_code.specs.Refusals.{handle_operands, listed, refusal}
+pub use Rattle.zl_code.specs.Request.{Request, Site, close, dup, event_create, name_of, process_exit, signal, site}
+unfoldable pub use Rattle.zl_code.specs.Request.{site_of}
+pub use Rattle.zl_code.specs.Sound.{IsSound, raisable}
+pub use Rattle.zl_code.specs.Spells.{Reading, Spells, are_needs, are_registers, bytes_of, instr_bytes, is_in_range, is_instr_in_range, is_slot_in_range, is_start_in_range, needs_byte, number_at, number_of, reading_of, row_bytes, seven, slot_bytes, spelling, start_bytes}
+unfoldable pub use Rattle.zl_code.specs.Spells.{call_parts, first_fault, header_fault, instr_fault, local_parts, pieces, slot_fault, start_fault}
+pub use Rattle.zl_code.specs.Steps.{Acts, AtCall, IsLegalHistory, IsStuck, Moves, Next, Step, calls_at, next_for, pid_of, single}
+pub use Rattle.zl_code.specs.Tests.{answer_if, any, body_in, body_of, by_look_up, copy_of, entry_at, object_at, operand_of, table_of, with_rights}
+unfoldable pub use Rattle.zl_code.specs.Tests.{examined, handles_to, has_koids, has_room, operand}

@@ -1,5 +1,7 @@
 -- The text of an image as the disassembler lays it out.
-use Rattle.zl_code.specs.Common.{ℕ, suc, ◌+◌, ◌/◌, ◌%◌, Bool, true, false, ◌&&◌, not, ◌==◌, nat_lt, List, [], ◌∷◌, ◌++◌, codes, map, filter, length, take, slice_index, Option, Some, None, if◌then◌else◌, IsTrue, flat_map, list_any, condition_name, bits, Image, Row, row_of, Reading, reading_of, instr_bytes, is_in_range}
+use Rattle.std.specs.Prelude.{ℕ, suc, ◌+◌, ◌/◌, ◌%◌, Bool, true, false, ◌&&◌, not, ◌==◌, nat_lt, List, [], ◌∷◌, ◌++◌, codes, map, filter, length, take, slice_index, Option, Some, None, if◌then◌else◌, IsTrue}
+use Rattle.std.specs.List.{flat_map, list_any}
+use Rattle.zl_code.specs.Common.{condition_name, bits, Image, Row, row_of, Reading, reading_of, instr_bytes, is_in_range}
 use Rattle.std.specs.Fmt.{decimal}
 use Rattle.zl_rights.specs.declared.kind.Kind.{Kind}
 use Rattle.zl_rights.specs.Names.{kind_name}

@@ -1,5 +1,5 @@
 -- The names of causes, as answers have them, and what contracts say of a refusal.
-use Rattle.zl_code.specs.Common.{ℕ, ◌≡◌, ◌⊎◌, List, codes, Result, IfErr}
+use Rattle.std.specs.Prelude.{ℕ, ◌≡◌, ◌⊎◌, List, codes, Result, IfErr}
 use Rattle.zl_asm.specs.declared.fault.AsmCause.{AsmCause}
 use Rattle.zl_asm.specs.declared.fault.AsmCause.TheVariants as cause
 

@@ -1,5 +1,7 @@
 -- The grammar of the assembler: which image a text denotes.
-use Rattle.zl_code.specs.Common.{ℕ, ◌≡◌, List, ◌++◌, map, length, Option, Some, IsTrue, option_map, Image, instr_bytes, spelling, is_in_range}
+use Rattle.std.specs.Prelude.{ℕ, ◌≡◌, List, ◌++◌, map, length, Option, Some, IsTrue}
+use Rattle.std.specs.Option.{option_map}
+use Rattle.zl_code.specs.Common.{Image, instr_bytes, spelling, is_in_range}
 use Rattle.std.specs.List.{concat}
 use Rattle.zl_code.specs.Spells.{header_bytes, body_bytes}
 use Rattle.zl_asm.specs.Listing.{Listing, listing_of}

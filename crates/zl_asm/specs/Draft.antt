@@ -1,5 +1,7 @@
 -- What a draft of an image holds of the lines that were read. No public clause cites this module.
-use Rattle.zl_code.specs.Common.{ℕ, ◌≡◌, Bool, true, false, ◌&&◌, nat_le, List, [], ◌∷◌, ◌++◌, map, Option, Some, None, if◌then◌else◌, ◌⊎◌, flat_map, list_any, Image, needs_named, instr_bytes, instr_fault, is_start_in_range, is_slot_in_range}
+use Rattle.std.specs.Prelude.{ℕ, ◌≡◌, Bool, true, false, ◌&&◌, nat_le, List, [], ◌∷◌, ◌++◌, map, Option, Some, None, if◌then◌else◌, ◌⊎◌}
+use Rattle.std.specs.List.{flat_map, list_any}
+use Rattle.zl_code.specs.Common.{Image, needs_named, instr_bytes, instr_fault, is_start_in_range, is_slot_in_range}
 use denote.Ref.{Bor}
 use Rattle.zl_code.specs.Limits.{most_memory, most_budget}
 use Rattle.zl_code.specs.declared.instr.Instr.{Instr}

@@ -1,5 +1,8 @@
 -- What a line of a program's text says, by its words.
-use Rattle.zl_code.specs.Common.{ℕ, ◌-◌, Bool, ◌&&◌, not, ◌==◌, nat_le, List, [], ◌∷◌, ◌++◌, codes, length, take, drop, replicate, slice_index, Option, Some, None, is_some, if◌then◌else◌, option_map, starts_with, rights_of, is_among, Row, row_named, layout_of, bytes_of, seven, is_start_in_range, is_slot_in_range}
+use Rattle.std.specs.Prelude.{ℕ, ◌-◌, Bool, ◌&&◌, not, ◌==◌, nat_le, List, [], ◌∷◌, ◌++◌, codes, length, take, drop, replicate, slice_index, Option, Some, None, is_some, if◌then◌else◌}
+use Rattle.std.specs.Option.{option_map}
+use Rattle.std.specs.List.{starts_with}
+use Rattle.zl_code.specs.Common.{rights_of, is_among, Row, row_named, layout_of, bytes_of, seven, is_start_in_range, is_slot_in_range}
 use Rattle.zl_rights.specs.declared.kind.Kind.{Kind}
 use Rattle.zl_rights.specs.declared.policy.Condition.{Condition}
 use Rattle.zl_rights.specs.Names.{kind_named, condition_named}

@@ -1,5 +1,8 @@
 -- What all lines of a program's text give together: the fields of an image.
-use Rattle.zl_code.specs.Common.{ℕ, suc, Bool, true, false, ◌&&◌, not, ◌==◌, nat_le, List, [], ◌∷◌, ◌++◌, length, take, Option, Some, None, is_some, if◌then◌else◌, option_map, flat_map, find, list_all, needs_named, bytes_of, instr_fault}
+use Rattle.std.specs.Prelude.{ℕ, suc, Bool, true, false, ◌&&◌, not, ◌==◌, nat_le, List, [], ◌∷◌, ◌++◌, length, take, Option, Some, None, is_some, if◌then◌else◌}
+use Rattle.std.specs.Option.{option_map}
+use Rattle.std.specs.List.{flat_map, find, list_all}
+use Rattle.zl_code.specs.Common.{needs_named, bytes_of, instr_fault}
 use Rattle.std.specs.Cmp.Lexicographic.{pointwise}
 use Rattle.zl_rights.specs.declared.policy.Condition.{Condition}
 use Rattle.zl_code.specs.declared.image.Start.{Start}

@@ -1,6 +1,7 @@
 -- The pieces of a text as the disassembler writes them, each line with its end. No public clause cites this module.
-use Rattle.zl_code.specs.Common.{ℕ, ◌≡◌, ◌<◌, Bool, false, List, [], ◌∷◌, ◌++◌, codes, map, length, take, get_or, Result, OnOk, string_bytes, if◌then◌else◌, flat_map, condition_name, bits, Image, is_among, reading_of}
-use Rattle.std.specs.Prelude.{String}
+use Rattle.std.specs.List.{flat_map}
+use Rattle.zl_code.specs.Common.{condition_name, bits, Image, is_among, reading_of}
+use Rattle.std.specs.Prelude.{ℕ, ◌≡◌, ◌<◌, Bool, false, List, [], ◌∷◌, ◌++◌, codes, map, length, take, get_or, Result, OnOk, string_bytes, if◌then◌else◌, String}
 use Rattle.std.specs.Fmt.{decimal}
 use Rattle.zl_rights.specs.declared.policy.Condition.{Condition}
 use Rattle.zl_rights.specs.declared.policy.Condition.TheVariants as condition

@@ -1,5 +1,6 @@
 -- What the words and the lines that were read stand for. No public clause cites this module.
-use Rattle.zl_code.specs.Common.{ℕ, List, map, option_map}
+use Rattle.std.specs.Prelude.{ℕ, List, map}
+use Rattle.std.specs.Option.{option_map}
 use denote.Ref.{Bor}
 use Rattle.zl_asm.specs.declared.line.Line.{Line as ReadLine}
 use Rattle.zl_asm.specs.declared.line.Line.TheVariants as read

@@ -1,7 +1,7 @@
 -- The words of a line of a program's text: numbers, registers and names.
-use Rattle.zl_code.specs.Common.{ℕ, ◌+◌, ◌-◌, ◌*◌, ◌^◌, Bool, false, not, ◌&&◌, ◌||◌, ◌==◌, nat_lt, nat_le, List, [], ◌∷◌, ◌++◌, codes, length, drop, fold, Option, Some, None, is_some, if◌then◌else◌, list_all, starts_with}
+use Rattle.std.specs.Prelude.{ℕ, ◌+◌, ◌-◌, ◌*◌, ◌^◌, Bool, false, not, ◌&&◌, ◌||◌, ◌==◌, nat_lt, nat_le, List, [], ◌∷◌, ◌++◌, codes, length, drop, fold, Option, Some, None, is_some, if◌then◌else◌}
 use Rattle.std.specs.Option.{unwrap_or}
-use Rattle.std.specs.List.{slice_split}
+use Rattle.std.specs.List.{list_all, starts_with, slice_split}
 use Rattle.std.specs.Cmp.Lexicographic.{pointwise}
 use Rattle.zl_code.specs.Limits.{register_count}
 

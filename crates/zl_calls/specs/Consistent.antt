@@ -1,5 +1,8 @@
 -- What is true of every world that this crate makes.
-use Rattle.zl_code.specs.Common.{ℕ, ◌≡◌, ◌<◌, ◌≤◌, ◌^◌, Bool, true, false, ◌||◌, not, List, map, Some, IsTrue, nat_cmp, is_sorted, bits, within, default_rights_of, Map, get, has_key, Process as ProcessValue, kind_of, is_process, runs, handles_to}
+use Rattle.std.specs.Prelude.{ℕ, ◌≡◌, ◌<◌, ◌≤◌, ◌^◌, Bool, true, false, ◌||◌, not, List, map, Some, IsTrue}
+use Rattle.std.specs.Ordering.{nat_cmp}
+use Rattle.std.specs.FinMap.Entries.{is_sorted}
+use Rattle.zl_code.specs.Common.{bits, within, default_rights_of, Map, get, has_key, Process as ProcessValue, kind_of, is_process, runs, handles_to}
 use Rattle.zl_rights.specs.declared.entry.Entry.{Entry}
 use Rattle.zl_table.specs.Table.{IsTable}
 use Rattle.zl_calls.specs.declared.objects.Body.{Body}

@@ -1,5 +1,6 @@
 -- The Cpu of a process that starts, its slots, and instructions that are never stuck. No public clause cites this module.
-use Rattle.zl_code.specs.Common.{ℕ, Bool, true, false, List, [], Option, Some, None, slice_get, slice_set, replicate, Cpu, Image, bytes_of}
+use Rattle.std.specs.Prelude.{ℕ, Bool, true, false, List, [], Option, Some, None, slice_get, slice_set, replicate}
+use Rattle.zl_code.specs.Common.{Cpu, Image, bytes_of}
 use Rattle.zl_code.specs.declared.instr.LocalInstr.{LocalInstr}
 use Rattle.zl_code.specs.declared.instr.LocalInstr.TheVariants as local
 use Rattle.zl_code.specs.declared.image.SlotArray.{SlotArray}

@@ -1,6 +1,6 @@
 -- What one statement of a boot does to the processes and objects made so far.
-use Rattle.zl_code.specs.Common.{ℕ, ◌≡◌, ◌<◌, List, length, take, Option, Some, None, IsTrue, World, Library, boot_fault, boot_effect, may_boot, Boots, origin}
-use Rattle.std.specs.Prelude.{max}
+use Rattle.zl_code.specs.Common.{World, Library, boot_fault, boot_effect, may_boot, Boots, origin}
+use Rattle.std.specs.Prelude.{ℕ, ◌≡◌, ◌<◌, List, length, take, Option, Some, None, IsTrue, max}
 use Rattle.zl_code.specs.declared.boot.BootCause.{BootCause}
 use Rattle.zl_code.specs.declared.boot.BootCause.TheVariants as cause
 use Rattle.zl_code.specs.declared.boot.Statement.{Statement}

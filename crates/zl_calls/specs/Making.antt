@@ -1,5 +1,9 @@
 -- What the statements of a boot make, before what isn't held is gone. No public clause cites this module.
-use Rattle.zl_code.specs.Common.{ℕ, ◌≡◌, ◌+◌, ◌<◌, ◌≤◌, true, IsTrue, List, [], ◌∷◌, map, None, All, nat_cmp, is_sorted, has_key}
+use Rattle.std.specs.Prelude.{ℕ, ◌≡◌, ◌+◌, ◌<◌, ◌≤◌, true, IsTrue, List, [], ◌∷◌, map, None}
+use Rattle.std.specs.List.{All}
+use Rattle.std.specs.Ordering.{nat_cmp}
+use Rattle.std.specs.FinMap.Entries.{is_sorted}
+use Rattle.zl_code.specs.Common.{has_key}
 use Rattle.zl_code.specs.Boot.{MOST_KOIDS}
 use Rattle.zl_calls.specs.declared.objects.Body.TheVariants as body
 use Rattle.zl_calls.specs.declared.objects.Object.{Object}

@@ -1,5 +1,7 @@
 -- What the definitions of calls see of the objects: each with its count of handles, by koid. No public clause cites this module.
-use Rattle.zl_code.specs.Common.{ℕ, ◌≡◌, ◌+◌, ◌-◌, ◌^◌, ◌<◌, IsTrue, Bool, true, false, ◌&&◌, ◌||◌, ◌==◌, nat_lt, [], ◌∷◌, ◌++◌, Option, Some, None, length, take, if◌then◌else◌, list_any, Map, get, update, without, has_key}
+use Rattle.std.specs.Prelude.{ℕ, ◌≡◌, ◌+◌, ◌-◌, ◌^◌, ◌<◌, IsTrue, Bool, true, false, ◌&&◌, ◌||◌, ◌==◌, nat_lt, [], ◌∷◌, ◌++◌, Option, Some, None, length, take, if◌then◌else◌}
+use Rattle.std.specs.List.{list_any}
+use Rattle.zl_code.specs.Common.{Map, get, update, without, has_key}
 use Rattle.zl_rights.specs.declared.entry.Entry.{Entry}
 use Rattle.zl_rights.specs.Numbers.{changed}
 use Rattle.zl_calls.specs.declared.objects.Body.{Body}

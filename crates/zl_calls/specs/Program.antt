@@ -1,5 +1,6 @@
 -- What the definitions see of a program.
-use Rattle.zl_code.specs.Common.{false, Program as ProgramValue}
+use Rattle.std.specs.Prelude.{false}
+use Rattle.zl_code.specs.Common.{Program as ProgramValue}
 use Rattle.zl_calls.specs.declared.program.Program.{Program}
 use Rattle.zl_calls.specs.declared.program.Program.TheVariants as program
 

@@ -1,5 +1,7 @@
 -- The world that a list of statements makes, or the first fault.
-use Rattle.zl_rights.specs.Common.{ℕ, ◌≡◌, ◌<◌, ◌≤◌, Bool, true, false, ◌||◌, not, nat_lt, nat_le, List, [], ◌∷◌, length, take, Option, Some, None, is_some, slice_get, IsTrue, then_some, put, World, Process, Body, JobBody, ProcessBody, Settles}
+use Rattle.std.specs.Prelude.{ℕ, ◌≡◌, ◌<◌, ◌≤◌, Bool, true, false, ◌||◌, not, nat_lt, nat_le, List, [], ◌∷◌, length, take, Option, Some, None, is_some, slice_get, IsTrue}
+use Rattle.std.specs.Bool.{then_some}
+use Rattle.zl_rights.specs.Common.{put, World, Process, Body, JobBody, ProcessBody, Settles}
 use Rattle.zl_code.specs.First.{first_some}
 use Rattle.zl_rights.specs.declared.entry.Entry.{Entry}
 use Rattle.zl_code.specs.declared.boot.Statement.{Statement}

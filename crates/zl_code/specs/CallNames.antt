@@ -1,5 +1,5 @@
 -- The names of system calls, in the text of a program and in a trace.
-use Rattle.zl_rights.specs.Common.{ℕ, List, codes}
+use Rattle.std.specs.Prelude.{ℕ, List, codes}
 use Rattle.zl_code.specs.declared.history.CallName.{CallName}
 use Rattle.zl_code.specs.declared.history.CallName.TheVariants as call
 

@@ -1,5 +1,5 @@
 -- The names that most definitions above this crate cite, passed on from one place. Declares nothing.
-pub use Rattle.zl_rights.specs.Common.{All, Blocked, Body, Bool, ChannelEnd, Cpu, Created, DUPLICATE, Ended, Err, EventBody, Gone, IfErr, IfNone, IfOk, IfSome, IsSome, IsTrue, JobBody, Koids, List, Map, None, Object, Ok, OnOk, Option, PortBody, Process, ProcessBody, Ready, Result, SIGNAL, SIGNALED, STUCK, Settles, Some, State, World, [], below_all, bit_and, bits, codes, condition_name, condition_number, count_by, default_rights_of, drop, false, filter, find, flat_map, fold, get_or, has_key, if◌then◌else◌, is_empty, is_ready, is_some, is_sorted, kind_of, length, list_all, list_any, lives, map, narrowed, nat_cmp, nat_le, nat_lt, not, option_map, option_or, pos, position, process_settled, queue_of, replicate, rights_of, runs, slice_get, slice_index, slice_set, starts_with, state_passes, string_bytes, suc, sum_by, take, then_some, true, within, zero, ℕ, ℤ, ⊤, ◌%◌, ◌&&◌, ◌*◌, ◌++◌, ◌+◌, ◌-◌, ◌/◌, ◌<◌, ◌==◌, ◌^◌, ◌||◌, ◌∷◌, ◌≡◌, ◌≢◌, ◌≤◌, ◌⊎◌}
+pub use Rattle.zl_rights.specs.Common.{Blocked, Body, ChannelEnd, Cpu, Created, DUPLICATE, Ended, EventBody, Gone, JobBody, Koids, Map, Object, PortBody, Process, ProcessBody, Ready, SIGNAL, SIGNALED, STUCK, Settles, State, World, bits, condition_name, condition_number, default_rights_of, has_key, is_empty, is_ready, kind_of, lives, narrowed, process_settled, queue_of, rights_of, runs, state_passes, within}
 unfoldable pub use Rattle.zl_rights.specs.Common.{answered, each, fired, get, has_living_child, in_queue, in_table, is_held, is_process, put, update, wakes, where_key, without, without_others}
 pub use Rattle.zl_code.specs.Boot.{Boots, FirstFault, IsBoot, MOST_ITEMS, at_limit, at_statement, is_job_body, may_boot, origin}
 unfoldable pub use Rattle.zl_code.specs.Boot.{boot_effect, boot_fault}

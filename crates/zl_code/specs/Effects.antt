@@ -1,6 +1,6 @@
 -- The table of calls: what a call does that is answered OK, and what its answer gives.
-use Rattle.zl_rights.specs.Common.{ℕ, ◌+◌, ◌%◌, ◌^◌, ℤ, pos, Bool, true, false, ◌&&◌, not, ◌==◌, nat_lt, List, [], ◌∷◌, ◌++◌, map, Option, Some, None, if◌then◌else◌, rights_of, default_rights_of, get, put, without, update, has_key, World, Process, Blocked, Ended, Object, Body, EventBody, lives}
-use Rattle.std.specs.Prelude.{◌-ℤ◌}
+use Rattle.zl_rights.specs.Common.{rights_of, default_rights_of, get, put, without, update, has_key, World, Process, Blocked, Ended, Object, Body, EventBody, lives}
+use Rattle.std.specs.Prelude.{ℕ, ◌+◌, ◌%◌, ◌^◌, ℤ, pos, Bool, true, false, ◌&&◌, not, ◌==◌, nat_lt, List, [], ◌∷◌, ◌++◌, map, Option, Some, None, if◌then◌else◌, ◌-ℤ◌}
 use Rattle.std.specs.List.{filter}
 use Rattle.zl_rights.specs.declared.kind.Kind.{Kind}
 use Rattle.zl_rights.specs.declared.kind.Kind.TheVariants as kind

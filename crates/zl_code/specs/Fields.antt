@@ -1,5 +1,5 @@
 -- What the decoder has read of the 16 bytes of an instruction. No public clause cites this module.
-use Rattle.zl_rights.specs.Common.{[], ◌∷◌}
+use Rattle.std.specs.Prelude.{[], ◌∷◌}
 use Rattle.zl_code.specs.declared.fields.Fields.{Fields}
 use Rattle.zl_code.specs.Spells.{Reading}
 

@@ -1,5 +1,5 @@
 -- The first of several that may be there.
-use Rattle.zl_rights.specs.Common.{List, [], ◌∷◌, Option, Some, None}
+use Rattle.std.specs.Prelude.{List, [], ◌∷◌, Option, Some, None}
 
 -- the first that is there
 abbrev pub first_some : {T : Type 0} → List (Option T) → Option T

@@ -1,5 +1,9 @@
 -- Handles: their places are apart, their rights are those of a first handle at most, and what they name is there.
-use Rattle.zl_rights.specs.Common.{ℕ, ◌≡◌, Bool, List, [], ◌∷◌, Some, IsTrue, All, list_all, nat_cmp, is_sorted, bits, within, default_rights_of, Map, get, World, Process, Object, kind_of, queue_of}
+use Rattle.std.specs.Prelude.{ℕ, ◌≡◌, Bool, List, [], ◌∷◌, Some, IsTrue}
+use Rattle.std.specs.List.{All, list_all}
+use Rattle.std.specs.Ordering.{nat_cmp}
+use Rattle.std.specs.FinMap.Entries.{is_sorted}
+use Rattle.zl_rights.specs.Common.{bits, within, default_rights_of, Map, get, World, Process, Object, kind_of, queue_of}
 use Rattle.zl_rights.specs.declared.entry.Entry.{Entry}
 use Rattle.zl_code.specs.declared.history.TraceItem.{TraceItem}
 use Rattle.zl_code.specs.Image.{Library}

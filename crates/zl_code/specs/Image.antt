@@ -1,5 +1,7 @@
 -- Images, programs and libraries.
-use Rattle.zl_rights.specs.Common.{ℕ, Bool, true, false, ◌==◌, List, [], ◌∷◌, filter, Option, Some, None, slice_get, list_any, condition_number}
+use Rattle.std.specs.Prelude.{ℕ, Bool, true, false, ◌==◌, List, [], ◌∷◌, filter, Option, Some, None, slice_get}
+use Rattle.std.specs.List.{list_any}
+use Rattle.zl_rights.specs.Common.{condition_number}
 use Rattle.zl_rights.specs.declared.policy.Condition.{Condition}
 use Rattle.zl_rights.specs.declared.policy.Condition.TheVariants as condition
 use Rattle.zl_code.specs.declared.image.Start.{Start}

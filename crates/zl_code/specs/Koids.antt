@@ -1,5 +1,6 @@
 -- Koids are given once: what a step may do to them.
-use Rattle.zl_rights.specs.Common.{ℕ, ◌≡◌, ◌<◌, ◌≤◌, false, Some, IsTrue, get, has_key, World, Object, kind_of}
+use Rattle.std.specs.Prelude.{ℕ, ◌≡◌, ◌<◌, ◌≤◌, false, Some, IsTrue}
+use Rattle.zl_rights.specs.Common.{get, has_key, World, Object, kind_of}
 
 -- each object has a koid that was given
 pub record HasGivenKoids (w : World) : Type 0 where

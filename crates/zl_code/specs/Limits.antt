@@ -1,5 +1,5 @@
 -- The limits of the rules and the sizes of the image format, each by one name.
-use Rattle.zl_rights.specs.Common.{ℕ}
+use Rattle.std.specs.Prelude.{ℕ}
 
 -- the most instructions of an image
 abbrev pub most_instructions : ℕ

@@ -1,6 +1,6 @@
 -- The effect of one local instruction on a Cpu, row by row.
-use Rattle.zl_rights.specs.Common.{ℕ, ◌+◌, ◌-◌, ◌*◌, ◌/◌, ◌%◌, ◌^◌, Bool, not, ◌==◌, nat_lt, nat_le, List, ◌++◌, take, drop, length, Option, Some, None, if◌then◌else◌, bit_and, slice_index, slice_set, slice_get, within, Cpu}
-use Rattle.std.specs.Prelude.{bit_or, bit_xor}
+use Rattle.zl_rights.specs.Common.{within, Cpu}
+use Rattle.std.specs.Prelude.{ℕ, ◌+◌, ◌-◌, ◌*◌, ◌/◌, ◌%◌, ◌^◌, Bool, not, ◌==◌, nat_lt, nat_le, List, ◌++◌, take, drop, length, Option, Some, None, if◌then◌else◌, bit_and, slice_index, slice_set, slice_get, bit_or, bit_xor}
 use Rattle.zl_code.specs.declared.instr.LocalInstr.{LocalInstr}
 use Rattle.zl_code.specs.declared.instr.LocalInstr.TheVariants as local
 use Rattle.zl_code.specs.Spells.{number_of, bytes_of}

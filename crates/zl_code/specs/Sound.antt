@@ -1,5 +1,6 @@
 -- What is true of every world of a run from a boot world, and what no step changes of a process.
-use Rattle.zl_rights.specs.Common.{ℕ, ◌≡◌, ◌≤◌, ◌<◌, Bool, true, false, ◌&&◌, ◌==◌, nat_lt, [], length, Option, Some, None, if◌then◌else◌, IsTrue, within, Map, get, has_key, World, Process, State, Blocked, Object, Body, PortBody, ProcessBody, lives, runs, is_process}
+use Rattle.std.specs.Prelude.{ℕ, ◌≡◌, ◌≤◌, ◌<◌, Bool, true, false, ◌&&◌, ◌==◌, nat_lt, [], length, Option, Some, None, if◌then◌else◌, IsTrue}
+use Rattle.zl_rights.specs.Common.{within, Map, get, has_key, World, Process, State, Blocked, Object, Body, PortBody, ProcessBody, lives, runs, is_process}
 use Rattle.std.specs.List.{filter}
 use Rattle.zl_rights.specs.declared.entry.Entry.{Entry}
 use Rattle.zl_code.specs.Tests.{body_in}

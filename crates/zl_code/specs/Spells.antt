@@ -1,5 +1,9 @@
 -- The image grammar: the bytes of an image, field by field, and the first fault of bytes that are no image's.
-use Rattle.zl_rights.specs.Common.{ℕ, zero, suc, ◌≡◌, ◌+◌, ◌*◌, ◌/◌, ◌%◌, Bool, true, false, ◌&&◌, ◌||◌, not, ◌==◌, nat_lt, nat_le, List, [], ◌∷◌, ◌++◌, map, take, drop, replicate, length, slice_index, Option, Some, None, is_some, if◌then◌else◌, IsTrue, option_map, flat_map, list_all, starts_with, then_some, bits, within, default_rights_of, condition_number}
+use Rattle.std.specs.Prelude.{ℕ, zero, suc, ◌≡◌, ◌+◌, ◌*◌, ◌/◌, ◌%◌, Bool, true, false, ◌&&◌, ◌||◌, not, ◌==◌, nat_lt, nat_le, List, [], ◌∷◌, ◌++◌, map, take, drop, replicate, length, slice_index, Option, Some, None, is_some, if◌then◌else◌, IsTrue}
+use Rattle.std.specs.Option.{option_map}
+use Rattle.std.specs.List.{flat_map, list_all, starts_with}
+use Rattle.std.specs.Bool.{then_some}
+use Rattle.zl_rights.specs.Common.{bits, within, default_rights_of, condition_number}
 use Rattle.zl_code.specs.First.{first_some}
 use Rattle.zl_rights.specs.declared.kind.Kind.{Kind}
 use Rattle.zl_rights.specs.declared.kind.Kind.TheVariants as kind

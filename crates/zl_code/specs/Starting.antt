@@ -1,5 +1,6 @@
 -- What a process begins with, whether boot makes it or a call.
-use Rattle.zl_rights.specs.Common.{ℕ, ◌+◌, List, [], ◌∷◌, replicate, map, Option, Some, None, slice_get, slice_set, Cpu, Process, Created, Ready}
+use Rattle.std.specs.Prelude.{ℕ, ◌+◌, List, [], ◌∷◌, replicate, map, Option, Some, None, slice_get, slice_set}
+use Rattle.zl_rights.specs.Common.{Cpu, Process, Created, Ready}
 use Rattle.zl_code.specs.Image.{Library, Program}
 
 -- ---- a process that isn't started yet

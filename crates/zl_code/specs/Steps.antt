@@ -1,5 +1,7 @@
 -- Steps, runs and legal histories.
-use Rattle.zl_rights.specs.Common.{ℕ, ◌≡◌, Bool, true, nat_lt, List, [], ◌∷◌, replicate, Option, Some, None, slice_get, IsTrue, flat_map, list_all, STUCK, get, World, Cpu, Process, Ready, Settles, wakes}
+use Rattle.std.specs.Prelude.{ℕ, ◌≡◌, Bool, true, nat_lt, List, [], ◌∷◌, replicate, Option, Some, None, slice_get, IsTrue}
+use Rattle.std.specs.List.{flat_map, list_all}
+use Rattle.zl_rights.specs.Common.{STUCK, get, World, Cpu, Process, Ready, Settles, wakes}
 use Rattle.zl_code.specs.declared.instr.Instr.{Instr}
 use Rattle.zl_code.specs.declared.instr.Instr.TheVariants as instr
 use Rattle.zl_code.specs.declared.history.CallName.{CallName}

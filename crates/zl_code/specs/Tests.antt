@@ -1,6 +1,8 @@
 -- The words in which the table of calls is written.
-use Rattle.zl_rights.specs.Common.{ℕ, ◌+◌, ◌^◌, Bool, ◌&&◌, ◌==◌, nat_le, List, [], ◌∷◌, length, Option, Some, None, Result, Ok, Err, if◌then◌else◌, list_any, sum_by, count_by, then_some, narrowed, condition_number, Map, get, World, Process, Object, Body, ChannelEnd, JobBody, ProcessBody}
-use Rattle.std.specs.Prelude.{unwrap_or}
+use Rattle.std.specs.List.{list_any, sum_by, count_by}
+use Rattle.std.specs.Bool.{then_some}
+use Rattle.zl_rights.specs.Common.{narrowed, condition_number, Map, get, World, Process, Object, Body, ChannelEnd, JobBody, ProcessBody}
+use Rattle.std.specs.Prelude.{ℕ, ◌+◌, ◌^◌, Bool, ◌&&◌, ◌==◌, nat_le, List, [], ◌∷◌, length, Option, Some, None, Result, Ok, Err, if◌then◌else◌, unwrap_or}
 use Rattle.zl_code.specs.First.{first_some}
 use Rattle.zl_rights.specs.declared.rights.Rights.{Rights}
 use Rattle.zl_rights.specs.declared.kind.Kind.{Kind}

@@ -1,10 +1,4 @@
 -- The names that most definitions cite, passed on from one place. Declares nothing.
-pub use Rattle.std.specs.Bool.{then_some}
-pub use Rattle.std.specs.FinMap.Entries.{below_all, is_sorted}
-pub use Rattle.std.specs.List.{All, count_by, find, flat_map, list_all, list_any, position, starts_with, sum_by}
-pub use Rattle.std.specs.Option.{option_map, option_or}
-pub use Rattle.std.specs.Ordering.{nat_cmp}
-pub use Rattle.std.specs.Prelude.{Bool, Err, IfErr, IfNone, IfOk, IfSome, IsSome, IsTrue, List, None, Ok, OnOk, Option, Result, Some, [], bit_and, codes, drop, false, filter, fold, get_or, if◌then◌else◌, is_some, length, map, nat_le, nat_lt, not, pos, replicate, slice_get, slice_index, slice_set, string_bytes, suc, take, true, zero, ℕ, ℤ, ⊤, ◌%◌, ◌&&◌, ◌*◌, ◌++◌, ◌+◌, ◌-◌, ◌/◌, ◌<◌, ◌==◌, ◌^◌, ◌||◌, ◌∷◌, ◌≡◌, ◌≢◌, ◌≤◌, ◌⊎◌}
 pub use Rattle.zl_rights.specs.Map.{Map, has_key}
 unfoldable pub use Rattle.zl_rights.specs.Map.{each, get, put, update, where_key, without}
 pub use Rattle.zl_rights.specs.Names.{condition_name}

@@ -1,6 +1,8 @@
 -- How the table is stored. No public clause cites this module.
-use Rattle.zl_rights.specs.Common.{◌≡◌, ◌≢◌, ℕ, ◌+◌, ◌-◌, ◌<◌, ◌≤◌, List, length, Option, None, IfSome, IsTrue, slice_index, slice_get, nat_cmp, is_sorted, Map, get, has_key}
-use Rattle.std.specs.Prelude.{unwrap_or}
+use Rattle.std.specs.Ordering.{nat_cmp}
+use Rattle.std.specs.FinMap.Entries.{is_sorted}
+use Rattle.zl_rights.specs.Common.{Map, get, has_key}
+use Rattle.std.specs.Prelude.{◌≡◌, ◌≢◌, ℕ, ◌+◌, ◌-◌, ◌<◌, ◌≤◌, List, length, Option, None, IfSome, IsTrue, slice_index, slice_get, unwrap_or}
 use Rattle.std.specs.List.{HoldsAt}
 use Rattle.std.specs.List.Sorted.{IsPartitionPoint}
 use Rattle.zl_rights.specs.declared.entry.Entry.{Entry}

@@ -1,5 +1,8 @@
 -- The table of a process: its handles by their values, and what operations make of it.
-use Rattle.zl_rights.specs.Common.{◌≡◌, ℕ, ◌<◌, ◌≤◌, length, Option, Some, None, IfSome, IsTrue, nat_cmp, is_sorted, Map, get, put, without, has_key}
+use Rattle.std.specs.Prelude.{◌≡◌, ℕ, ◌<◌, ◌≤◌, length, Option, Some, None, IfSome, IsTrue}
+use Rattle.std.specs.Ordering.{nat_cmp}
+use Rattle.std.specs.FinMap.Entries.{is_sorted}
+use Rattle.zl_rights.specs.Common.{Map, get, put, without, has_key}
 use Rattle.zl_rights.specs.declared.entry.Entry.{Entry}
 use Rattle.zl_table.specs.declared.table.InsertFault.{InsertFault}
 use Rattle.zl_table.specs.declared.table.InsertFault.TheVariants as fault

@@ -1,5 +1,6 @@
 -- The answer of the assembler to a text, for one writer or for the other.
-use Rattle.zl_code.specs.Common.{ℕ, ◌≡◌, ◌≢◌, ◌⊎◌, ◌<◌, List, length, Option, None, Image, Spells}
+use Rattle.std.specs.Prelude.{ℕ, ◌≡◌, ◌≢◌, ◌⊎◌, ◌<◌, List, length, Option, None}
+use Rattle.zl_code.specs.Common.{Image, Spells}
 use Rattle.std.specs.Io.KnownBytes.{Appends}
 use Rattle.zl_asm.specs.declared.fault.AsmFault.{AsmFault}
 use Rattle.zl_asm.specs.declared.fault.AsmCause.TheVariants as cause

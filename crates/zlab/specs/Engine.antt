@@ -1,5 +1,7 @@
 -- What the step engine answers to the bytes that it has read.
-use Rattle.zl_code.specs.Common.{ℕ, ◌≡◌, ◌<◌, ◌≤◌, List, [], length, map, Option, Some, None, IfSome, slice_get, flat_map, World, IsBoot, FirstFault, Library, IsLegalHistory, single, IsSound}
+use Rattle.std.specs.Prelude.{ℕ, ◌≡◌, ◌<◌, ◌≤◌, List, [], length, map, Option, Some, None, IfSome, slice_get}
+use Rattle.std.specs.List.{flat_map}
+use Rattle.zl_code.specs.Common.{World, IsBoot, FirstFault, Library, IsLegalHistory, single, IsSound}
 use Rattle.std.specs.Io.KnownBytes.{Appends}
 use Rattle.zl_code.specs.declared.boot.BootCause.{BootCause}
 use Rattle.zl_code.specs.declared.boot.BootCause.TheVariants as boot

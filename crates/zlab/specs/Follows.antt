@@ -1,5 +1,7 @@
 -- A history that follows a schedule, turn by turn, and how it ends.
-use Rattle.zl_code.specs.Common.{ℕ, ◌≡◌, ◌<◌, true, false, List, [], ◌∷◌, ◌++◌, length, replicate, IsTrue, flat_map, World, is_process, is_ready, Library, Step}
+use Rattle.std.specs.Prelude.{ℕ, ◌≡◌, ◌<◌, true, false, List, [], ◌∷◌, ◌++◌, length, replicate, IsTrue}
+use Rattle.std.specs.List.{flat_map}
+use Rattle.zl_code.specs.Common.{World, is_process, is_ready, Library, Step}
 use Rattle.zl_code.specs.declared.history.TraceItem.{TraceItem}
 use Rattle.zlab.specs.declared.system.End.{End}
 use Rattle.zlab.specs.declared.system.End.TheVariants as end

@@ -1,6 +1,6 @@
 -- Words, numbers and digits of a scenario. Its lines are cut as those of the assembler's text (`lines_of` of `zl_asm`).
-use Rattle.zl_code.specs.Common.{ℕ, Bool, ◌+◌, ◌-◌, ◌*◌, ◌/◌, ◌%◌, ◌^◌, ◌&&◌, not, ◌==◌, nat_lt, nat_le, List, [], ◌∷◌, codes, length, filter, fold, Option, Some, None, if◌then◌else◌, list_all, starts_with}
-use Rattle.std.specs.List.{slice_split}
+use Rattle.std.specs.Prelude.{ℕ, Bool, ◌+◌, ◌-◌, ◌*◌, ◌/◌, ◌%◌, ◌^◌, ◌&&◌, not, ◌==◌, nat_lt, nat_le, List, [], ◌∷◌, codes, length, filter, fold, Option, Some, None, if◌then◌else◌}
+use Rattle.std.specs.List.{list_all, starts_with, slice_split}
 
 -- ---- words
 

@@ -1,5 +1,5 @@
 -- What an engine writes.
-use Rattle.zl_code.specs.Common.{◌≡◌, ℕ, List, ◌++◌, Option}
+use Rattle.std.specs.Prelude.{◌≡◌, ℕ, List, ◌++◌, Option}
 use Rattle.std.specs.Io.KnownBytes.{Appends}
 
 -- a writer took a beginning of the bytes, as far as it tells what it holds

@@ -1,5 +1,6 @@
 -- What the reader of scenarios makes and answers, beside what the text says.
-use Rattle.zl_code.specs.Common.{ℕ, ◌≡◌, Bool, true, false, List, [], ◌∷◌, map, None, is_some, Result, Ok, Err, Image, Library, Program, Spells, spelling, is_in_range, first_fault}
+use Rattle.std.specs.Prelude.{ℕ, ◌≡◌, Bool, true, false, List, [], ◌∷◌, map, None, is_some, Result, Ok, Err}
+use Rattle.zl_code.specs.Common.{Image, Library, Program, Spells, spelling, is_in_range, first_fault}
 use Rattle.zlab.specs.declared.fault.Cause.{Cause}
 use Rattle.zlab.specs.declared.fault.Cause.TheVariants as cause
 use Rattle.zlab.specs.declared.scenario.Scenario.{Scenario as Made}

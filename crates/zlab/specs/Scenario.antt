@@ -1,5 +1,6 @@
 -- What the lines of a scenario and of its schedule say, one after another, and the first fault of each.
-use Rattle.zl_code.specs.Common.{ℕ, ◌≡◌, ◌≤◌, ◌+◌, ◌%◌, Bool, false, ◌&&◌, not, ◌==◌, nat_lt, nat_le, List, [], ◌∷◌, ◌++◌, length, codes, Option, Some, None, is_some, IfSome, Result, Ok, Err, if◌then◌else◌, MOST_ITEMS, first_fault}
+use Rattle.std.specs.Prelude.{ℕ, ◌≡◌, ◌≤◌, ◌+◌, ◌%◌, Bool, false, ◌&&◌, not, ◌==◌, nat_lt, nat_le, List, [], ◌∷◌, ◌++◌, length, codes, Option, Some, None, is_some, IfSome, Result, Ok, Err, if◌then◌else◌}
+use Rattle.zl_code.specs.Common.{MOST_ITEMS, first_fault}
 use Rattle.zl_code.specs.declared.boot.Statement.{Statement}
 use Rattle.zl_code.specs.declared.boot.Statement.TheVariants as statement
 use Rattle.zl_asm.specs.Denotes.{image_bytes_of}

@@ -1,5 +1,6 @@
 -- A lab with its trace, and what turns do to them.
-use Rattle.zl_code.specs.Common.{ℕ, ◌≡◌, ◌<◌, ◌≤◌, ◌-◌, false, List, [], ◌∷◌, ◌++◌, length, IsTrue, Step}
+use Rattle.std.specs.Prelude.{ℕ, ◌≡◌, ◌<◌, ◌≤◌, ◌-◌, false, List, [], ◌∷◌, ◌++◌, length, IsTrue}
+use Rattle.zl_code.specs.Common.{Step}
 use Rattle.zl_code.specs.declared.history.TraceItem.{TraceItem}
 use Rattle.zl_calls.specs.World.{World, is_ready_in}
 use Rattle.zlab.specs.declared.system.Stepped.{Stepped}

@@ -1,5 +1,7 @@
 -- The text of a trace: a line for each item, for each process, and for the end; or the line of a refusal.
-use Rattle.zl_code.specs.Common.{ℕ, List, ◌++◌, codes, flat_map, call_name}
+use Rattle.std.specs.Prelude.{ℕ, List, ◌++◌, codes}
+use Rattle.std.specs.List.{flat_map}
+use Rattle.zl_code.specs.Common.{call_name}
 use Rattle.std.specs.Fmt.{decimal, signed_decimal}
 use Rattle.zl_rights.specs.Names.{status_name}
 use Rattle.zl_code.specs.declared.history.CallName.{CallName}

@@ -1,5 +1,5 @@
 -- The command line: the command set as `clap` defines one, and what its words ask for.
-use Rattle.zl_code.specs.Common.{◌≡◌, ◌⊎◌, true, codes, Option, Some, None, IsSome, List, [], ◌∷◌, fold}
+use Rattle.std.specs.Prelude.{◌≡◌, ◌⊎◌, true, codes, Option, Some, None, IsSome, List, [], ◌∷◌, fold}
 use Rattle.clap.specs.Words.{App, IsAmong, Kinds, Row, Rule, Text, first_of, new_app, new_rule, with_rule, with_subcommand}
 use Rattle.clap.specs.declared.error.kind.ErrorKind.{ErrorKind}
 use Rattle.clap.specs.declared.error.kind.ErrorKind.TheVariants.{DisplayHelp, DisplayVersion, OutOfMemory}

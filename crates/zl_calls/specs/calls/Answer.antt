@@ -1,6 +1,6 @@
 -- How a call is refused and answered, which is alike for all calls. No public clause cites this module.
-use Rattle.zl_code.specs.Common.{ℕ, ℤ, ◌≡◌, ◌+◌, Bool, true, false, nat_le, List, [], ◌∷◌, length, Option, Some, None, Result, Ok, Err, ⊤, IfOk, IfErr, Map, answered, Site, cpu_answered}
-use Rattle.std.specs.Prelude.{OnErr}
+use Rattle.zl_code.specs.Common.{Map, answered, Site, cpu_answered}
+use Rattle.std.specs.Prelude.{ℕ, ℤ, ◌≡◌, ◌+◌, Bool, true, false, nat_le, List, [], ◌∷◌, length, Option, Some, None, Result, Ok, Err, ⊤, IfOk, IfErr, OnErr}
 use Rattle.zl_rights.specs.declared.status.Status.{Status}
 use Rattle.zl_rights.specs.declared.status.Status.TheVariants as status
 use Rattle.zl_rights.specs.declared.entry.Entry.{Entry}

@@ -1,6 +1,8 @@
 -- What calls on events do: event_create and signal. No public clause cites this module.
-use Rattle.zl_code.specs.Common.{ℕ, ◌≡◌, ◌<◌, ◌+◌, ◌^◌, Bool, true, false, ◌&&◌, not, nat_le, length, Option, Some, None, Result, ⊤, if◌then◌else◌, then_some, option_or, bits, within, SIGNAL, SIGNALED, Map, get}
-use Rattle.std.specs.Prelude.{bit_or}
+use Rattle.std.specs.Bool.{then_some}
+use Rattle.std.specs.Option.{option_or}
+use Rattle.zl_code.specs.Common.{bits, within, SIGNAL, SIGNALED, Map, get}
+use Rattle.std.specs.Prelude.{ℕ, ◌≡◌, ◌<◌, ◌+◌, ◌^◌, Bool, true, false, ◌&&◌, not, nat_le, length, Option, Some, None, Result, ⊤, if◌then◌else◌, bit_or}
 use Rattle.zl_rights.specs.declared.kind.Kind.{Kind}
 use Rattle.zl_rights.specs.declared.kind.Kind.TheVariants as kind
 use Rattle.zl_rights.specs.declared.status.Status.{Status}

@@ -1,5 +1,8 @@
 -- What calls on handles do: close and dup. No public clause cites this module.
-use Rattle.zl_code.specs.Common.{ℕ, ◌≡◌, ◌<◌, IsTrue, true, ◌||◌, not, length, Option, Some, None, Result, ⊤, ◌==◌, if◌then◌else◌, then_some, option_or, bits, within, narrowed, DUPLICATE, Map, get, has_key, without, is_empty, with_rights}
+use Rattle.std.specs.Prelude.{ℕ, ◌≡◌, ◌<◌, IsTrue, true, ◌||◌, not, length, Option, Some, None, Result, ⊤, ◌==◌, if◌then◌else◌}
+use Rattle.std.specs.Bool.{then_some}
+use Rattle.std.specs.Option.{option_or}
+use Rattle.zl_code.specs.Common.{bits, within, narrowed, DUPLICATE, Map, get, has_key, without, is_empty, with_rights}
 use Rattle.zl_rights.specs.declared.status.Status.{Status}
 use Rattle.zl_rights.specs.declared.status.Status.TheVariants as status
 use Rattle.zl_rights.specs.declared.entry.Entry.{Entry}

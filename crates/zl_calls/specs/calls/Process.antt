@@ -1,5 +1,5 @@
 -- What calls on processes do: process_exit. No public clause cites this module.
-use Rattle.zl_code.specs.Common.{ℤ, ◌≡◌, [], None}
+use Rattle.std.specs.Prelude.{ℤ, ◌≡◌, [], None}
 use Rattle.zl_calls.specs.declared.process.State.TheVariants as state
 use Rattle.zl_calls.specs.declared.process.Process.{Process}
 use Rattle.zl_calls.specs.Objects.{Objects, process_ended, Closes}

@@ -21,8 +21,7 @@ use Rattle.zl_code.specs.declared.boot.BootCause.TheVariants as cause
 use Rattle.zl_code.specs.declared.history.Outcome.{Outcome}
 use Rattle.zl_code.specs.declared.history.Outcome.TheVariants as outcome
 use Rattle.zl_code.specs.declared.history.TraceItem.{TraceItem}
-use Rattle.zl_code.specs.Tests.{handles_in}
-use Rattle.zl_code.specs.Refusals.{settable_of}
+use Rattle.zl_code.specs.Tests.{handles_in, settable_of}
 use Rattle.zl_code.specs.Effects.{new_entry, may_get_all, object_changed}
 use Rattle.zl_code.specs.Calls.{after_refusal, after_ok, CallBy}
 use Rattle.zl_code.specs.Boot.{is_job}

@@ -4,10 +4,12 @@ unfoldable pub use Rattle.zl_rights.specs.Common.{answered, each, fired, get, ha
 pub use Rattle.zl_code.specs.Boot.{Boots, FirstFault, IsBoot, MOST_ITEMS, at_limit, at_statement, is_job_body, may_boot, origin}
 unfoldable pub use Rattle.zl_code.specs.Boot.{boot_effect, boot_fault}
 pub use Rattle.zl_code.specs.CallNames.{call_name}
-pub use Rattle.zl_code.specs.Calls.{Calls, Choice, Refused, Values, WantsMemory, cpu_answered, grows, ok_outcome, taken}
-unfoldable pub use Rattle.zl_code.specs.Calls.{replied}
-pub use Rattle.zl_code.specs.Effects.{may_get, process_with, process_without, with_effect}
-unfoldable pub use Rattle.zl_code.specs.Effects.{effect, ended, gives_ok, gives_refused, insert_all, may_choose, new_handles, on_process, remove_all, taken_handles, with_object}
+pub use Rattle.zl_code.specs.CallTable.{Request, close, dup, event_create, process_exit, signal}
+unfoldable pub use Rattle.zl_code.specs.CallTable.{effect, gives_ok, gives_refused, listed, new_handles}
+pub use Rattle.zl_code.specs.Calls.{Calls, Choice, Refused, Values, WantsMemory, cpu_answered, grows, ok_outcome, taken, with_effect}
+unfoldable pub use Rattle.zl_code.specs.Calls.{may_choose, replied, taken_handles}
+pub use Rattle.zl_code.specs.Effects.{may_get, process_with, process_without}
+unfoldable pub use Rattle.zl_code.specs.Effects.{ended, insert_all, on_process, remove_all, with_object}
 pub use Rattle.zl_code.specs.First.{first_some}
 pub use Rattle.zl_code.specs.Handles.{HandlesAreNamed, HandlesAreSound, has_default_rights, in_order, names_its_object}
 pub use Rattle.zl_code.specs.Image.{Image, Library, Program, is_among, needs_named, needs_value}
@@ -15,8 +17,8 @@ pub use Rattle.zl_code.specs.Instructions.{Layout, Row, layout_of}
 unfoldable pub use Rattle.zl_code.specs.Instructions.{row_named, row_of}
 pub use Rattle.zl_code.specs.Koids.{HasGivenKoids}
 unfoldable pub use Rattle.zl_code.specs.Local.{local_effect}
-unfoldable pub use Rattle.zl_code.specs.Refusals.{handle_operands, listed, refusal}
-pub use Rattle.zl_code.specs.Request.{Request, Site, close, dup, event_create, name_of, process_exit, signal, site}
+unfoldable pub use Rattle.zl_code.specs.Refusals.{handle_operands, refusal}
+pub use Rattle.zl_code.specs.Request.{Site, name_of, site}
 unfoldable pub use Rattle.zl_code.specs.Request.{site_of}
 pub use Rattle.zl_code.specs.Sound.{IsSound, raisable}
 pub use Rattle.zl_code.specs.Spells.{Reading, Spells, are_needs, are_registers, bytes_of, instr_bytes, is_in_range, is_instr_in_range, is_slot_in_range, is_start_in_range, needs_byte, number_at, number_of, reading_of, row_bytes, seven, slot_bytes, spelling, start_bytes}

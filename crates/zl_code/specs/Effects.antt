@@ -1,18 +1,12 @@
--- The table of calls: what a call does that is answered OK, and what its answer gives.
-use Rattle.zl_rights.specs.Common.{rights_of, default_rights_of, get, put, without, update, has_key, World, Process, Blocked, Ended, Object, Body, EventBody, lives}
-use Rattle.std.specs.Prelude.{ℕ, ◌+◌, ◌%◌, ◌^◌, ℤ, pos, Bool, true, false, ◌&&◌, not, ◌==◌, nat_lt, List, [], ◌∷◌, ◌++◌, map, Option, Some, None, if◌then◌else◌, ◌-ℤ◌}
+-- What a call can do to a world, in words that name no call.
+use Rattle.zl_rights.specs.Common.{rights_of, default_rights_of, put, without, update, has_key, World, Process, Blocked, Ended, Object, Body, lives}
+use Rattle.std.specs.Prelude.{ℕ, ◌+◌, ◌%◌, ◌^◌, ℤ, pos, Bool, true, false, ◌&&◌, not, ◌==◌, nat_lt, List, [], ◌∷◌, ◌++◌, Option, Some, None, if◌then◌else◌, ◌-ℤ◌}
 use Rattle.std.specs.List.{filter}
 use Rattle.zl_rights.specs.declared.kind.Kind.{Kind}
-use Rattle.zl_rights.specs.declared.kind.Kind.TheVariants as kind
-use Rattle.zl_rights.specs.declared.status.Status.{Status}
 use Rattle.zl_rights.specs.declared.entry.Entry.{Entry}
 use Rattle.zl_rights.specs.Numbers.{changed}
 use Rattle.zl_rights.specs.World.{Awaited}
-use Rattle.zl_code.specs.Image.{Library}
-use Rattle.zl_code.specs.Request.{Request, close, dup, event_create, signal, process_exit}
 use Rattle.zl_code.specs.Local.{overwritten}
-use Rattle.zl_code.specs.Tests.{entry_at, object_at, copy_of}
-use Rattle.zl_code.specs.Refusals.{handle_operands}
 
 -- ---- changes of a world
 
@@ -58,33 +52,11 @@ process_ended code q = if lives q.state then record q { state = Ended code; hand
 unfoldable pub ended : World → ℕ → ℤ → World
 ended w p code = record (on_process w p (process_ended code)) { blocked = filter (λ q. not (q == p)) w.blocked }
 
--- ---- the handles that a call takes and makes
-
--- the handles of the caller that are gone on every answer
-unfoldable pub taken_handles : Request → List ℕ
-taken_handles request = map (λ o. o.value) (filter (λ o. o.is_taken) (handle_operands request))
+-- ---- new handles
 
 -- the first handle to a new object
 abbrev pub new_entry : ℕ → Kind → Entry
 new_entry k kind = record { koid = k; kind = kind; rights = rights_of (default_rights_of kind) }
-
--- the handles that enter the caller's table
-unfoldable pub new_handles : World → ℕ → Request → List Entry
-new_handles w p (dup h rights) = copy_of (entry_at w p h) rights
-new_handles w p event_create = new_entry w.next_koid kind.Event ∷ []
-new_handles w p _ = []
-
--- the process whose table new handles enter; the caller's, at each call of today
-abbrev pub receiver_of : World → ℕ → Request → ℕ
-receiver_of w p request = p
-
--- the new handles whose values may be chosen; all of them, at each call of today
-abbrev pub choosing : World → ℕ → Request → List Entry
-choosing w p request = new_handles w p request
-
--- the values at which new handles enter, where the chosen ones are vs; just these, at each call of today
-abbrev pub entering_at : Request → List ℕ → List ℕ
-entering_at request vs = vs
 
 -- ---- the free choice of values
 
@@ -109,53 +81,17 @@ abbrev pub gets_all : Option Process → List Entry → List ℕ → Bool
 gets_all None es vs = false
 gets_all (Some q) es vs = may_get_all q es vs
 
--- these values may be given to the new handles; taken is the world without the operands that are always consumed
-unfoldable pub may_choose : World → World → ℕ → Request → List ℕ → Bool
-may_choose w taken p request vs = gets_all (get taken.processes (receiver_of w p request)) (choosing w p request) vs
-
--- ---- the effect
+-- ---- signals, memory and waits
 
 -- the object after some of its signals were cleared, and then some raised
 abbrev pub object_changed : ℕ → ℕ → Object → Object
 object_changed clear set o = record o { raised = changed o.raised clear set }
-
--- What the call does beside taking handles away, giving handles and writing registers, where it is answered OK.
--- w is the world before it; taken is that world without the operands that are always consumed.
-unfoldable pub effect : Library → World → World → ℕ → Request → World
-effect lib w taken p (close h) = taken
-effect lib w taken p (dup h rights) = taken
-effect lib w taken p event_create = with_object taken EventBody
-effect lib w taken p (signal h clear set) = on_object taken (object_at w p h) (object_changed clear set)
-effect lib w taken p (process_exit code) = taken
-
--- the bytes that the call stores in its caller's memory, and the address of the first; none, at each call of today
-abbrev pub stored_by : World → ℕ → Request → ℕ × List ℕ
-stored_by w p request = (0, [])
 
 -- the world with these bytes in the memory of p
 abbrev pub storing : World → ℕ → ℕ × List ℕ → World
 storing w p (address, []) = w
 storing w p (address, b ∷ bytes) =
     on_process w p (λ q. record q { cpu = record q.cpu { memory = overwritten q.cpu.memory address (b ∷ bytes) } })
-
--- all that the call does but for its caller's registers, where new handles get the values vs
-abbrev pub with_effect : Library → World → World → ℕ → Request → List ℕ → World
-with_effect lib w taken p request vs =
-    storing (insert_all (effect lib w taken p request) (receiver_of w p request) (new_handles w p request) (entering_at request vs)) p (stored_by w p request)
-
--- ---- what the answer gives
-
--- the values of the destinations behind the status, where the call is answered OK and vs were chosen
-unfoldable pub gives_ok : World → ℕ → Request → List ℕ → List ℕ
-gives_ok w p request vs = vs
-
--- the same where it is refused with the status
-unfoldable pub gives_refused : World → ℕ → Request → Status → List ℕ
-gives_refused w p request answer = []
-
--- what the caller waits for, if the call blocks; no call of today does
-abbrev pub awaited_by : World → ℕ → Request → Option Awaited
-awaited_by w p request = None
 
 -- the process is blocked, last of all, if there is something to wait for
 abbrev pub waiting : World → ℕ → List ℕ → Option Awaited → World

@@ -3,8 +3,7 @@ use Rattle.std.specs.Prelude.{ℕ, ◌≡◌, ◌≤◌, ◌<◌, Bool, true, fa
 use Rattle.zl_rights.specs.Common.{within, Map, get, has_key, World, Process, State, Blocked, Object, Body, PortBody, ProcessBody, lives, runs, is_process}
 use Rattle.std.specs.List.{filter}
 use Rattle.zl_rights.specs.declared.entry.Entry.{Entry}
-use Rattle.zl_code.specs.Tests.{body_in}
-use Rattle.zl_code.specs.Refusals.{settable_of}
+use Rattle.zl_code.specs.Tests.{body_in, settable_of}
 use Rattle.zl_code.specs.Boot.{is_job_body}
 use Rattle.zl_code.specs.Koids.{HasGivenKoids}
 use Rattle.zl_code.specs.Handles.{HandlesAreSound, HandlesAreNamed}

@@ -1,7 +1,7 @@
 -- The words in which the table of calls is written.
 use Rattle.std.specs.List.{list_any, sum_by, count_by}
 use Rattle.std.specs.Bool.{then_some}
-use Rattle.zl_rights.specs.Common.{narrowed, condition_number, Map, get, World, Process, Object, Body, ChannelEnd, JobBody, ProcessBody}
+use Rattle.zl_rights.specs.Common.{SIGNALED, within, narrowed, condition_number, Map, get, World, Process, Object, Body, ChannelEnd, EventBody, JobBody, ProcessBody}
 use Rattle.std.specs.Prelude.{ℕ, ◌+◌, ◌^◌, Bool, ◌&&◌, ◌==◌, nat_le, List, [], ◌∷◌, length, Option, Some, None, Result, Ok, Err, if◌then◌else◌, unwrap_or}
 use Rattle.zl_code.specs.First.{first_some}
 use Rattle.zl_rights.specs.declared.rights.Rights.{Rights}
@@ -13,7 +13,7 @@ use Rattle.zl_rights.specs.declared.policy.Condition.TheVariants as condition
 use Rattle.zl_rights.specs.declared.policy.Action.{Action}
 use Rattle.zl_rights.specs.declared.policy.Action.TheVariants as action
 use Rattle.zl_rights.specs.declared.entry.Entry.{Entry}
-use Rattle.zl_rights.specs.Numbers.{BY_POLICY}
+use Rattle.zl_rights.specs.Numbers.{BY_POLICY, USER_SIGNALS}
 use Rattle.zl_rights.specs.LookUp.{granted}
 use Rattle.zl_code.specs.declared.history.Outcome.{Outcome}
 use Rattle.zl_code.specs.declared.history.Outcome.TheVariants as outcome
@@ -174,6 +174,17 @@ unfoldable pub handles_to : World → ℕ → ℕ
 handles_to w k =
     sum_by (λ p. count_by (λ h. h.1.koid == k) p.1.handles) w.processes
     + sum_by (λ o. queued_to k o.1.body) w.objects
+
+-- ---- signals
+
+-- the signals that a call may set and clear
+abbrev pub settable_of : Option Body → ℕ
+settable_of (Some EventBody) = SIGNALED + USER_SIGNALS
+settable_of _ = USER_SIGNALS
+
+-- both are among those
+abbrev pub may_change : Option Body → ℕ → ℕ → Bool
+may_change b clear set = within clear (settable_of b) && within set (settable_of b)
 
 -- ---- rights
 

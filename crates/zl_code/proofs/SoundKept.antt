@@ -15,8 +15,8 @@ use Rattle.zl_code.specs.Effects.{may_get_after}
 use Rattle.zl_code.specs.Sound.{is_value, IsSoundTable, is_blocked, HasItsObject}
 use Rattle.zl_code.proofs.MapKept.{each_where_key, EachChanged, same, changed, new, changed_each, each_changed}
 use Rattle.zl_code.proofs.Changes.{MayEnter, ProcessChange, handle_enters, handle_leaves, computes, ends, wakes, ObjectChange, signals_change, packets_change, still, awake, Change}
-use Rattle.zl_code.proofs.Stepping.{length_filter}
-use Rattle.zl_code.proofs.StepChanges.{length_put, job_is_there}
+use Rattle.zl_code.proofs.Entering.{length_filter, length_put}
+use Rattle.zl_code.proofs.StepChanges.{job_is_there}
 use Rattle.zl_code.proofs.HandlesKept.{sound_change, sound_settled}
 use Rattle.zl_code.proofs.NamesKept.{named_change, named_settled, held_is_kept, list_any-get}
 use Rattle.zl_code.proofs.NotReused.{given_change, given_settled}

@@ -1,0 +1,191 @@
+-- Handles enter and leave the table of a process: where there is room values are free, and each handle is one change.
+use Rattle.zl_code.proofs.Common.{Acts, All, All-nil, AtCall, Blocked, Body, Bool, Calls, Choice, Err, EventBody, HandlesAreNamed, HandlesAreSound, IsSound, IsStuck, IsTrue, Library, List, Map, Moves, Next, None, Object, Ok, Option, PortBody, Process, ProcessBody, Ready, Refused, Request, SIGNAL, STUCK, Site, Some, State, Step, Values, WantsMemory, World, [], and_from, and_parts, answer_if, ap, arith, bits, body_in, body_of, boot_effect, boot_fault, by_look_up, cases_Bool, close, cond, copy_of, cpu_answered, default_rights_of, dup, effect, ended, entry_at, eq-eqb, event_create, examined, false, fired, first_some, get, gives_ok, gives_refused, grows, handle_operands, handles_to, has_default_rights, has_key, has_koids, has_room, if◌then◌else◌, inl, inr, insert_all, is_empty, is_job_body, is_some, kind_of, leb-true, length, listed, lt-ltb, may_choose, may_get, names_its_object, narrowed, nat_le, nat_tests, ne_eqb, new_handles, next_for, none-some, not, object_at, ok_outcome, on_process, operand, operand_of, process_exit, process_with, process_without, put, raisable, refl, refusal, remove_all, replied, rights_of, row_of, rules, runs, same_Some, signal, subst, suc, sym, taken, taken_handles, then_some, true, wakes, where_key, with_effect, with_object, with_rights, within, without, zero, ℕ, ◌&&◌, ◌+◌, ◌-◌, ◌<◌, ◌==◌, ◌^◌, ◌||◌, ◌∙◌, ◌∷◌, ◌≡◌, ◌≢◌, ◌≤◌}
+use Rattle.std.specs.List.{fold, filter}
+use Rattle.std.proofs.lemmas.Bool.{not-false, or_parts, true≢false, eq-eqb}
+use Rattle.std.proofs.lemmas.List.Elements.{All-cons, All-head, All-tail}
+use Rattle.zl_rights.specs.declared.kind.Kind.TheVariants as kind
+use Rattle.zl_rights.specs.declared.rights.Rights.{Rights}
+use Rattle.zl_rights.specs.declared.entry.Entry.{Entry}
+use Rattle.zl_rights.specs.declared.status.Status.{Status}
+use Rattle.zl_rights.specs.declared.status.Status.TheVariants as status
+use Rattle.zl_rights.specs.Numbers.{meets, takes}
+use Rattle.zl_rights.specs.World.{SignalOf, PacketAt, Packet, Awaited}
+use Rattle.zl_rights.specs.Signals.{active}
+use Rattle.zl_rights.specs.LookUp.{granted}
+use Rattle.zl_rights.proofs.MapLaws.{get-put, get-update, get-where_key-in}
+use Rattle.zl_rights.proofs.Narrowed.{narrowed_within}
+use Rattle.zl_code.specs.declared.history.Outcome.{Outcome}
+use Rattle.zl_code.specs.declared.history.Outcome.TheVariants as outcome
+use Rattle.zl_code.specs.declared.history.TraceItem.{TraceItem}
+use Rattle.zl_code.specs.Tests.{handles_in, settable_of, may_change, parent_of, action_of, ends_if_kill, faults, unless_allowed, creates, by_policy, Operand, contains, operand_after, seen_after}
+use Rattle.zl_code.specs.Effects.{new_entry, may_get_all, object_changed, gets_all}
+use Rattle.zl_code.specs.Calls.{after_refusal, after_ok, CallBy}
+use Rattle.zl_code.proofs.MapKept.{changed}
+use Rattle.zl_code.proofs.Changes.{MayEnter, handle_enters, computes, signals_change, Changes, stays, changes, settles, join, one, process_changes, handle_goes, process_ends, process_wakes, process_is_made, object_changes, object_is_made, packet_goes, waits_fire}
+use Rattle.zl_rights.specs.declared.kind.Kind.{Kind}
+use Rattle.zl_rights.specs.declared.policy.Action.{Action}
+use Rattle.zl_rights.specs.declared.policy.Action.TheVariants as action
+use Rattle.zl_rights.specs.declared.policy.Condition.{Condition}
+use Rattle.zl_rights.specs.declared.policy.Condition.TheVariants as condition
+use Rattle.zl_code.specs.declared.history.CallName.{CallName}
+use Rattle.zl_code.specs.declared.history.TraceItem.TheVariants as item
+use Rattle.zl_code.specs.Refusals.{condition_of}
+use Rattle.zl_code.specs.CallTable.{awaited_by, outcome_of}
+
+-- ---- an unused value
+
+pub length_filter : {X : Type 0} (test : X → Bool) (xs : List X) → length (filter test xs) ≤ length xs
+length_filter test [] = omega arith
+length_filter test (x ∷ xs) = by_test (test x) (length_filter test xs)
+  where
+    by_test : (b : Bool) → length (filter test xs) ≤ length xs → length (cond b (x ∷ filter test xs) (filter test xs)) ≤ suc (length xs)
+    by_test true h = omega arith
+    by_test false h = omega arith
+
+-- without a key that is there a map is shorter
+length_without : {X : Type 0} (m : Map X) (k : ℕ) → has_key m k ≡ true → length (without m k) < length m
+unfolding get without
+length_without [] k h = absurd (true≢false (sym h))
+length_without {X = X} (e ∷ m) k h = elim (cases_Bool (e.0 == k)) as (λ _. length (without (e ∷ m) k) < suc (length m)) [
+  | inl here ↦ rw here (let short : length (without m k) ≤ length m = length_filter (λ (x : ℕ × X). not (x.0 == k)) m in omega arith)
+  | inr there ↦ rw there (let short : length (without m k) < length m = length_without m k (rw there at h) in omega arith)
+]
+
+get_without : {X : Type 0} (m : Map X) (k v : ℕ) → (v == k) ≡ false → get (without m k) v ≡ get m v
+unfolding without where_key
+get_without m k v other = get-where_key-in m (λ j. not (j == k)) v (ap not other)
+
+-- of the values from 1 to n one is no key of a map with fewer entries
+unused : {X : Type 0} (n : ℕ) (m : Map X) → length m < n → (v : ℕ) × (0 < v) × (v ≤ n) × (has_key m v ≡ false)
+unused zero m h = absurd (omega arith)
+unused {X = X} (suc n) m h = elim (cases_Bool (has_key m (suc n))) as (λ _. (v : ℕ) × (0 < v) × (v ≤ suc n) × (has_key m v ≡ false)) [
+  | inl taken ↦
+      let shorter : length (without m (suc n)) < length m = length_without m (suc n) taken in
+      let rest : (v : ℕ) × (0 < v) × (v ≤ n) × (has_key (without m (suc n)) v ≡ false) = unused n (without m (suc n)) (omega arith) in
+      let other : (rest.0 == suc n) ≡ false = ne_eqb rest.0 (suc n) (λ e. omega arith) in
+      (rest.0, rest.1, omega (arith, rest.2), sym (ap is_some (get_without m (suc n) rest.0 other)) ∙ rest.3)
+  | inr free ↦ (suc n, omega arith, omega arith, free)
+]
+
+-- a value that a new handle may get
+fresh : (q : Process) → length q.handles < 1024 → (v : ℕ) × (may_get q v ≡ true)
+fresh q room = by_last q.last refl
+  where
+    by_last : (last : Option ℕ) → q.last ≡ last → (v : ℕ) × (may_get q v ≡ true)
+    by_last (Some v) e = (v, rw e (eq-eqb v v refl))
+    by_last None e =
+        let free = unused 1024 q.handles room in
+        (free.0, rw e (and_from _ _ (lt-ltb 0 free.0 free.1) (and_from _ _ (lt-ltb free.0 65536 (omega (arith, free.2))) (ap not free.3))))
+
+-- ---- handles enter and leave a table
+
+-- the rights and the object of a handle that is to enter, where the handles of start are sound and named
+pub record IsFine (start : World) (objects : Map Object) (e : Entry) : Type 0 where
+  pub rights : HandlesAreSound start → IsTrue (has_default_rights e)
+  pub names : HandlesAreNamed start → names_its_object objects e
+
+pub length_put : {X : Type 0} (m : Map X) (k : ℕ) (v : X) → length (put m k v) ≤ suc (length m)
+unfolding put
+length_put [] k v = omega arith
+length_put (e ∷ m) k v = grind (arith, nat_tests, length_put m k v)
+
+-- the table of the process has room for the new handles
+abbrev pub HaveRoom : Process → List Entry → Type 0
+HaveRoom q es = length es ≤ 1024 - length q.handles
+
+-- the process p after its table changed
+changed_table : (w : World) (p : ℕ) (q : Process) (f : Process → Process) → get w.processes p ≡ Some q → get (on_process w p f).processes p ≡ Some (f q)
+unfolding on_process
+changed_table w p q f there = get-update w.processes p f p ∙ rw (eq-eqb p p refl, there) refl
+
+pub all_enter : (start u : World) (p : ℕ) (q : Process) (es : List Entry) (vs : List ℕ) → get u.processes p ≡ Some q → IsTrue (runs q.state) → IsTrue (may_get_all q es vs)
+    → HaveRoom q es → All (IsFine start u.objects) es → Changes start u (insert_all u p es vs)
+unfolding insert_all on_process
+all_enter start u p q [] vs there running gets room fine = stays u
+all_enter start u p q (e ∷ es) [] there running gets room fine = stays u
+all_enter start u p q (e ∷ es) (v ∷ vs) there running gets room fine =
+    let both = and_parts (may_get q v) (may_get_all (process_with v e q) es vs) gets in
+    let longer : length (put q.handles v e) ≤ suc (length q.handles) = length_put q.handles v e in
+    let head = All-head (IsFine start u.objects) e es fine in
+    let enters : MayEnter start (on_process u p (process_with v e)) q v e = record { value = both.0; room = omega arith; running = running; rights = head.rights; names = head.names } in
+    changes u (on_process u p (process_with v e)) _
+    (process_changes start u p (process_with v e) (λ x at. changed x _ refl refl (handle_enters v e refl (subst (λ (y : Process). MayEnter start (on_process u p (process_with v e)) y v e) (same_Some q x (sym there ∙ at)) enters))) (λ x. refl))
+    (all_enter start (on_process u p (process_with v e)) p (process_with v e q) es vs (changed_table u p q (process_with v e) there) running both.1 (omega arith) (All-tail (IsFine start u.objects) e es fine))
+
+same_state : (v : ℕ) (q : Process) → (process_without v q).state ≡ q.state
+same_state v q = elim (cases_Bool (has_key q.handles v)) as (λ _. (process_without v q).state ≡ q.state) [ inl there ↦ rw there refl | inr gone ↦ rw gone refl ]
+
+pub all_leave : (start u : World) (p : ℕ) (hs : List ℕ) → Changes start u (remove_all u p hs)
+unfolding remove_all
+all_leave start u p [] = stays u
+all_leave start u p (h ∷ hs) =
+    changes u (on_process u p (process_without h)) _ (handle_goes start u p h)
+    (all_leave start (on_process u p (process_without h)) p hs)
+
+-- u is w after handles left the table of p, which is q in u
+pub record IsLeft (w u : World) (p : ℕ) (before after : Process) : Type 0 where
+  pub objects : u.objects ≡ w.objects
+  pub next_koid : u.next_koid ≡ w.next_koid
+  pub is_there : get u.processes p ≡ Some after
+  pub state : after.state ≡ before.state
+  pub shorter : length after.handles ≤ length before.handles
+
+shorter_without : (v : ℕ) (q : Process) → length (process_without v q).handles ≤ length q.handles
+unfolding without
+shorter_without v q = elim (cases_Bool (has_key q.handles v)) as (λ _. length (process_without v q).handles ≤ length q.handles) [ inl there ↦ rw there (length_filter _ q.handles) | inr gone ↦ rw gone (omega arith) ]
+
+pub left_behind : (w : World) (p : ℕ) (q : Process) (hs : List ℕ) → get w.processes p ≡ Some q → (after : Process) × IsLeft w (remove_all w p hs) p q after
+unfolding remove_all on_process
+left_behind w p q [] there = (q, record { objects = refl; next_koid = refl; is_there = there; state = refl; shorter = omega arith })
+left_behind w p q (h ∷ hs) there =
+    let rest = left_behind (on_process w p (process_without h)) p (process_without h q) hs (changed_table w p q (process_without h) there) in
+    let shorter : length (process_without h q).handles ≤ length q.handles = shorter_without h q in
+    (rest.0, record { objects = rest.1.objects; next_koid = rest.1.next_koid; is_there = rest.1.is_there; state = rest.1.state ∙ same_state h q; shorter = omega (arith, rest.1.shorter) })
+
+-- values that new handles may get one after another
+pub values_for : (q : Process) (es : List Entry) → HaveRoom q es → (vs : List ℕ) × (may_get_all q es vs ≡ true)
+values_for q [] room = ([], refl)
+values_for q (e ∷ es) room =
+    let first = fresh q (omega (arith, room)) in
+    let longer : length (put q.handles first.0 e) ≤ suc (length q.handles) = length_put q.handles first.0 e in
+    let shorter : length es ≤ 1024 - length (put q.handles first.0 e) = omega (arith, room, longer) in
+    let rest = values_for (process_with first.0 e q) es shorter in
+    (first.0 ∷ rest.0, and_from _ _ first.1 rest.1)
+
+-- ---- new handles
+
+pub copy_is_fine : (start : World) (m : Map Object) (e : Option Entry) (asked : ℕ) → ((x : Entry) → e ≡ Some x → IsFine start m x) → All (IsFine start m) (copy_of e asked)
+copy_is_fine start m None asked fine = All-nil (IsFine start m)
+copy_is_fine start m (Some e) asked fine = by_rights (narrowed e.rights asked) refl
+  where
+    by_rights : (r : Option Rights) → narrowed e.rights asked ≡ r → All (IsFine start m) (with_rights e r)
+    by_rights None is = All-nil (IsFine start m)
+    by_rights (Some granted) is = All-cons (IsFine start m) (record e { rights = granted }) [] (record {
+      rights = λ sound. narrowed_within e.rights asked granted (default_rights_of e.kind) is ((fine e refl).rights sound);
+      names = (fine e refl).names;
+    }) (All-nil (IsFine start m))
+
+pub one_copy : (e : Option Entry) (asked : ℕ) → length (copy_of e asked) ≤ 1
+one_copy None asked = omega arith
+one_copy (Some e) asked = elim (narrowed e.rights asked) as (λ r. length (with_rights e r) ≤ 1) [ None ↦ omega arith | Some granted ↦ omega arith ]
+
+pub entry_is_fine : (w : World) (p h : ℕ) (e : Entry) → entry_at w p h ≡ Some e → IsFine w w.objects e
+unfolding get
+entry_is_fine w p h e there = by_process (get w.processes p) refl there
+  where
+    by_process : (o : Option Process) → get w.processes p ≡ o → get (handles_in o) h ≡ Some e → IsFine w w.objects e
+    by_process None is at = absurd (none-some e at)
+    by_process (Some q) is at = record { rights = λ s. s.rights p h q e is at; names = λ s. s.tables p h q e is at }
+
+new_is_named : (u : World) (b : Body) (k : ℕ) → u.next_koid ≡ k → names_its_object (with_object u b).objects (new_entry k (kind_of b))
+unfolding with_object
+new_is_named u b k is = (record { body = b; raised = 0 }, get-put u.objects u.next_koid (record { body = b; raised = 0 }) k ∙ rw (eq-eqb u.next_koid k is) refl, refl)
+
+default_rights : (k : ℕ) (kind : Kind) → IsTrue (has_default_rights (new_entry k kind))
+default_rights k kind.Event = refl
+default_rights k _ = refl
+
+-- the first handle to a new object
+pub new_is_fine : (start u : World) (b : Body) (k : ℕ) → u.next_koid ≡ k → All (IsFine start (with_object u b).objects) (new_entry k (kind_of b) ∷ [])
+new_is_fine start u b k is =
+    All-cons (IsFine start (with_object u b).objects) (new_entry k (kind_of b)) [] (record { rights = λ s. default_rights k (kind_of b); names = λ s. new_is_named u b k is }) (All-nil (IsFine start (with_object u b).objects))

@@ -19,12 +19,10 @@ pub mod Stopped
 pub mod Ended
 pub mod SameBodies
 pub mod Done
-pub mod Close
-pub mod Dup
 pub mod Grown
-pub mod EventCreate
-pub mod Signal
-pub mod ProcessExit
+pub mod HandleCalls
+pub mod EventCalls
+pub mod ProcessCalls
 pub mod Performed
 pub mod Performing
 pub mod Turns

@@ -1,0 +1,206 @@
+-- The calls on events, event_create and signal, each from its table and objects to a step.
+use Rattle.zl_code.proofs.Common.{◌≡◌, ◌<◌, ◌+◌, ◌^◌, ℕ, zero, suc, Bool, true, false, not, ◌&&◌, ◌||◌, ◌==◌, List, [], ◌∷◌, ◌++◌, map, refl, sym, ap, ◌∙◌, subst, cond, Option, Some, None, inl, inr, IsTrue, arith, eq-eqb, nat_le, if◌then◌else◌, is_some, list_any, cases_Bool, eqb-true, false≢true, map-append, same_Some, then_some, first_some, Map, get, put, World, Process as ProcessValue, Object as ObjectValue, Ready, EventBody, is_process, runs, state_passes, in_table, Library, Site, site, event_create, examined, has_room, has_koids, handles_to, table_of, answer_if, row_of, refusal, handle_operands, listed, may_choose, new_handles, insert_all, remove_all, taken_handles, effect, with_effect, with_object, gives_ok, AtCall, next_for, Values, replied, taken, Ok, Err, ⊤, option_or, bits, within, SIGNAL, kind_of, signal, body_of, body_in, operand_of, by_look_up, operand, any, cpu_answered}
+use Rattle.zl_rights.specs.declared.kind.Kind.TheVariants as kind
+use Rattle.zl_rights.specs.declared.status.Status.TheVariants as status
+use Rattle.zl_rights.specs.declared.entry.Entry.{Entry}
+use Rattle.zl_rights.specs.declared.policy.Condition.TheVariants as condition
+use Rattle.zl_rights.proofs.MapLaws.{get-put}
+use Rattle.zl_code.specs.declared.history.CallName.{CallName}
+use Rattle.zl_code.specs.declared.history.Outcome.{Outcome}
+use Rattle.zl_code.specs.declared.history.Outcome.TheVariants as outcome
+use Rattle.zl_code.specs.Effects.{new_entry, on_object, object_changed}
+use Rattle.zl_table.specs.Table.{IsTable}
+use Rattle.zl_table.proofs.MapEdits.{sorted_put, put_key}
+use Rattle.zl_calls.specs.declared.objects.Body.{Body}
+use Rattle.zl_calls.specs.declared.objects.Body.TheVariants as body
+use Rattle.zl_calls.specs.declared.objects.Object.{Object}
+use Rattle.zl_calls.specs.declared.process.Process.{Process}
+use Rattle.zl_calls.specs.Objects.{Objects, new_object, with_new, is_kept, stays_alone, lives_below, has_living_child, is_job_at, is_job_in, raised_changed, changing}
+use Rattle.zl_calls.specs.calls.Answer.{IsAnswered, one_value, Replies, has_room_in, no_value}
+use Rattle.zl_calls.specs.calls.Event.{CreatesEvent, EventCreateDoes, event_refusal, SignalsObject, SignalDoes, signal_refusal, signal_refusal_of, settable_at, may_change_at}
+use Rattle.zl_calls.specs.World.{process_entry, process_value, object_entry, state_value, world_value, object_value, body_value}
+use Rattle.zl_calls.specs.Consistent.{IsConsistent, IsNamed, AgreesOn, is_in_job}
+use Rattle.zl_calls.proofs.Answered.{IsWrite, table_is, may_get_inserted, replied_inserted, replied_with}
+use Rattle.zl_calls.proofs.Counting.{counted_in_table}
+use Rattle.zl_calls.proofs.Done.{IsDone, IsCalled, answered_done}
+use Rattle.zl_calls.proofs.Grown.{grown_next, there_grown}
+use Rattle.zl_calls.proofs.Labs.{Found, any_found, no_policy, given, get_seen}
+use Rattle.zl_calls.proofs.Refused.{NoPolicy, answers, may_create, fault_answers}
+use Rattle.zl_calls.proofs.Updates.{put_last, update_seen, update_itself}
+use Rattle.zl_calls.proofs.Written.{IsNext, keeps_inserted, inserted_counts, keeps_table, same_counts, updated_next}
+use Rattle.zl_code.specs.Tests.{koid_in, settable_of, may_change}
+use Rattle.zl_calls.proofs.SameBodies.{alone_updated}
+
+-- ---- the answer of event_create
+
+event_refused : (lib : Library) (w : World) → NoPolicy w → (p : ℕ) → refusal lib w p event_create ≡ answers (event_refusal (table_of w p) w.next_koid)
+unfolding refusal handle_operands row_of examined listed has_room has_koids
+event_refused lib w free p = rw (may_create w free p condition.NewEvent) (by_test (has_room_in (table_of w p) && nat_le (w.next_koid + 1) (2 ^ 62)))
+  where
+    by_test : (b : Bool) → first_some (None ∷ None ∷ answer_if (not b) status.NoResources ∷ []) ≡ answers (then_some (not b) status.NoResources)
+    by_test true = refl
+    by_test false = refl
+
+-- ---- the answer of signal
+
+-- what may be changed at the object follows from the kind of the handle
+settable_named : (os : Map Object) (e : Entry) → IsNamed os e → settable_of (body_in (get (map object_entry os) e.koid)) ≡ settable_at e.kind
+settable_named os e named = rw (get_seen os e.koid, named.there, named.kind) (by_body named.object.body)
+  where
+    by_body : (b : Body) → settable_of (Some (body_value b)) ≡ settable_at (kind_of (body_value b))
+    by_body body.RootJob = refl
+    by_body (body.Process job lives) = refl
+    by_body body.Event = refl
+
+module _ (lib : Library) (w : World) (free : NoPolicy w) (p : ℕ) where
+  abbrev signal_with : ℕ → ℕ → Option Entry → Option Outcome
+  signal_with clear set o = first_some (first_some (operand_of w p any SIGNAL o ∷ None ∷ []) ∷ None ∷ answer_if (not (may_change (body_of w (koid_in o)) clear set)) status.InvalidArgs ∷ [])
+
+  by_tests : (e : Entry) (a b : Bool) → first_some (first_some (by_look_up w p (if a then Ok e else Err status.AccessDenied) ∷ None ∷ []) ∷ None ∷ answer_if (not b) status.InvalidArgs ∷ []) ≡ answers (option_or (then_some (not a) status.AccessDenied) (then_some (not b) status.InvalidArgs))
+  by_tests e false b = refl
+  by_tests e true false = refl
+  by_tests e true true = refl
+
+  signal_refused : ((h : ℕ) (e : Entry) → get (table_of w p) h ≡ Some e → settable_of (body_of w e.koid) ≡ settable_at e.kind)
+      → (h clear set : ℕ) → refusal lib w p (signal h clear set) ≡ answers (signal_refusal (table_of w p) h clear set)
+  unfolding refusal handle_operands row_of examined operand listed
+  signal_refused settable h clear set = by_entry (get (table_of w p) h) refl
+    where
+      by_entry : (o : Option Entry) → get (table_of w p) h ≡ o → signal_with clear set o ≡ answers (signal_refusal_of clear set o)
+      by_entry None is = ap (λ (x : Option Outcome). first_some (first_some (x ∷ None ∷ []) ∷ None ∷ answer_if (not (may_change (body_of w 0) clear set)) status.InvalidArgs ∷ [])) (fault_answers w free p condition.BadHandle status.BadHandle)
+      by_entry (Some e) is = rw (settable h e is) (by_tests e (within SIGNAL (bits e.rights)) (may_change_at e.kind clear set))
+
+-- a process of a lab, before and after its call
+module _ (lib : Library) (before after : List Process) (r r2 : Objects) (p p2 : Process) (lab : IsConsistent before r) (write : IsWrite before after p p2) where
+  abbrev w : World
+  w = world_value before r
+
+  -- ---- event_create
+
+  module _ (consumed destinations : List ℕ) where
+    abbrev create_site : Site
+    create_site = site event_create consumed destinations
+
+    create_refused : refusal lib w p.pid event_create ≡ answers (event_refusal p.table.entries r.next_koid)
+    create_refused = event_refused lib w (no_policy before r lab) p.pid ∙ rw (table_is before after p p2 write r) refl
+
+    module _ (made : ℕ) (creates : CreatesEvent p.table r made p2.table r2) (replies : Replies create_site status.Ok (made ∷ []) p p2) where
+      abbrev n : ℕ
+      n = r.next_koid
+
+      abbrev fresh : Object
+      fresh = new_object body.Event 1
+
+      abbrev entry : Entry
+      entry = new_entry n kind.Event
+
+      abbrev grown : Objects
+      grown = with_new r body.Event 1
+
+      -- ---- the relation of calls
+
+      abbrev with_event : World
+      with_event = with_object w EventBody
+
+      create_rest : (record with_event { processes = map process_entry after }) ≡ world_value after r2
+      unfolding with_object
+      create_rest = rw creates.objects (ap (λ (os : Map ObjectValue). record w { processes = map process_entry after; objects = os; next_koid = n + 1 }) objects_are)
+        where
+          objects_are : put w.objects n (record { body = EventBody; raised = 0 }) ≡ map object_entry grown.objects
+          objects_are = put_last w.objects n (record { body = EventBody; raised = 0 }) (given before r lab) ∙ sym (map-append object_entry r.objects ((n, fresh) ∷ []))
+
+      create_chosen : IsTrue (may_choose w (taken w p.pid create_site) p.pid event_create (made ∷ []))
+      unfolding taken_handles handle_operands row_of remove_all may_choose new_handles
+      create_chosen = rw (write.there, may_get_inserted p p2 entry made creates.inserts) refl
+
+      create_ends : world_value after r2 ≡ replied (with_effect lib w (taken w p.pid create_site) p.pid event_create (made ∷ [])) p.pid create_site status.Ok (made ∷ [])
+      unfolding taken_handles handle_operands row_of remove_all new_handles effect insert_all with_object
+      create_ends = replied_inserted before after p p2 write r2 create_site made entry with_event refl create_rest creates.inserts replies
+
+      -- ---- the invariant
+
+      create_counts : (j : ℕ) → handles_to (world_value after grown) j ≡ handles_to (world_value before r) j + cond (n == j) 1 0
+      create_counts = inserted_counts before after p p2 write entry made creates.inserts r grown
+
+      entry_named : IsNamed grown.objects entry
+      entry_named = record { object = fresh; there = there_grown before r lab body.Event; kind = refl; rights = refl }
+
+      event_create_called : IsCalled lib before after r r2 p.pid create_site (outcome.Answered status.Ok)
+      unfolding gives_ok
+      event_create_called = record {
+        calls = (Values (made ∷ []), rw (create_refused, creates.unrefused) (create_chosen, refl, create_ends));
+        keeps = rw creates.objects (keeps_inserted before after p p2 write entry made creates.inserts r grown lab (ap (λ (q : Process). q.state) replies) creates.room entry_named (grown_next before r lab body.Event after (λ j. refl) refl refl creates.koid create_counts));
+      }
+
+    -- ---- the step
+
+    pub event_create_done : state_value p.state ≡ Ready → (call : CallName) → next_for lib (process_value p) ≡ AtCall call create_site → (o : Outcome) → IsAnswered one_value EventCreateDoes create_site p r o p2 r2 → IsDone lib before after r r2 p.pid call o
+    unfolding row_of taken_handles handle_operands remove_all
+    event_create_done ready call next o acts = answered_done lib before after r r2 p p2 lab write ready call create_site next one_value (CreatesEvent p.table r) true (event_refusal p.table.entries r.next_koid)
+        create_refused refl refl event_create_called o acts.answer acts.acts acts.replied acts.ends
+
+  -- ---- signal
+
+  module _ (h clear set : ℕ) (consumed destinations : List ℕ) where
+    abbrev signal_site : Site
+    signal_site = site (signal h clear set) consumed destinations
+
+    refused_signal : refusal lib w p.pid (signal h clear set) ≡ answers (signal_refusal p.table.entries h clear set)
+    refused_signal =
+        let is : table_of w p.pid ≡ p.table.entries = table_is before after p p2 write r in
+        signal_refused lib w (no_policy before r lab) p.pid (λ value e at. settable_named r.objects e (lab.named p.pid (process_value p) value e write.there (rw is at at))) h clear set ∙ rw is refl
+
+    module _ (done : ⊤) (signals : SignalsObject p.table r h clear set p2.table r2) (replies : Replies signal_site status.Ok [] p p2) where
+      abbrev k : ℕ
+      k = signals.original.koid
+
+      abbrev change : Object → Object
+      change = raised_changed clear set
+
+      -- ---- the relation of calls
+
+      abbrev with_signals : World
+      with_signals = on_object w k (object_changed clear set)
+
+      is : process_value p2 ≡ record (process_value p) { cpu = cpu_answered signal_site status.Ok [] p.cpu }
+      is = ap process_value replies ∙ rw signals.table refl
+
+      signal_rest : (record with_signals { processes = map process_entry after }) ≡ world_value after r2
+      unfolding on_object
+      signal_rest = ap (λ (os : Map ObjectValue). record w { processes = map process_entry after; objects = os }) (sym (update_seen object_value r.objects k change (object_changed clear set) (λ o. refl))) ∙ ap (world_value after) (sym signals.objects)
+
+      signal_ends : world_value after r2 ≡ replied with_signals p.pid signal_site status.Ok []
+      unfolding on_object
+      signal_ends = replied_with before after p p2 write r2 signal_site status.Ok [] (λ q. q) with_signals (sym (update_itself (map process_entry before) p.pid)) signal_rest is
+
+      signal_chosen : IsTrue (may_choose w (taken w p.pid signal_site) p.pid (signal h clear set) [])
+      unfolding may_choose new_handles remove_all taken_handles handle_operands row_of
+      signal_chosen = rw write.there refl
+
+      -- ---- the invariant
+
+      same_body : (o : Object) → (change o).body ≡ o.body
+      same_body o = refl
+
+      signal_counts : (j : ℕ) → handles_to (world_value after (changing r k clear set)) j ≡ handles_to w j
+      signal_counts j = same_counts before after p p2 write r (changing r k clear set) j signals.table
+
+      next : IsNext before after r (changing r k clear set)
+      next = updated_next before after r lab k change same_body
+          (λ j o old here. lab.counted j o old ∙ sym (signal_counts j))
+          (λ j o old apart. lab.counted j o old ∙ sym (signal_counts j))
+          (λ j o old here. rw (alone_updated change same_body r.objects k j o.body) (lab.kept j o old))
+
+      signal_called : IsCalled lib before after r r2 p.pid signal_site (outcome.Answered status.Ok)
+      unfolding effect gives_ok new_handles insert_all remove_all taken_handles handle_operands row_of
+      signal_called = record {
+        calls = (Values [], rw (refused_signal, signals.unrefused) (signal_chosen, refl, signal_ends ∙ rw (table_is before after p p2 write r, signals.was) refl));
+        keeps = rw signals.objects (keeps_table before after p p2 write r (changing r k clear set) lab (ap (λ (q : Process). q.state) replies) signals.table next);
+      }
+
+    -- ---- the step
+
+    pub signal_done : state_value p.state ≡ Ready → (call : CallName) → next_for lib (process_value p) ≡ AtCall call signal_site → (o : Outcome) → IsAnswered no_value (SignalDoes h clear set) signal_site p r o p2 r2 → IsDone lib before after r r2 p.pid call o
+    unfolding row_of taken_handles handle_operands remove_all
+    signal_done ready call next o acts = answered_done lib before after r r2 p p2 lab write ready call signal_site next no_value (λ _. SignalsObject p.table r h clear set) false (signal_refusal p.table.entries h clear set)
+        refused_signal refl refl signal_called o acts.answer acts.acts acts.replied acts.ends

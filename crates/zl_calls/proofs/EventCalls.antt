@@ -1,30 +1,26 @@
 -- The calls on events, event_create and signal, each from its table and objects to a step.
-use Rattle.zl_code.proofs.Common.{◌≡◌, ◌<◌, ◌+◌, ◌^◌, ℕ, zero, suc, Bool, true, false, not, ◌&&◌, ◌||◌, ◌==◌, List, [], ◌∷◌, ◌++◌, map, refl, sym, ap, ◌∙◌, subst, cond, Option, Some, None, inl, inr, IsTrue, arith, eq-eqb, nat_le, if◌then◌else◌, is_some, list_any, cases_Bool, eqb-true, false≢true, map-append, same_Some, then_some, first_some, Map, get, put, World, Process as ProcessValue, Object as ObjectValue, Ready, EventBody, is_process, runs, state_passes, in_table, Library, Site, site, event_create, examined, has_room, has_koids, handles_to, table_of, answer_if, row_of, refusal, handle_operands, listed, may_choose, new_handles, insert_all, remove_all, taken_handles, effect, with_effect, with_object, gives_ok, AtCall, next_for, Values, replied, taken, Ok, Err, ⊤, option_or, bits, within, SIGNAL, kind_of, signal, body_of, body_in, operand_of, by_look_up, operand, any, cpu_answered}
+use Rattle.zl_code.proofs.Common.{◌≡◌, ◌+◌, ◌^◌, ℕ, Bool, true, false, not, ◌&&◌, ◌==◌, List, [], ◌∷◌, map, refl, sym, ap, ◌∙◌, cond, Option, Some, None, IsTrue, nat_le, if◌then◌else◌, map-append, then_some, first_some, Map, get, put, World, Object as ObjectValue, Ready, EventBody, Library, Site, site, event_create, examined, has_room, has_koids, handles_to, table_of, answer_if, row_of, refusal, handle_operands, listed, may_choose, new_handles, insert_all, remove_all, taken_handles, effect, with_effect, with_object, gives_ok, AtCall, next_for, Values, replied, taken, Ok, Err, ⊤, option_or, bits, within, SIGNAL, kind_of, signal, body_of, body_in, operand_of, by_look_up, operand, any, cpu_answered}
 use Rattle.zl_rights.specs.declared.kind.Kind.TheVariants as kind
 use Rattle.zl_rights.specs.declared.status.Status.TheVariants as status
 use Rattle.zl_rights.specs.declared.entry.Entry.{Entry}
 use Rattle.zl_rights.specs.declared.policy.Condition.TheVariants as condition
-use Rattle.zl_rights.proofs.MapLaws.{get-put}
 use Rattle.zl_code.specs.declared.history.CallName.{CallName}
 use Rattle.zl_code.specs.declared.history.Outcome.{Outcome}
 use Rattle.zl_code.specs.declared.history.Outcome.TheVariants as outcome
 use Rattle.zl_code.specs.Effects.{new_entry, on_object, object_changed}
-use Rattle.zl_table.specs.Table.{IsTable}
-use Rattle.zl_table.proofs.MapEdits.{sorted_put, put_key}
 use Rattle.zl_calls.specs.declared.objects.Body.{Body}
 use Rattle.zl_calls.specs.declared.objects.Body.TheVariants as body
 use Rattle.zl_calls.specs.declared.objects.Object.{Object}
 use Rattle.zl_calls.specs.declared.process.Process.{Process}
-use Rattle.zl_calls.specs.Objects.{Objects, new_object, with_new, is_kept, stays_alone, lives_below, has_living_child, is_job_at, is_job_in, raised_changed, changing}
+use Rattle.zl_calls.specs.Objects.{Objects, new_object, with_new, raised_changed, changing}
 use Rattle.zl_calls.specs.calls.Answer.{IsAnswered, one_value, Replies, has_room_in, no_value}
 use Rattle.zl_calls.specs.calls.Event.{CreatesEvent, EventCreateDoes, event_refusal, SignalsObject, SignalDoes, signal_refusal, signal_refusal_of, settable_at, may_change_at}
 use Rattle.zl_calls.specs.World.{process_entry, process_value, object_entry, state_value, world_value, object_value, body_value}
-use Rattle.zl_calls.specs.Consistent.{IsConsistent, IsNamed, AgreesOn, is_in_job}
+use Rattle.zl_calls.specs.Consistent.{IsConsistent, IsNamed}
 use Rattle.zl_calls.proofs.Answered.{IsWrite, table_is, may_get_inserted, replied_inserted, replied_with}
-use Rattle.zl_calls.proofs.Counting.{counted_in_table}
 use Rattle.zl_calls.proofs.Done.{IsDone, IsCalled, answered_done}
 use Rattle.zl_calls.proofs.Grown.{grown_next, there_grown}
-use Rattle.zl_calls.proofs.Labs.{Found, any_found, no_policy, given, get_seen}
+use Rattle.zl_calls.proofs.Labs.{no_policy, given, get_seen}
 use Rattle.zl_calls.proofs.Refused.{NoPolicy, answers, may_create, fault_answers}
 use Rattle.zl_calls.proofs.Updates.{put_last, update_seen, update_itself}
 use Rattle.zl_calls.proofs.Written.{IsNext, keeps_inserted, inserted_counts, keeps_table, same_counts, updated_next}

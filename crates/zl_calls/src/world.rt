@@ -12,7 +12,7 @@ use crate::calls::process::end;
 use crate::objects::Objects;
 use crate::process::Process;
 use crate::program::Library;
-use crate::stepping::{act, built_call, next_call, place_of, run_next};
+use crate::stepping::{call_next, next_name, place_of, run_next};
 use std::alloc::Global;
 use std::marker::Model;
 use zl_code::{Boot, BootFault, CallName, Outcome, ProcState, TraceItem};
@@ -116,8 +116,7 @@ impl World {
         let place = place_of(&self.processes, pid)?;
         let process = &self.processes[place];
         if process.is_ready() {
-            let (_, name) = built_call(&self.library, process)?;
-            Some(name)
+            next_name(&self.library, process)
         } else {
             None
         }
@@ -138,13 +137,13 @@ impl World {
         if !process.is_ready() {
             return None;
         }
-        if let Some((call, name)) = built_call(&self.library, process) {
-            let outcome = act(self.alloc, process, &mut self.objects, call);
-            return Some(TraceItem::Call {
-                pid,
-                call: name,
-                outcome,
-            });
+        if let Some((call, outcome)) = call_next(
+            self.alloc,
+            &self.library,
+            process,
+            &mut self.objects,
+        ) {
+            return Some(TraceItem::Call { pid, call, outcome });
         }
         match run_next(&self.library, process) {
             Some(()) => Some(TraceItem::Run { pid, count: 1 }),
@@ -171,10 +170,11 @@ impl World {
             unreachable!()
         };
         let process = &mut self.processes[place];
-        let Some(call) = next_call(&self.library, process) else {
+        let Some((_, outcome)) = call_next(self.alloc, &self.library, process, &mut self.objects)
+        else {
             unreachable!()
         };
-        act(self.alloc, process, &mut self.objects, call)
+        outcome
     }
 
     /// Does the local instruction at which the process is. Where it can't be done, the process ends

@@ -1,36 +1,18 @@
 -- What each call says where it isn't refused: its new handles have room, and it is made of these changes.
-use Rattle.zl_code.proofs.Common.{Acts, All, All-nil, AtCall, Blocked, Body, Bool, Calls, Choice, Err, EventBody, HandlesAreNamed, HandlesAreSound, IsSound, IsStuck, IsTrue, Library, List, Map, Moves, Next, None, Object, Ok, Option, PortBody, Process, ProcessBody, Ready, Refused, Request, SIGNAL, STUCK, Site, Some, State, Step, Values, WantsMemory, World, [], and_from, and_parts, answer_if, ap, arith, bits, body_in, body_of, boot_effect, boot_fault, by_look_up, cases_Bool, close, cond, copy_of, cpu_answered, default_rights_of, dup, effect, ended, entry_at, eq-eqb, event_create, examined, false, fired, first_some, get, gives_ok, gives_refused, grows, handle_operands, handles_to, has_default_rights, has_key, has_koids, has_room, if◌then◌else◌, inl, inr, insert_all, is_empty, is_job_body, is_some, kind_of, leb-true, length, listed, lt-ltb, may_choose, may_get, names_its_object, narrowed, nat_le, nat_tests, ne_eqb, new_handles, next_for, none-some, not, object_at, ok_outcome, on_process, operand, operand_of, process_exit, process_with, process_without, put, raisable, refl, refusal, remove_all, replied, rights_of, row_of, rules, runs, same_Some, signal, subst, suc, sym, taken, taken_handles, then_some, true, wakes, where_key, with_effect, with_object, with_rights, within, without, zero, ℕ, ◌&&◌, ◌+◌, ◌-◌, ◌<◌, ◌==◌, ◌^◌, ◌||◌, ◌∙◌, ◌∷◌, ◌≡◌, ◌≢◌, ◌≤◌, ⊤}
-use Rattle.std.specs.List.{fold, filter}
-use Rattle.std.proofs.lemmas.Bool.{not-false, or_parts, true≢false, eq-eqb}
-use Rattle.std.proofs.lemmas.List.Elements.{All-cons, All-head, All-tail}
+use Rattle.zl_code.proofs.Common.{All, Body, Bool, EventBody, HandlesAreNamed, HandlesAreSound, IsTrue, Library, List, Map, None, Object, Option, PortBody, Process, Ready, Request, SIGNAL, Some, World, [], and_parts, answer_if, ap, arith, bits, by_look_up, cases_Bool, copy_of, default_rights_of, dup, effect, entry_at, event_create, examined, false, first_some, get, handle_operands, handles_to, has_koids, has_room, inl, inr, insert_all, kind_of, leb-true, length, listed, may_choose, nat_le, new_handles, none-some, not, object_at, operand, raisable, refl, refusal, rights_of, row_of, runs, same_Some, signal, subst, sym, true, with_effect, with_object, within, ℕ, ◌&&◌, ◌^◌, ◌||◌, ◌∙◌, ◌∷◌, ◌≡◌, ◌≤◌, ⊤}
+use Rattle.std.proofs.lemmas.Bool.{not-false, or_parts, true≢false}
 use Rattle.zl_rights.specs.declared.kind.Kind.TheVariants as kind
-use Rattle.zl_rights.specs.declared.rights.Rights.{Rights}
 use Rattle.zl_rights.specs.declared.entry.Entry.{Entry}
 use Rattle.zl_rights.specs.declared.status.Status.{Status}
 use Rattle.zl_rights.specs.declared.status.Status.TheVariants as status
-use Rattle.zl_rights.specs.Numbers.{meets, takes}
-use Rattle.zl_rights.specs.World.{SignalOf, PacketAt, Packet, Awaited}
-use Rattle.zl_rights.specs.Signals.{active}
+use Rattle.zl_rights.specs.World.{Packet}
 use Rattle.zl_rights.specs.LookUp.{granted}
-use Rattle.zl_rights.proofs.MapLaws.{get-put, get-update, get-where_key-in}
 use Rattle.zl_rights.proofs.Narrowed.{narrowed_within}
 use Rattle.zl_code.specs.declared.history.Outcome.{Outcome}
-use Rattle.zl_code.specs.declared.history.Outcome.TheVariants as outcome
-use Rattle.zl_code.specs.declared.history.TraceItem.{TraceItem}
-use Rattle.zl_code.specs.Tests.{handles_in, settable_of, may_change, parent_of, action_of, ends_if_kill, faults, unless_allowed, creates, by_policy, Operand, contains, operand_after, seen_after}
-use Rattle.zl_code.specs.Effects.{new_entry, may_get_all, object_changed, gets_all}
-use Rattle.zl_code.specs.Calls.{after_refusal, after_ok, CallBy}
-use Rattle.zl_code.proofs.MapKept.{changed}
-use Rattle.zl_code.proofs.Changes.{MayEnter, handle_enters, computes, signals_change, Changes, stays, changes, settles, join, one, process_changes, handle_goes, process_ends, process_wakes, process_is_made, object_changes, object_is_made, packet_goes, waits_fire}
-use Rattle.zl_rights.specs.declared.kind.Kind.{Kind}
-use Rattle.zl_rights.specs.declared.policy.Action.{Action}
-use Rattle.zl_rights.specs.declared.policy.Action.TheVariants as action
-use Rattle.zl_rights.specs.declared.policy.Condition.{Condition}
-use Rattle.zl_rights.specs.declared.policy.Condition.TheVariants as condition
-use Rattle.zl_code.specs.declared.history.CallName.{CallName}
-use Rattle.zl_code.specs.declared.history.TraceItem.TheVariants as item
+use Rattle.zl_code.specs.Tests.{settable_of, by_policy}
+use Rattle.zl_code.specs.Effects.{new_entry, object_changed, gets_all}
+use Rattle.zl_code.proofs.Changes.{signals_change, Changes, stays, changes, one, object_changes, object_is_made}
 use Rattle.zl_code.specs.Refusals.{condition_of}
-use Rattle.zl_code.specs.CallTable.{awaited_by, outcome_of}
 use Rattle.zl_code.proofs.Entering.{IsFine, HaveRoom, IsLeft, all_enter, copy_is_fine, one_copy, entry_is_fine, new_is_fine}
 
 -- ---- what holds where a call isn't refused
@@ -62,10 +44,11 @@ test_fails : (b : Bool) (s : Status) → answer_if b s ≡ None → b ≡ false
 test_fails true s h = cc
 test_fails false s h = refl
 
--- the test of room for n handles was passed, if it stands before another, or behind none
+-- there is room for n handles, where its want or b would refuse the call
 room_or : (w : World) (p n : ℕ) (b : Bool) → answer_if (not (has_room w p n) || b) status.NoResources ≡ None → has_room w p n ≡ true
 room_or w p n b h = not-false _ (or_parts (not (has_room w p n)) b (test_fails _ status.NoResources h)).0
 
+-- the same where anything but room and b would
 room_and : (w : World) (p n : ℕ) (b : Bool) → answer_if (not (has_room w p n && b)) status.NoResources ≡ None → has_room w p n ≡ true
 room_and w p n b h = (and_parts (has_room w p n) b (not-false _ (test_fails _ status.NoResources h))).0
 

@@ -1,36 +1,19 @@
 -- Handles enter and leave the table of a process: where there is room values are free, and each handle is one change.
-use Rattle.zl_code.proofs.Common.{Acts, All, All-nil, AtCall, Blocked, Body, Bool, Calls, Choice, Err, EventBody, HandlesAreNamed, HandlesAreSound, IsSound, IsStuck, IsTrue, Library, List, Map, Moves, Next, None, Object, Ok, Option, PortBody, Process, ProcessBody, Ready, Refused, Request, SIGNAL, STUCK, Site, Some, State, Step, Values, WantsMemory, World, [], and_from, and_parts, answer_if, ap, arith, bits, body_in, body_of, boot_effect, boot_fault, by_look_up, cases_Bool, close, cond, copy_of, cpu_answered, default_rights_of, dup, effect, ended, entry_at, eq-eqb, event_create, examined, false, fired, first_some, get, gives_ok, gives_refused, grows, handle_operands, handles_to, has_default_rights, has_key, has_koids, has_room, if◌then◌else◌, inl, inr, insert_all, is_empty, is_job_body, is_some, kind_of, leb-true, length, listed, lt-ltb, may_choose, may_get, names_its_object, narrowed, nat_le, nat_tests, ne_eqb, new_handles, next_for, none-some, not, object_at, ok_outcome, on_process, operand, operand_of, process_exit, process_with, process_without, put, raisable, refl, refusal, remove_all, replied, rights_of, row_of, rules, runs, same_Some, signal, subst, suc, sym, taken, taken_handles, then_some, true, wakes, where_key, with_effect, with_object, with_rights, within, without, zero, ℕ, ◌&&◌, ◌+◌, ◌-◌, ◌<◌, ◌==◌, ◌^◌, ◌||◌, ◌∙◌, ◌∷◌, ◌≡◌, ◌≢◌, ◌≤◌}
-use Rattle.std.specs.List.{fold, filter}
-use Rattle.std.proofs.lemmas.Bool.{not-false, or_parts, true≢false, eq-eqb}
+use Rattle.zl_code.proofs.Common.{All, All-nil, Body, Bool, HandlesAreNamed, HandlesAreSound, IsTrue, List, Map, None, Object, Option, Process, Some, World, [], and_from, and_parts, ap, arith, cases_Bool, cond, copy_of, default_rights_of, entry_at, eq-eqb, false, get, has_default_rights, has_key, inl, inr, insert_all, is_some, kind_of, length, lt-ltb, may_get, names_its_object, narrowed, nat_tests, ne_eqb, none-some, not, on_process, process_with, process_without, put, refl, remove_all, runs, same_Some, subst, suc, sym, taken, true, where_key, with_object, with_rights, without, zero, ℕ, ◌-◌, ◌<◌, ◌==◌, ◌∙◌, ◌∷◌, ◌≡◌, ◌≤◌}
+use Rattle.std.specs.List.{filter}
+use Rattle.std.proofs.lemmas.Bool.{true≢false, eq-eqb}
 use Rattle.std.proofs.lemmas.List.Elements.{All-cons, All-head, All-tail}
 use Rattle.zl_rights.specs.declared.kind.Kind.TheVariants as kind
 use Rattle.zl_rights.specs.declared.rights.Rights.{Rights}
 use Rattle.zl_rights.specs.declared.entry.Entry.{Entry}
-use Rattle.zl_rights.specs.declared.status.Status.{Status}
-use Rattle.zl_rights.specs.declared.status.Status.TheVariants as status
-use Rattle.zl_rights.specs.Numbers.{meets, takes}
-use Rattle.zl_rights.specs.World.{SignalOf, PacketAt, Packet, Awaited}
-use Rattle.zl_rights.specs.Signals.{active}
 use Rattle.zl_rights.specs.LookUp.{granted}
 use Rattle.zl_rights.proofs.MapLaws.{get-put, get-update, get-where_key-in}
 use Rattle.zl_rights.proofs.Narrowed.{narrowed_within}
-use Rattle.zl_code.specs.declared.history.Outcome.{Outcome}
-use Rattle.zl_code.specs.declared.history.Outcome.TheVariants as outcome
-use Rattle.zl_code.specs.declared.history.TraceItem.{TraceItem}
-use Rattle.zl_code.specs.Tests.{handles_in, settable_of, may_change, parent_of, action_of, ends_if_kill, faults, unless_allowed, creates, by_policy, Operand, contains, operand_after, seen_after}
-use Rattle.zl_code.specs.Effects.{new_entry, may_get_all, object_changed, gets_all}
-use Rattle.zl_code.specs.Calls.{after_refusal, after_ok, CallBy}
+use Rattle.zl_code.specs.Tests.{handles_in}
+use Rattle.zl_code.specs.Effects.{new_entry, may_get_all}
 use Rattle.zl_code.proofs.MapKept.{changed}
-use Rattle.zl_code.proofs.Changes.{MayEnter, handle_enters, computes, signals_change, Changes, stays, changes, settles, join, one, process_changes, handle_goes, process_ends, process_wakes, process_is_made, object_changes, object_is_made, packet_goes, waits_fire}
+use Rattle.zl_code.proofs.Changes.{MayEnter, handle_enters, Changes, stays, changes, process_changes, handle_goes}
 use Rattle.zl_rights.specs.declared.kind.Kind.{Kind}
-use Rattle.zl_rights.specs.declared.policy.Action.{Action}
-use Rattle.zl_rights.specs.declared.policy.Action.TheVariants as action
-use Rattle.zl_rights.specs.declared.policy.Condition.{Condition}
-use Rattle.zl_rights.specs.declared.policy.Condition.TheVariants as condition
-use Rattle.zl_code.specs.declared.history.CallName.{CallName}
-use Rattle.zl_code.specs.declared.history.TraceItem.TheVariants as item
-use Rattle.zl_code.specs.Refusals.{condition_of}
-use Rattle.zl_code.specs.CallTable.{awaited_by, outcome_of}
 
 -- ---- an unused value
 

@@ -1,32 +1,24 @@
--- Which changes a step is made of: each call, each statement of a boot, and waking say it once.
-use Rattle.zl_code.proofs.Common.{◌≡◌, ◌<◌, ◌≤◌, inl, inr, arith, ℕ, suc, ◌+◌, Bool, true, false, not, List, [], ◌∷◌, length, refl, ap, sym, subst, ◌∙◌, IsTrue, Option, Some, None, eq-eqb, if◌then◌else◌, is_some, All, then_some, and_parts, cases_Bool, leb-true, ne_eqb, nat_tests, none-some, same_Some, All-nil, bits, within, narrowed, rights_of, default_rights_of, SIGNAL, Map, get, put, has_key, without, World, Process, State, Ready, Blocked, Object, Body, EventBody, PortBody, ProcessBody, kind_of, runs, is_empty, wakes, fired, first_some, Library, row_of, Site, Request, close, dup, event_create, signal, process_exit, entry_at, object_at, body_in, by_look_up, operand, examined, has_room, has_koids, with_rights, copy_of, answer_if, refusal, listed, handle_operands, on_process, insert_all, remove_all, with_object, process_with, process_without, effect, with_effect, gives_ok, gives_refused, taken_handles, new_handles, may_get, may_choose, cpu_answered, replied, taken, ok_outcome, Choice, Refused, WantsMemory, Values, Next, Moves, AtCall, IsStuck, next_for, Acts, Step, boot_fault, boot_effect, is_job_body, has_default_rights, names_its_object, HandlesAreSound, HandlesAreNamed, raisable, IsSound}
+-- Which changes a step is made of: a call with its answer, a statement of a boot, and waking.
+use Rattle.zl_code.proofs.Common.{◌≡◌, ◌<◌, arith, ℕ, Bool, true, false, List, [], ◌∷◌, refl, ap, sym, IsTrue, Option, Some, None, eq-eqb, if◌then◌else◌, is_some, then_some, ne_eqb, none-some, get, put, World, Process, State, Ready, Blocked, Object, Body, PortBody, ProcessBody, runs, wakes, fired, Library, Site, body_in, refusal, with_object, with_effect, gives_ok, gives_refused, taken_handles, may_choose, cpu_answered, replied, taken, ok_outcome, Choice, Refused, WantsMemory, Values, Next, Moves, AtCall, IsStuck, next_for, Acts, Step, boot_fault, boot_effect, is_job_body, IsSound}
 use Rattle.std.specs.List.{fold}
 use Rattle.std.proofs.lemmas.Bool.{not-false, or_parts, true≢false}
-use Rattle.std.proofs.lemmas.List.Elements.{All-cons, All-head, All-tail}
-use Rattle.zl_rights.specs.declared.kind.Kind.TheVariants as kind
-use Rattle.zl_rights.specs.declared.rights.Rights.{Rights}
-use Rattle.zl_rights.specs.declared.entry.Entry.{Entry}
 use Rattle.zl_rights.specs.declared.status.Status.{Status}
 use Rattle.zl_rights.specs.declared.status.Status.TheVariants as status
 use Rattle.zl_rights.specs.Numbers.{meets}
 use Rattle.zl_rights.specs.World.{SignalOf, PacketAt, Packet}
 use Rattle.zl_rights.specs.Signals.{active}
 use Rattle.zl_rights.specs.Wakes.{packet_values, woken, made_ready, with_body, woken_by_first, woken_by, woken_at_port, woken_from, woken_if_there}
-use Rattle.zl_rights.specs.LookUp.{granted}
-use Rattle.zl_rights.proofs.MapLaws.{get-put, get-update}
-use Rattle.zl_rights.proofs.Narrowed.{narrowed_within}
+use Rattle.zl_rights.proofs.MapLaws.{get-put}
 use Rattle.zl_code.specs.declared.boot.Statement.{Statement}
 use Rattle.zl_code.specs.declared.boot.Statement.TheVariants as statement
 use Rattle.zl_code.specs.declared.boot.BootCause.TheVariants as cause
 use Rattle.zl_code.specs.declared.history.Outcome.{Outcome}
 use Rattle.zl_code.specs.declared.history.Outcome.TheVariants as outcome
 use Rattle.zl_code.specs.declared.history.TraceItem.{TraceItem}
-use Rattle.zl_code.specs.Tests.{handles_in, settable_of}
-use Rattle.zl_code.specs.Effects.{new_entry, may_get_all, object_changed}
 use Rattle.zl_code.specs.Calls.{after_refusal, after_ok, CallBy}
 use Rattle.zl_code.specs.Boot.{is_job}
 use Rattle.zl_code.proofs.MapKept.{changed}
-use Rattle.zl_code.proofs.Changes.{MayEnter, handle_enters, computes, signals_change, Changes, stays, changes, settles, join, one, process_changes, handle_goes, process_ends, process_wakes, process_is_made, object_changes, object_is_made, packet_goes, waits_fire}
+use Rattle.zl_code.proofs.Changes.{computes, Changes, stays, changes, settles, join, one, process_changes, process_ends, process_wakes, process_is_made, object_is_made, packet_goes, waits_fire}
 use Rattle.zl_code.proofs.Entering.{all_leave, left_behind}
 use Rattle.zl_code.proofs.CallLaws.{first_is_none, laws}
 

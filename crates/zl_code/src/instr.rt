@@ -1,6 +1,8 @@
 ghost use Rattle.std.specs.Prelude.{◌≡◌, slice_get};
+ghost use Rattle.zl_code.specs.Request.{name_of};
 ghost use Rattle.zl_code.specs.Spells.{register_in};
 
+use crate::history::CallName;
 use crate::register::Register;
 
 /// An instruction. The opcodes and the fields are own profile.
@@ -312,6 +314,39 @@ pub enum CallInstr {
         condition: Register,
         action: Register,
     },
+}
+
+impl CallInstr {
+    /// Which call it is, by its name in traces.
+    pub fn name(&self) -> CallName
+        ensures { result ≡ name_of self.now }
+    {
+        match self {
+            CallInstr::Close { .. } => CallName::Close,
+            CallInstr::Dup { .. } => CallName::Dup,
+            CallInstr::Replace { .. } => CallName::Replace,
+            CallInstr::ChanCreate { .. } => CallName::ChanCreate,
+            CallInstr::ChanWrite { .. } => CallName::ChanWrite,
+            CallInstr::ChanReadEtc { .. } => CallName::ChanReadEtc,
+            CallInstr::EventCreate { .. } => CallName::EventCreate,
+            CallInstr::Signal { .. } => CallName::Signal,
+            CallInstr::SignalPeer { .. } => CallName::SignalPeer,
+            CallInstr::WaitOne { .. } => CallName::WaitOne,
+            CallInstr::WaitPoll { .. } => CallName::WaitPoll,
+            CallInstr::WaitAsync { .. } => CallName::WaitAsync,
+            CallInstr::PortCreate { .. } => CallName::PortCreate,
+            CallInstr::PortQueue { .. } => CallName::PortQueue,
+            CallInstr::PortWait { .. } => CallName::PortWait,
+            CallInstr::PortPoll { .. } => CallName::PortPoll,
+            CallInstr::PortCancel { .. } => CallName::PortCancel,
+            CallInstr::ProcessCreate { .. } => CallName::ProcessCreate,
+            CallInstr::ProcessStart { .. } => CallName::ProcessStart,
+            CallInstr::ProcessExit { .. } => CallName::ProcessExit,
+            CallInstr::TaskKill { .. } => CallName::TaskKill,
+            CallInstr::JobCreate { .. } => CallName::JobCreate,
+            CallInstr::JobSetPolicy { .. } => CallName::JobSetPolicy,
+        }
+    }
 }
 
 /// The registers of the handles that `chan_write` sends, at most 8. Own profile.

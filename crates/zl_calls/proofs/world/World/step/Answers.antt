@@ -1,4 +1,4 @@
-use Rattle.zl_code.proofs.Common.{ap, sym, ◌∙◌, option_map, name_of}
+use Rattle.zl_code.proofs.Common.{sym, ◌∙◌}
 use Rattle.zl_calls.proofs.Performing.{lab_value}
 use Rattle.zl_calls.proofs.Turns.{absent, not_ready, takes_call, takes_local, takes_end}
 use Rattle.zl_calls.proofs.world.World.step.Goals as goal
@@ -18,37 +18,41 @@ pub invariant_of-self-in-Some : goal.invariant_of-self-in-Some
 invariant_of-self-in-Some c =
     (takes_call c.self.inside.library c.self.inside.processes.items c.self.inside.objects c.self.invariant c.args.pid c.in_ok-place.place c.index_mut-process.result.now
     (rw c.deref.ensures.value at c.in_ok-place.ensures.first) c.index_mut-process.ensures.value (sym c.is_ready.ensures ∙ c.if-not-is_ready.false)
-    c.in-Some.call c.in-Some.name c.act-outcome.result c.act-outcome.new.process c.act-outcome.new.objects c.in-Some.ensures.found c.in-Some.ensures.named c.act-outcome.ensures).lab
+    c.in-Some.call c.in-Some.outcome c.call_next.new.process c.call_next.new.objects c.in-Some.ensures.calls).lab
 
 pub returns-in-Some-clause-ran : goal.returns-in-Some-clause-ran
 returns-in-Some-clause-ran c =
     rw (← c.self.view_is)
     ((takes_call c.self.inside.library c.self.inside.processes.items c.self.inside.objects c.self.invariant c.args.pid c.in_ok-place.place c.index_mut-process.result.now
     (rw c.deref.ensures.value at c.in_ok-place.ensures.first) c.index_mut-process.ensures.value (sym c.is_ready.ensures ∙ c.if-not-is_ready.false)
-    c.in-Some.call c.in-Some.name c.act-outcome.result c.act-outcome.new.process c.act-outcome.new.objects c.in-Some.ensures.found c.in-Some.ensures.named c.act-outcome.ensures).done)
+    c.in-Some.call c.in-Some.outcome c.call_next.new.process c.call_next.new.objects c.in-Some.ensures.calls).done)
 
 pub invariant_of-self-in-Some-run_next : goal.invariant_of-self-in-Some-run_next
 invariant_of-self-in-Some-run_next c =
     (takes_local c.self.inside.library c.self.inside.processes.items c.self.inside.objects c.self.invariant c.args.pid c.in_ok-place.place c.index_mut-process.result.now
     (rw c.deref.ensures.value at c.in_ok-place.ensures.first) c.index_mut-process.ensures.value (sym c.is_ready.ensures ∙ c.if-not-is_ready.false)
-    c.run_next.new.process c.in-Some-run_next.ensures.runs c.in-Some-run_next.ensures.cpu).lab
+    c.call_next.new.process c.run_next.new.process c.call_next.new.objects c.in_default.ensures.same_process c.in_default.ensures.same_objects
+    c.in-Some-run_next.ensures.runs c.in-Some-run_next.ensures.cpu).lab
 
 pub returns-in-Some-run_next-clause-ran : goal.returns-in-Some-run_next-clause-ran
 returns-in-Some-run_next-clause-ran c =
     rw (← c.self.view_is)
     ((takes_local c.self.inside.library c.self.inside.processes.items c.self.inside.objects c.self.invariant c.args.pid c.in_ok-place.place c.index_mut-process.result.now
     (rw c.deref.ensures.value at c.in_ok-place.ensures.first) c.index_mut-process.ensures.value (sym c.is_ready.ensures ∙ c.if-not-is_ready.false)
-    c.run_next.new.process c.in-Some-run_next.ensures.runs c.in-Some-run_next.ensures.cpu).done)
+    c.call_next.new.process c.run_next.new.process c.call_next.new.objects c.in_default.ensures.same_process c.in_default.ensures.same_objects
+    c.in-Some-run_next.ensures.runs c.in-Some-run_next.ensures.cpu).done)
 
 pub invariant_of-self-in-None : goal.invariant_of-self-in-None
 invariant_of-self-in-None c =
     (takes_end c.self.inside.library c.self.inside.processes.items c.self.inside.objects c.self.invariant c.args.pid c.in_ok-place.place c.index_mut-process.result.now
     (rw c.deref.ensures.value at c.in_ok-place.ensures.first) c.index_mut-process.ensures.value (sym c.is_ready.ensures ∙ c.if-not-is_ready.false)
-    c.in_default.ensures.missing c.in-None.ensures.stuck c.end.new.process c.end.new.objects (rw c.in-None.ensures.unchanged at c.end.ensures)).lab
+    c.call_next.new.process c.end.new.process c.call_next.new.objects c.end.new.objects c.in_default.ensures.same_process c.in_default.ensures.same_objects
+    c.in_default.ensures.missing c.in-None.ensures.stuck (rw c.in-None.ensures.unchanged at c.end.ensures)).lab
 
 pub returns-in-None-clause-ran : goal.returns-in-None-clause-ran
 returns-in-None-clause-ran c =
     rw (← c.self.view_is)
     ((takes_end c.self.inside.library c.self.inside.processes.items c.self.inside.objects c.self.invariant c.args.pid c.in_ok-place.place c.index_mut-process.result.now
     (rw c.deref.ensures.value at c.in_ok-place.ensures.first) c.index_mut-process.ensures.value (sym c.is_ready.ensures ∙ c.if-not-is_ready.false)
-    c.in_default.ensures.missing c.in-None.ensures.stuck c.end.new.process c.end.new.objects (rw c.in-None.ensures.unchanged at c.end.ensures)).done)
+    c.call_next.new.process c.end.new.process c.call_next.new.objects c.end.new.objects c.in_default.ensures.same_process c.in_default.ensures.same_objects
+    c.in_default.ensures.missing c.in-None.ensures.stuck (rw c.in-None.ensures.unchanged at c.end.ensures)).done)

@@ -1,5 +1,5 @@
 -- What each call says where it isn't refused: its new handles have room, and it is made of these changes.
-use Rattle.zl_code.proofs.Common.{All, Body, Bool, EventBody, HandlesAreNamed, HandlesAreSound, IsTrue, Library, List, Map, None, Object, Option, PortBody, Process, Ready, Request, SIGNAL, Some, World, [], and_parts, answer_if, ap, arith, bits, by_look_up, cases_Bool, copy_of, default_rights_of, dup, effect, entry_at, event_create, examined, false, first_some, get, handle_operands, handles_to, has_koids, has_room, inl, inr, insert_all, kind_of, leb-true, length, listed, may_choose, nat_le, new_handles, none-some, not, object_at, operand, raisable, refl, refusal, rights_of, row_of, runs, same_Some, signal, subst, sym, true, with_effect, with_object, within, ℕ, ◌&&◌, ◌^◌, ◌||◌, ◌∙◌, ◌∷◌, ◌≡◌, ◌≤◌, ⊤}
+use Rattle.zl_code.proofs.Common.{All, Body, Bool, EventBody, HandlesAreNamed, HandlesAreSound, IsTrue, Library, List, Map, None, Object, Option, PortBody, Process, Ready, Request, SIGNAL, Some, World, [], and_parts, answer_if, ap, arith, bits, by_look_up, cases_Bool, copy_of, default_rights_of, dup, effect, entry_at, event_create, examined, false, first_some, get, handle_operands, handles_to, has_koids, has_room, inl, inr, insert_all, kind_of, queue_of, leb-true, length, listed, may_choose, nat_le, new_handles, none-some, not, object_at, operand, raisable, refl, refusal, rights_of, row_of, runs, same_Some, signal, subst, sym, true, with_effect, with_object, within, ℕ, ◌&&◌, ◌^◌, ◌||◌, ◌∙◌, ◌∷◌, ◌≡◌, ◌≤◌, ⊤}
 use Rattle.std.proofs.lemmas.Bool.{not-false, or_parts, true≢false}
 use Rattle.zl_rights.specs.declared.kind.Kind.TheVariants as kind
 use Rattle.zl_rights.specs.declared.entry.Entry.{Entry}
@@ -117,6 +117,13 @@ module _ (lib : Library) (w : World) (p : ℕ) (q : Process) (there : get w.proc
   fine_in : (h : ℕ) (e : Entry) → entry_at w p h ≡ Some e → IsFine w u.objects e
   fine_in h e at = subst (λ (m : Map Object). IsFine w m e) (sym left.objects) (entry_is_fine w p h e at)
 
+  -- a new object, and the first handle to it
+  one_made : (b : Body) → queue_of b ≡ [] → HaveRoom after (new_entry w.next_koid (kind_of b) ∷ []) → (vs : List ℕ) → IsTrue (gets_all (get u.processes p) (new_entry w.next_koid (kind_of b) ∷ []) vs)
+      → Changes w u (insert_all (with_object u b) p (new_entry w.next_koid (kind_of b) ∷ []) vs)
+  unfolding with_object
+  one_made b quiet room vs gets =
+      changes u (with_object u b) _ (object_is_made w u b quiet) (enter (with_object u b) refl (new_entry w.next_koid (kind_of b) ∷ []) vs room gets (new_is_fine w u b w.next_koid left.next_koid))
+
   pub laws : (r : Request) → refusal lib w p r ≡ None → IsLawful lib w u p after r
   unfolding effect new_handles insert_all may_choose listed with_object
   laws (dup h rights) passes =
@@ -126,11 +133,7 @@ module _ (lib : Library) (w : World) (p : ℕ) (q : Process) (there : get w.proc
   laws event_create passes =
       let some_room = room_and w p 1 (has_koids w 1) (listed_none lib w p event_create passes).0 in
       let room = room_for 1 (new_entry w.next_koid kind.Event ∷ []) some_room (omega arith) in
-      record {
-        room = room;
-        changes = λ vs gets. changes u (with_object u EventBody) _ (object_is_made w u EventBody refl)
-            (enter (with_object u EventBody) refl _ vs room gets (new_is_fine w u EventBody w.next_koid left.next_koid));
-      }
+      record { room = room; changes = one_made EventBody refl room }
   laws (signal h clear set) passes = record {
     room = omega arith;
     changes = λ vs gets. one w u _ (object_changes w u (object_at w p h) (object_changed clear set)

@@ -133,7 +133,7 @@ values_for q (e ∷ es) room =
     let longer : length (put q.handles first.0 e) ≤ suc (length q.handles) = length_put q.handles first.0 e in
     let shorter : length es ≤ 1024 - length (put q.handles first.0 e) = omega (arith, room, longer) in
     let rest = values_for (process_with first.0 e q) es shorter in
-    (first.0 ∷ rest.0, and_from _ _ first.1 rest.1)
+    (first.0 ∷ rest.0, and_from (may_get q first.0) (may_get_all (process_with first.0 e q) es rest.0) first.1 rest.1)
 
 -- ---- new handles
 

@@ -1,3 +1,4 @@
 pub mod MapEdits
 pub mod Search
 pub mod Kept
+pub mod Undone

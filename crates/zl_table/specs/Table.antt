@@ -41,6 +41,17 @@ pub record Removes (old : Handles) (value : ℕ) (entry : Entry) (new : Handles)
   pub entries : new.entries ≡ without old.entries value
   pub last : new.last ≡ Some value
 
+-- the entry leaves the table, and the value removed last is the one that is told
+pub record Undoes (old : Handles) (value : ℕ) (told : Option ℕ) (entry : Entry) (new : Handles) : Type 0 where
+  pub was : get old.entries value ≡ Some entry
+  pub entries : new.entries ≡ without old.entries value
+  pub last : new.last ≡ told
+
+-- where an insertion at the value made the old table, its entry comes out, and the new table is the one before it
+pub record TakesBack (old : Handles) (value : ℕ) (told : Option ℕ) (result : Option Entry) (new : Handles) : Type 0 where
+  pub entry : (before : Handles) (entry : Entry) → Inserts before entry value old → result ≡ Some entry
+  pub table : (before : Handles) (entry : Entry) → Inserts before entry value old → told ≡ before.last → new ≡ before
+
 -- the entry leaves the table, at whichever value it had
 pub record Drains (old : Handles) (entry : Entry) (new : Handles) : Type 0 where
   pub value : ℕ

@@ -5,7 +5,7 @@ ghost use Rattle.std.specs.FinMap.Entries.{is_sorted};
 ghost use Rattle.zl_rights.specs.Numbers.{bits, takes};
 ghost use Rattle.zl_rights.specs.Map.{get, has_key, update};
 ghost use Rattle.zl_rights.specs.LookUp.{looked_up};
-ghost use Rattle.zl_table.specs.Table.{CAPACITY, IsTable, Inserts, Removes, Drains, refused_entry};
+ghost use Rattle.zl_table.specs.Table.{CAPACITY, IsTable, Inserts, Removes, Undoes, TakesBack, Drains, refused_entry};
 ghost use Rattle.zl_table.specs.Places.{IsAt, IsGapFor, next_value};
 
 use std::alloc::Global;
@@ -162,6 +162,35 @@ impl Table {
         // `insert` made room for it.
         self.freed.push(value).unwrap();
         self.last = Some(value);
+        Some(entry)
+    }
+
+    /// The value removed last, or nothing where no value was removed or an insertion or a `rewrite`
+    /// came since. It takes no memory.
+    ///
+    /// Source: own profile.
+    pub fn last(&self) -> Option<HValue>
+        ensures { result ≡ self.now.last }
+    {
+        self.last
+    }
+
+    /// Takes the entry at the value out, if the value is live, and leaves `last` as the value removed
+    /// last. It takes no memory.
+    ///
+    /// With what `last` answered before an insertion this takes the insertion back. Of several
+    /// insertions the last one is taken back first.
+    ///
+    /// Source: own profile.
+    pub fn undo(&mut self, value: HValue, last: Option<HValue>) -> Option<Entry>
+        requires told { IfSome last (λ v. v ≡ value) }
+        ensures found { IfSome result (λ entry. Undoes self.old value last entry self.new) }
+        ensures missing { IfNone result (get self.old.entries value ≡ None) }
+        ensures unchanged { IfNone result (self.new ≡ self.old) }
+        ensures taken_back { TakesBack self.old value last result self.new }
+    {
+        let entry = self.remove(value)?;
+        self.last = last;
         Some(entry)
     }
 

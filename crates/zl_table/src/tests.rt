@@ -79,6 +79,25 @@ fn a_rewritten_handle_keeps_its_value(rt: HostRuntime) -> Result<(), Fail> {
 }
 
 #[test]
+fn insertions_are_taken_back_in_reverse_order(rt: HostRuntime) -> Result<(), Fail> {
+    let mut table = Table::new(rt.alloc());
+    let kept = table.insert(event(10))?;
+    let gone = table.insert(event(11))?;
+    table.remove(gone);
+    let before = table.last();
+    assert_eq!(rt; before, Some(gone));
+    let first = table.insert(event(20))?;
+    let between = table.last();
+    let second = table.insert(event(21))?;
+    assert_eq!(rt; table.undo(second, between), Some(event(21)));
+    assert_eq!(rt; table.undo(first, before), Some(event(20)));
+    assert_eq!(rt; table.last(), Some(gone));
+    assert_eq!(rt; table.len(), 1);
+    assert_eq!(rt; table.get(kept), Some(event(10)));
+    Ok(())
+}
+
+#[test]
 fn a_drain_gives_each_entry_once(rt: HostRuntime) -> Result<(), Fail> {
     let mut table = Table::new(rt.alloc());
     for koid in [10, 11] {

@@ -27,7 +27,7 @@ syntax match zlasmLocal /\%(^ *\)\@<=\%(const\|mov\|addi\|add\|sub\|and\|or\|xor
 syntax match zlasmCall /\%(^ *\)\@<=\%(close\|dup\|replace\|chan_create\|chan_write\|chan_read_etc\|event_create\|signal\|signal_peer\|wait_one\|wait_poll\|wait_async\|port_create\|port_queue\|port_wait\|port_poll\|port_cancel\|process_create\|process_start\|process_exit\|task_kill\|job_create\|job_set_policy\) \@=/
 
 " A jump, whose last word may be a label that looks like a register.
-syntax region zlasmJump start=/\%(^ *\)\@<=j\%(mp\|z\|nz\|eq\|ne\|lt\|ge\|has\|nhas\) \@=/ end=/$/ oneline contains=zlasmJumpName,zlasmRegister,zlasmNumber,zlasmTarget,zlasmComment,zlasmError
+syntax region zlasmJump start=/\%(^ *\)\@<=j\%(mp\|z\|nz\|eq\|ne\|lt\|ge\|has\|nhas\) \@=/ end=/$/ oneline keepend contains=zlasmJumpName,zlasmRegister,zlasmNumber,zlasmTarget,zlasmComment,zlasmError
 syntax match zlasmJumpName /\%(^ *\)\@<=j\l\+ \@=/ contained
 syntax match zlasmTarget /\<\l[a-z0-9_]\{,31}\>\%( *\%(;.*\)\=$\)\@=/ contained
 

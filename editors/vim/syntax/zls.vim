@@ -8,6 +8,8 @@ syntax include @zlsAsm <sfile>:p:h/zlasm.vim
 unlet! b:current_syntax
 
 syntax match zlsNumber /\<\d\+\>/
+" A first word that nothing below knows. What is defined later is tried first.
+syntax match zlsUnknown /\%(^ *\)\@<=[^ ]\+/
 syntax match zlsStatement /\%(^ *\)\@<=\%(process\|limit\)\>/
 
 " A program's block, up to the one word `end`.
@@ -17,7 +19,8 @@ syntax match zlsError /[^0-9a-f ]/ contained
 syntax match zlsDigits /[0-9a-f]\+/ contained
 
 " The schedule: pairs of a process and its turns.
-syntax region zlsSchedule matchgroup=zlsProgram start=/^ *-- *$/ end=/\%$/ contains=zlsPid,zlsNumber,zlsComment,zlsBlank,zlsForeign
+syntax region zlsSchedule matchgroup=zlsProgram start=/^ *-- *$/ end=/\%$/ contains=zlsTurns,zlsPid,zlsNumber,zlsComment,zlsBlank,zlsForeign
+syntax match zlsTurns /\%(^ *\)\@<=[^ ]\+/ contained
 syntax match zlsPid /\%(^ *\)\@<=\d\+\>/ contained
 
 " Only spaces part words.
@@ -33,6 +36,8 @@ highlight default link zlsStatement Statement
 highlight default link zlsProgram PreProc
 highlight default link zlsDigits Number
 highlight default link zlsPid Identifier
+highlight default link zlsUnknown Error
+highlight default link zlsTurns Error
 highlight default link zlsError Error
 highlight default link zlsBlank Error
 highlight default link zlsForeign Error

@@ -16,10 +16,10 @@ mod fault;
 mod label_map;
 pub mod laws;
 mod line;
-mod numbers;
+pub mod numbers;
 mod operands;
 mod resolving;
-mod words;
+pub mod words;
 
 pub use assembling::{assemble, assemble_bytes};
 pub use disassembling::disassemble;

@@ -52,7 +52,7 @@ fn value_of(base: u32, digits: &[u8]) -> Option<u32>
 
 /// The number of 32 bits that the word spells: decimal, or hexadecimal behind `0x`.
 #[tactic(auto, unfolding(crate::specs::Words::number_of))]
-pub(crate) fn number(word: &[u8]) -> Option<u32>
+pub fn number(word: &[u8]) -> Option<u32>
     ensures { result ≡ number_of word.now }
 {
     if word.starts_with(b"0x") {
@@ -64,7 +64,7 @@ pub(crate) fn number(word: &[u8]) -> Option<u32>
 
 /// The register of the word, `r0` to `r31`.
 #[tactic(auto, unfolding(crate::specs::Words::register_of))]
-pub(crate) fn register(word: &[u8]) -> Option<u8>
+pub fn register(word: &[u8]) -> Option<u8>
     ensures value { result ≡ register_of word.now }
     ensures below { IfSome result (λ register. register < register_count) }
 {
@@ -82,7 +82,7 @@ const MOST_NAME: usize = 32;
 /// Whether the word is the name of a label: a small letter, and behind it small letters, digits or
 /// `_`, 32 bytes at most.
 #[tactic(auto, unfolding(crate::specs::Words::is_name))]
-pub(crate) fn is_name(word: &[u8]) -> bool
+pub fn is_name(word: &[u8]) -> bool
     ensures { result ≡ is_name word.now }
 {
     match word {
@@ -100,7 +100,7 @@ fn are_of_name(bytes: &[u8]) -> bool
 }
 
 /// The 16 bytes that the hexadecimal digits spell, two digits a byte, if they spell so many.
-pub(crate) fn sixteen_bytes(digits: &[u8]) -> Option<[u8; Instr::LEN]>
+pub fn sixteen_bytes(digits: &[u8]) -> Option<[u8; Instr::LEN]>
     ensures { result ≡
         if_fits (λ bytes. length bytes == instruction_length) (hex_bytes digits.now) }
 {

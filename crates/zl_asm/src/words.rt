@@ -22,7 +22,7 @@ pub(crate) fn is(word: &[u8], bytes: &[u8]) -> bool
 
 /// Puts the words of the line into `words`, in place of what it held. Spaces part words, a comma
 /// is a word of its own, and a semicolon ends the line.
-pub(crate) fn split_words<'a>(words: &mut Vec<&'a [u8]>, line: &'a [u8]) -> Result<(), AllocError>
+pub fn split_words<'a>(words: &mut Vec<&'a [u8]>, line: &'a [u8]) -> Result<(), AllocError>
     ensures { OnOk result (texts words.new.items ≡ words_of line.now) }
 {
     words.clear();

@@ -48,6 +48,13 @@ impl Cpu {
         self.counter
     }
 
+    /// What all registers hold.
+    pub fn registers(&self) -> &[u64]
+        ensures { result.now ≡ self.now.registers }
+    {
+        &self.registers
+    }
+
     /// What the register holds.
     pub fn register(&self, register: Register) -> u64
         ensures { result ≡ reg self.now register }

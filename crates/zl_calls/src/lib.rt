@@ -16,5 +16,6 @@ mod running;
 mod stepping;
 mod world;
 
+pub use cpu::Cpu;
 pub use program::{Library, Program};
 pub use world::{Local, World};

@@ -1,6 +1,8 @@
 ghost use Rattle.std.specs.Prelude.{length, ◌≡◌, ◌≢◌, ◌≤◌, false, IsSome, IsTrue, IfSome, IfNone, IfOk, OnOk, IfErr, None, slice_get, map};
 ghost use Rattle.std.specs.Ordering.{nat_cmp};
 ghost use Rattle.std.specs.FinMap.Entries.{is_sorted};
+ghost use Rattle.std.specs.Option.{option_map};
+ghost use Rattle.zl_rights.specs.Map.{get};
 ghost use Rattle.zl_code.specs.declared.boot.BootCause.TheVariants.{NoMemory};
 ghost use Rattle.zl_code.specs.Boot.{IsBoot, FirstFault, MOST_ITEMS};
 ghost use Rattle.zl_calls.specs.World.{call_for, state_in, is_ready_in};
@@ -9,13 +11,14 @@ ghost use Rattle.zl_calls.specs.Steps.{Performs, StepsTo, TakesStep, local_item,
 
 use crate::booting::{Made, booted};
 use crate::calls::process::end;
+use crate::cpu::Cpu;
 use crate::objects::Objects;
 use crate::process::Process;
 use crate::program::Library;
 use crate::stepping::{call_next, next_name, place_of, run_next};
 use std::alloc::Global;
 use std::marker::Model;
-use zl_code::{Boot, BootFault, CallName, Outcome, ProcState, TraceItem};
+use zl_code::{Boot, BootFault, CallName, Image, Outcome, ProcState, TraceItem};
 use zl_rights::{Pid, Status};
 
 /// The code with which a stuck process ends (own profile).
@@ -107,6 +110,27 @@ impl World {
             Some(place) => self.processes[place].state(),
             None => ProcState::Gone,
         }
+    }
+
+    /// What the process computes with; nothing for a number that was never a process. One that ended
+    /// has it as it was then.
+    pub fn cpu_of(&self, pid: Pid) -> Option<&Cpu>
+        ensures { option_map (λ cpu. cpu.now) result
+            ≡ option_map (λ p. p.cpu) (get self.now.world.processes pid) }
+    {
+        let place = place_of(&self.processes, pid)?;
+        Some(&self.processes[place].cpu)
+    }
+
+    /// The image that the process runs; nothing for a number that was never a process.
+    pub fn image_of(&self, pid: Pid) -> Option<&Image>
+        ensures found { IfSome result (λ image. IfSome (get self.now.world.processes pid)
+            (λ p. IfSome (slice_get self.now.programs p.program) (λ program. program.image ≡ image.now))) }
+        ensures missing { get self.now.world.processes pid ≡ None → result ≡ None }
+    {
+        let place = place_of(&self.processes, pid)?;
+        let program = self.library.get(self.processes[place].program)?;
+        Some(program.image())
     }
 
     /// The call at which the process is, if it is ready and at one.

@@ -1,0 +1,72 @@
+//! Which word of a command line wasn't understood.
+
+use crate::nearest::push_nearest;
+use crate::word::Word;
+use std::alloc::{AllocError, Global};
+use std::convert::AsStr;
+
+/// The commands that come later.
+const LATER: [&str; 4] = ["step", "check", "run", "replay"];
+
+/// Adds which of the words, those behind the program's name, wasn't understood.
+pub fn explain_words<S: AsStr>(hint: &mut String, alloc: Global, words: &[S]) {
+    if push_words(hint, alloc, words).is_err() {
+        hint.clear();
+    }
+}
+
+fn push_words<S: AsStr>(hint: &mut String, alloc: Global, words: &[S]) -> Result<(), AllocError> {
+    let [first, rest @ ..] = words else {
+        return Ok(());
+    };
+    let word = first.as_str();
+    if word == "asm" {
+        return push_asm(hint, rest);
+    }
+    if LATER.contains(&word) {
+        return write!(hint, "{word} isn't built yet");
+    }
+    let shown = Word(word.as_bytes());
+    if word.starts_with('-') {
+        write!(hint, "no option is called {shown}")?;
+        return push_nearest(
+            hint,
+            alloc,
+            word.as_bytes(),
+            &["--help", "--version", "-h", "-V"],
+        );
+    }
+    write!(hint, "no command is called {shown}")?;
+    push_nearest(
+        hint,
+        alloc,
+        word.as_bytes(),
+        &["asm", "help", "step", "check", "run", "replay"],
+    )?;
+    if rest.is_empty() {
+        write!(hint, "; a scenario comes by standard input: zlab < {shown}")?;
+    }
+    Ok(())
+}
+
+/// Adds what is wrong with the words behind `asm`.
+fn push_asm<S: AsStr>(hint: &mut String, words: &[S]) -> Result<(), AllocError> {
+    for word in words {
+        let word = word.as_str();
+        if word.len() > 1 && word.starts_with('-') && word != "--" {
+            return write!(hint, "asm has no option {}", Word(word.as_bytes()));
+        }
+    }
+    match words {
+        [] => hint.push_str("asm takes two files, IN and OUT, and has none"),
+        [_] => hint.push_str("asm takes two files, IN and OUT, and has one"),
+        [_, _, third, ..] => {
+            write!(
+                hint,
+                "asm takes two files, IN and OUT, and {} is a third word",
+                Word(third.as_str().as_bytes())
+            )
+        }
+        _ => Ok(()),
+    }
+}

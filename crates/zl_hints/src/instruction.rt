@@ -1,0 +1,123 @@
+//! The faults of an instruction of the assembler's text.
+
+use crate::lines::is;
+use crate::nearest::Nearest;
+use crate::word::{Word, plural};
+use std::alloc::{AllocError, Global};
+use zl_asm::numbers::{is_name, number, register};
+use zl_code::{Ending, HandleList, Row};
+
+/// Adds which instruction was meant by a name that none has.
+pub fn push_instruction_unknown(
+    hint: &mut String,
+    alloc: Global,
+    name: &[u8],
+) -> Result<(), AllocError> {
+    write!(hint, "no instruction is called {}", Word(name))?;
+    let mut nearest = Nearest::new(name);
+    for opcode in 0..=u8::MAX {
+        if let Some(row) = Row::of_opcode(opcode) {
+            nearest.try_name(alloc, row.name)?;
+        }
+    }
+    nearest.push(hint)
+}
+
+/// How many operands stand behind the registers.
+fn ending_count(ending: Ending) -> usize {
+    match ending {
+        Ending::Nothing | Ending::Handles => 0,
+        Ending::Number | Ending::Target | Ending::Room => 1,
+        Ending::Both => 2,
+    }
+}
+
+/// What stands behind the registers.
+fn ending_text(ending: Ending) -> &'static str {
+    match ending {
+        Ending::Nothing => "",
+        Ending::Number | Ending::Room => " and a number",
+        Ending::Target => " and a target",
+        Ending::Both => ", a number and a target",
+        Ending::Handles => " and up to 8 more",
+    }
+}
+
+/// Adds which operand of the instruction is wrong, or how many it takes.
+pub fn push_instruction_operand(
+    hint: &mut String,
+    name: &[u8],
+    words: &[&[u8]],
+) -> Result<(), AllocError> {
+    let Some(row) = Row::named(name) else {
+        return Ok(());
+    };
+    let count = words.iter().filter(|word| !is(word, b",")).count();
+    let least = row.registers.saturating_add(ending_count(row.ending));
+    let most = match row.ending {
+        Ending::Handles => least.saturating_add(HandleList::MOST),
+        _ => least,
+    };
+    if count < least || count > most {
+        return push_count(hint, &row, count, least);
+    }
+    let operands = words.iter().filter(|word| !is(word, b","));
+    for (index, word) in operands.enumerate() {
+        if let Some(wanted) = wanted_for(&row, index, word) {
+            let number = index.saturating_add(1);
+            let word = Word(word);
+            let name = row.name;
+            return write!(
+                hint,
+                "operand {number} of {name} is {word}, and {wanted} is wanted there"
+            );
+        }
+    }
+    write!(
+        hint,
+        "{} has room for 0 to 8 handles, three registers each, up to r31",
+        row.name
+    )
+}
+
+/// Adds how many operands there are, and how many the instruction takes.
+fn push_count(hint: &mut String, row: &Row, count: usize, least: usize) -> Result<(), AllocError> {
+    let (name, registers) = (row.name, row.registers);
+    let ending = plural(count);
+    write!(hint, "{name} has {count} operand{ending} and takes {least}")?;
+    if matches!(row.ending, Ending::Handles) {
+        hint.push_str(" to 12")?;
+    }
+    if registers == 0 {
+        return hint.push_str(": a target");
+    }
+    let (ending, rest) = (plural(registers), ending_text(row.ending));
+    write!(hint, ": {registers} register{ending}{rest}")
+}
+
+/// What is wanted in place of the word, where it isn't that.
+fn wanted_for(row: &Row, index: usize, word: &[u8]) -> Option<&'static str> {
+    let is_behind = index >= row.registers;
+    let is_last = index > row.registers;
+    match row.ending {
+        Ending::Target if is_behind => no_target(word),
+        Ending::Both if is_last => no_target(word),
+        Ending::Number | Ending::Room | Ending::Both if is_behind => match number(word) {
+            Some(_) => None,
+            None => Some("a number from 0 to 4294967295"),
+        },
+        _ => match register(word) {
+            Some(_) => None,
+            None => Some("a register, r0 to r31,"),
+        },
+    }
+}
+
+/// What is wanted where the word is no target.
+fn no_target(word: &[u8]) -> Option<&'static str> {
+    if is_name(word) || number(word).is_some() {
+        None
+    } else {
+        Some("a label or a number")
+    }
+}

@@ -1,0 +1,74 @@
+//! The name that was meant.
+
+use std::alloc::{AllocError, Global};
+use strsim::osa_distance;
+
+/// No word above this length is compared.
+const MOST_COMPARED: usize = 40;
+
+/// The nearest of the names that were tried so far.
+#[derive(Drop)]
+pub struct Nearest<'word, 'name> {
+    word: &'word str,
+    found: Option<&'name str>,
+    /// A name is near below this distance.
+    bound: usize,
+}
+
+impl<'word, 'name> Nearest<'word, 'name> {
+    /// Before the first name. A name is near where at most a third of the word has to be changed, or one
+    /// letter.
+    pub fn new(word: &'word [u8]) -> Nearest<'word, 'name> {
+        let word = match str::from_utf8(word) {
+            Ok(word) if word.len() <= MOST_COMPARED => word,
+            _ => "",
+        };
+        let bound = match word.len() {
+            0 => 0,
+            len => len.max(3) / 3 + 1,
+        };
+        Nearest {
+            word,
+            found: None,
+            bound,
+        }
+    }
+
+    /// Tries a name.
+    pub fn try_name(&mut self, alloc: Global, name: &'name str) -> Result<(), AllocError> {
+        let distance = osa_distance(alloc, self.word, name)?;
+        if distance < self.bound {
+            self.bound = distance;
+            self.found = Some(name);
+        }
+        Ok(())
+    }
+
+    /// Tries each of the names.
+    pub fn try_all(&mut self, alloc: Global, names: &[&'name str]) -> Result<(), AllocError> {
+        for name in names {
+            self.try_name(alloc, name)?;
+        }
+        Ok(())
+    }
+
+    /// Adds the name, if one is near.
+    pub fn push(&self, hint: &mut String) -> Result<(), AllocError> {
+        match self.found {
+            Some(name) => write!(hint, "; did you mean {name}?"),
+            None => Ok(()),
+        }
+    }
+}
+
+/// Adds the one of the names that was meant, if one is near.
+pub fn push_nearest(
+    hint: &mut String,
+    alloc: Global,
+    word: &[u8],
+    names: &[&str],
+) -> Result<(), AllocError> {
+    let mut nearest = Nearest::new(word);
+    nearest.try_all(alloc, names)?;
+    nearest.push(hint)
+}

@@ -15,6 +15,7 @@ use std::alloc::Global;
 use std::io::{Read, Write};
 use zl_asm::{AsmCause, AsmFault, assemble_bytes};
 use zl_code::encode;
+use zl_hints::explain_program;
 
 /// What a text leads to.
 #[derive(Drop)]
@@ -32,7 +33,8 @@ const TOO_LONG: AsmFault = AsmFault {
 
 /// Reads the text of a program, and writes the bytes of the image that it denotes to `image`, or
 /// the line `refused LINE CAUSE` to `line`; a text above 4,194,304 bytes is `refused 0 Limit`. All
-/// input is read before anything is written, and nothing is written to the other writer.
+/// input is read before anything is written, and nothing is written to the other writer. To `hints` it
+/// adds for a person why the text is refused.
 ///
 /// A fault of the reader is `Read`, with nothing written. A fault of a writer, and a want of memory,
 /// leave nothing or a beginning of such an answer.
@@ -41,6 +43,7 @@ pub fn asm_engine<R: Read, I: Write, L: Write>(
     text: &mut R,
     image: &mut I,
     line: &mut L,
+    hints: &mut String,
 ) -> Result<Verdict, EngineFault>
     ensures ok { IfOk result (λ verdict. AssemblesReader (R.remaining text.old) verdict
         (I.contents image.old) (I.contents image.new) (L.contents line.old) (L.contents line.new)) }
@@ -51,25 +54,35 @@ pub fn asm_engine<R: Read, I: Write, L: Write>(
         × (L.contents line.new ≡ L.contents line.old)) }
     ensures taken { TakesNoMore (R.remaining text.old) (R.remaining text.new) }
 {
-    match read_text(alloc, text)? {
+    let mut kept = Vec::new(alloc);
+    match read_text(alloc, text, &mut kept)? {
         Assembled::Image(bytes) => {
             write_all(image, bytes.as_slice())?;
             Ok(Verdict::Done)
         }
         Assembled::Refused(fault) => {
             write_fault(alloc, line, fault)?;
+            explain_program(hints, alloc, kept.as_slice(), fault);
             Ok(Verdict::Refused)
         }
     }
 }
 
-/// What the whole text of the reader leads to.
-fn read_text<R: Read>(alloc: Global, reader: &mut R) -> Result<Assembled, EngineFault>
+/// What the whole text of the reader leads to. The text is put into `kept`, if it isn't too long.
+fn read_text<R: Read>(
+    alloc: Global,
+    reader: &mut R,
+    kept: &mut Vec<u8>,
+) -> Result<Assembled, EngineFault>
     ensures read { IfOk result (ReadsTo (R.remaining reader.old)) }
     ensures taken { TakesNoMore (R.remaining reader.old) (R.remaining reader.new) }
 {
     match read_input(alloc, reader)? {
-        Input::Text(text) => assemble_text(alloc, text.as_slice()),
+        Input::Text(text) => {
+            let assembled = assemble_text(alloc, text.as_slice());
+            *kept = text;
+            assembled
+        }
         Input::TooLong => Ok(Assembled::Refused(TOO_LONG)),
     }
 }

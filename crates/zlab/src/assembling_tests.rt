@@ -11,7 +11,8 @@ use std::test::Fail;
 fn assembled(alloc: Global, mut text: &[u8]) -> Result<(Verdict, Vec<u8>, Vec<u8>), EngineFault> {
     let mut image = Vec::new(alloc);
     let mut line = Vec::new(alloc);
-    let verdict = asm_engine(alloc, &mut text, &mut image, &mut line)?;
+    let mut hints = String::new(alloc);
+    let verdict = asm_engine(alloc, &mut text, &mut image, &mut line, &mut hints)?;
     Ok((verdict, image, line))
 }
 

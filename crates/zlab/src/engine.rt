@@ -8,6 +8,7 @@ ghost use Rattle.zlab.specs.Output.{AppendsBeginning, Gathers};
 ghost use Rattle.zlab.specs.Text.{cause_name, refused_line, state_line};
 
 use crate::fault::{Cause, EngineFault, LineFault, Verdict};
+use crate::hints::explain_trace;
 use crate::input::{Input, read_input};
 use crate::output::{empty_block, write_block, write_if_full, write_items};
 use crate::scenario::{Reading, Scenario, read_scenario};
@@ -17,6 +18,7 @@ use std::alloc::Global;
 use std::io::{Read, Write};
 use zl_calls::World;
 use zl_code::{BootCause, BootFault, ProcState};
+use zl_hints::explain_scenario;
 use zl_rights::Pid;
 
 /// Reads a scenario with a schedule, and writes the trace along the schedule or the line of the
@@ -24,13 +26,15 @@ use zl_rights::Pid;
 ///
 /// The trace is the text of a legal history, in each world of which handles are sound and name
 /// objects of their kind. It has as many items as the scenario's limit at most, and no more is read
-/// than one byte past 4,194,304.
+/// than one byte past 4,194,304. To `hints` it adds for a person why the input is refused, and why
+/// each stuck process is stuck.
 /// A fault of the reader is `Read`, with nothing written. A fault of the writer, and a want of memory,
 /// leave nothing or a beginning of such an answer.
 pub fn step_engine<R: Read, W: Write>(
     alloc: Global,
     reader: &mut R,
     writer: &mut W,
+    hints: &mut String,
 ) -> Result<Verdict, EngineFault>
     ensures ok { IfOk result (λ verdict. AnswersReader (R.remaining reader.old) verdict
         (W.contents writer.old) (W.contents writer.new)) }
@@ -41,8 +45,12 @@ pub fn step_engine<R: Read, W: Write>(
     ensures taken { TakesNoMore (R.remaining reader.old) (R.remaining reader.new) }
 {
     match read_input(alloc, reader)? {
-        Input::Text(text) => answer(alloc, writer, text.as_slice()),
-        Input::TooLong => write_refusal(alloc, writer, TOO_LONG),
+        Input::Text(text) => answer(alloc, writer, hints, text.as_slice()),
+        Input::TooLong => {
+            let ended = write_refusal(alloc, writer, TOO_LONG);
+            explain_scenario(hints, alloc, &[], TOO_LONG.line, TOO_LONG.cause.name());
+            ended
+        }
     }
 }
 
@@ -58,7 +66,12 @@ enum Booted {
     Refused(LineFault),
 }
 
-fn answer<W: Write>(alloc: Global, writer: &mut W, text: &[u8]) -> Result<Verdict, EngineFault>
+fn answer<W: Write>(
+    alloc: Global,
+    writer: &mut W,
+    hints: &mut String,
+    text: &[u8],
+) -> Result<Verdict, EngineFault>
     requires fits { FitsInput text.now }
     ensures ok { IfOk result (λ verdict. Answers text.now verdict (W.contents writer.old)
         (W.contents writer.new)) }
@@ -67,13 +80,16 @@ fn answer<W: Write>(alloc: Global, writer: &mut W, text: &[u8]) -> Result<Verdic
     ensures fault { IfErr result (λ fault. fault ≢ EngineFault.Read) }
 {
     match boot(alloc, text)? {
-        Booted::Runs(mut system, schedule) => write_run(
-            alloc,
-            writer,
-            &mut system,
-            schedule.as_slice(),
-        ),
-        Booted::Refused(fault) => write_refusal(alloc, writer, fault),
+        Booted::Runs(mut system, schedule) => {
+            let ended = write_run(alloc, writer, &mut system, schedule.as_slice());
+            explain_trace(hints, alloc, &system);
+            ended
+        }
+        Booted::Refused(fault) => {
+            let ended = write_refusal(alloc, writer, fault);
+            explain_scenario(hints, alloc, text, fault.line, fault.cause.name());
+            ended
+        }
     }
 }
 

@@ -1,8 +1,8 @@
-//! The program: its command line, the trace of standard input, the assembler over files, and its exit
-//! status.
+//! The program: its command line, the trace of standard input, the assembler over files, what standard
+//! error says, and its exit status.
 //!
-//! It stands on `zl_calls` for the world, on `zl_asm` for the assembler, on `zl_code` and `zl_rights`
-//! for what these speak of, and on `clap` and `thiserror`. It promises, by the contracts of
+//! It stands on `zl_calls` for the world, on `zl_asm` for the assembler, on `zl_hints` for what a
+//! person is told, on `zl_code` and `zl_rights` for what these speak of, and on `clap` and `thiserror`. It promises, by the contracts of
 //! `step_engine`, `asm_engine` and `words`, that what is written is the answer to what was read.
 #![tactic(auto)]
 
@@ -13,6 +13,7 @@ mod assembling;
 mod assembling_tests;
 mod engine;
 mod fault;
+mod hints;
 #[cfg(test)]
 mod image_tests;
 mod input;
@@ -24,17 +25,23 @@ mod system;
 #[cfg(test)]
 mod tests;
 mod text;
+mod told;
 mod words;
 
 use assembling::asm_engine;
 use engine::step_engine;
 use fault::{EngineFault, Verdict};
+use hints::explain_failure;
 use std::alloc::AllocError;
+use std::fs::OpenFile;
+use std::os::unix::fs::MetadataExt;
 use std::process::ExitCode;
 use std::rt::{Env, Files};
 use std::{env, fs, io};
 use thiserror::Error;
+use told::Told;
 use words::{Task, WordFault};
+use zl_hints::explain_words;
 
 /// Why the program ends without an answer.
 #[derive(Debug, Drop, Error)]
@@ -52,34 +59,78 @@ impl From<AllocError> for Failure {
 }
 
 fn main(rt: HostRuntime) -> ExitCode {
-    match run(&rt) {
-        Ok(Verdict::Done) => ExitCode::SUCCESS,
-        Ok(Verdict::Refused) => ExitCode::from(1),
+    let mut hints = String::new(rt.alloc());
+    match run(&rt, &mut hints) {
+        Ok(verdict) => {
+            let _ = eprint!(rt; "{hints}");
+            match verdict {
+                Verdict::Done => ExitCode::SUCCESS,
+                Verdict::Refused => ExitCode::from(1),
+            }
+        }
         Err(failure) => {
-            let _ = eprintln!(rt; "zlab: {failure}");
+            let _ = match &failure {
+                Failure::Words(WordFault::Usage) => {
+                    eprintln!(rt; "zlab: a wrong command line: {hints}; {failure}")
+                }
+                _ if hints.is_empty() => eprintln!(rt; "zlab: {failure}"),
+                _ => eprintln!(rt; "zlab: {failure}: {hints}"),
+            };
             ExitCode::from(status_of(&failure))
         }
     }
 }
 
-fn run<R: AllocGlobal + Env + Files + Input + Print>(rt: &R) -> Result<Verdict, Failure> {
-    let all = all_words(rt)?;
+/// Does what the words ask for. What standard error is to say beside the verdict or the failure is
+/// put into `hints`.
+fn run<R: AllocGlobal + Env + Files + Input + Print>(
+    rt: &R,
+    hints: &mut String,
+) -> Result<Verdict, Failure> {
+    let all = all_words(rt, hints)?;
     let words = all.get(1..).unwrap_or(&[]);
     if let Some(text) = words::help(rt.alloc(), words)? {
         return match print!(rt; "{text}") {
             Ok(()) => Ok(Verdict::Done),
-            Err(_) => Err(Failure::Engine(EngineFault::Write)),
+            Err(reason) => {
+                explain_failure(hints, "standard output", Some(reason));
+                Err(Failure::Engine(EngineFault::Write))
+            }
         };
     }
-    match words::words(rt.alloc(), words)? {
-        Task::Input => Ok(step_engine(rt.alloc(), &mut rt.reader(), &mut io::writer(rt))?),
-        Task::Assemble { text, image } => Ok(assemble(rt, text, image)?),
+    match words::words(rt.alloc(), words) {
+        Ok(Task::Input) => Ok(step(rt, hints)?),
+        Ok(Task::Assemble { text, image }) => Ok(assemble(rt, hints, text, image)?),
+        Err(fault) => {
+            if fault == WordFault::Usage {
+                explain_words(hints, rt.alloc(), words);
+            }
+            Err(Failure::Words(fault))
+        }
     }
 }
 
-/// Assembles the file `text` into the file `image`, which is made or emptied before anything is read.
+/// Answers standard input on standard output.
+fn step<R: AllocGlobal + Input + Print>(
+    rt: &R,
+    hints: &mut String,
+) -> Result<Verdict, EngineFault> {
+    let mut reader = Told::new(rt.reader());
+    let mut writer = Told::new(io::writer(rt));
+    let ended = step_engine(rt.alloc(), &mut reader, &mut writer, hints);
+    match &ended {
+        Err(EngineFault::Read) => explain_failure(hints, "standard input", reader.reason()),
+        Err(EngineFault::Write) => explain_failure(hints, "standard output", writer.reason()),
+        _ => {}
+    }
+    ended
+}
+
+/// Assembles the file `text` into the file `image`, which is made or emptied once the other is open,
+/// and before anything is read.
 fn assemble<R: AllocGlobal + Files + Print>(
     rt: &R,
+    hints: &mut String,
     text: &str,
     image: &str,
 ) -> Result<Verdict, EngineFault> {
@@ -88,24 +139,58 @@ fn assemble<R: AllocGlobal + Files + Print>(
     let _input = fs::open(rt, "/dev/null");
     let _output = fs::open(rt, "/dev/null");
     let _errors = fs::open(rt, "/dev/null");
-    let Ok(mut image) = fs::create(rt, image) else {
+    let source = match fs::open(rt, text) {
+        Ok(source) => source,
+        Err(reason) => {
+            explain_failure(hints, text, Some(reason));
+            return Err(EngineFault::Read);
+        }
+    };
+    if text == image || is_same_file(rt, &source, image) {
+        explain_failure(hints, "IN and OUT are one file, which stays as it is", None);
         return Err(EngineFault::Write);
+    }
+    let target = match fs::create(rt, image) {
+        Ok(target) => target,
+        Err(reason) => {
+            explain_failure(hints, image, Some(reason));
+            return Err(EngineFault::Write);
+        }
     };
-    let Ok(mut text) = fs::open(rt, text) else {
-        return Err(EngineFault::Read);
-    };
-    asm_engine(rt.alloc(), &mut text, &mut image, &mut io::writer(rt))
+    let (mut source, mut target) = (Told::new(source), Told::new(target));
+    let mut line = Told::new(io::writer(rt));
+    let ended = asm_engine(rt.alloc(), &mut source, &mut target, &mut line, hints);
+    match (&ended, line.reason()) {
+        (Err(EngineFault::Read), _) => explain_failure(hints, text, source.reason()),
+        (Err(EngineFault::Write), None) => explain_failure(hints, image, target.reason()),
+        (Err(EngineFault::Write), reason) => explain_failure(hints, "standard output", reason),
+        _ => {}
+    }
+    ended
+}
+
+/// Whether the open file is a plain one that the path names too.
+fn is_same_file<R: Files>(rt: &R, file: &R::File, path: &str) -> bool {
+    match (file.metadata(), fs::metadata(rt, path)) {
+        (Ok(open), Ok(named)) => {
+            open.is_file() && open.dev() == named.dev() && open.ino() == named.ino()
+        }
+        _ => false,
+    }
 }
 
 /// The program's name and the words after it.
-fn all_words<R: AllocGlobal + Env>(rt: &R) -> Result<Vec<String>, Failure> {
+fn all_words<R: AllocGlobal + Env>(rt: &R, hints: &mut String) -> Result<Vec<String>, Failure> {
     match env::args(rt) {
         Ok(words) => Ok(words.collect(rt.alloc())?),
         Err(fault) if fault.kind() == io::ErrorKind::OutOfMemory => {
             Err(Failure::Words(WordFault::NoMemory))
         }
         // A word that isn't UTF-8 is in no form.
-        Err(_) => Err(Failure::Words(WordFault::Usage)),
+        Err(_) => {
+            let _ = hints.push_str("a word isn't UTF-8");
+            Err(Failure::Words(WordFault::Usage))
+        }
     }
 }
 

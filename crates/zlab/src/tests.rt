@@ -68,7 +68,7 @@ process 1 0 0
 /// What the engine writes, and how it ends.
 fn answer(alloc: Global, mut input: &[u8]) -> Result<(Verdict, Vec<u8>), EngineFault> {
     let mut output = Vec::new(alloc);
-    let verdict = step_engine(alloc, &mut input, &mut output)?;
+    let verdict = step_engine(alloc, &mut input, &mut output, &mut String::new(alloc))?;
     Ok((verdict, output))
 }
 
@@ -377,7 +377,12 @@ fn reports_a_fault_of_the_reader(rt: HostRuntime) -> Result<(), Fail> {
                 calls,
             };
             let mut output = Vec::new(rt.alloc());
-            match step_engine(rt.alloc(), &mut reader, &mut output) {
+            match step_engine(
+                rt.alloc(),
+                &mut reader,
+                &mut output,
+                &mut String::new(rt.alloc()),
+            ) {
                 Ok(Verdict::Done) => assert!(rt;
                     calls > text.len() && output.as_slice() == trace.as_bytes()
                 ),
@@ -402,7 +407,7 @@ fn answer_narrow(
         most,
         calls,
     };
-    let ended = step_engine(alloc, &mut input, &mut writer);
+    let ended = step_engine(alloc, &mut input, &mut writer, &mut String::new(alloc));
     (ended, writer)
 }
 
@@ -459,6 +464,11 @@ fn reports_a_writer_that_takes_no_byte(rt: HostRuntime) {
         most: 0,
         calls: 2,
     };
-    let ended = step_engine(rt.alloc(), &mut input, &mut writer);
+    let ended = step_engine(
+        rt.alloc(),
+        &mut input,
+        &mut writer,
+        &mut String::new(rt.alloc()),
+    );
     assert!(rt; matches!(ended, Err(EngineFault::Write)) && writer.calls == 1);
 }

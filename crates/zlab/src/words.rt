@@ -31,7 +31,7 @@ pub enum Task<'a> {
 #[derive(Clone, Copy, PartialEq, Eq, Debug, Error)]
 pub enum WordFault {
     /// The words are in none of the forms.
-    #[error("a wrong command line; the forms are `zlab < INPUT` and `zlab asm IN OUT`; not built \
+    #[error("the forms are `zlab < INPUT` and `zlab asm IN OUT`; not built \
              yet: `zlab step SCENARIO SCHEDULE`, `zlab check IMAGE`, \
              `zlab run SCENARIO --workers N --limit M`, `zlab replay SCENARIO TRACE`; \
              `zlab --help` says more")]

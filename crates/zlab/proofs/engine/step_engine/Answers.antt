@@ -7,8 +7,8 @@ returns-in_err-text-clause-err g c = on_err c.from_residual.result (reader_unans
 
 pub returns-in-TooLong-clause-ok : goal.returns-in-TooLong-clause-ok
 returns-in-TooLong-clause-ok g c =
-    both_ok c.write_refusal.result _ _ _ (λ v is wrote. long_answers _ c.in_ok-text.field-0 (c.in_ok-text.ensures).ok v _ _ c.in-TooLong.is is wrote) c.write_refusal.ensures.verdict c.write_refusal.ensures.ok
+    both_ok c.write_refusal-ended.result _ _ _ (λ v is wrote. long_answers _ c.in_ok-text.field-0 (c.in_ok-text.ensures).ok v _ _ c.in-TooLong.is is wrote) c.write_refusal-ended.ensures.verdict c.write_refusal-ended.ensures.ok
 
 pub returns-in-TooLong-clause-err : goal.returns-in-TooLong-clause-err
 returns-in-TooLong-clause-err g c =
-    mapped_err c.write_refusal.result _ _ (long_begins _ c.in_ok-text.field-0 (c.in_ok-text.ensures).ok _ _ c.in-TooLong.is) c.write_refusal.ensures.err
+    mapped_err c.write_refusal-ended.result _ _ (long_begins _ c.in_ok-text.field-0 (c.in_ok-text.ensures).ok _ _ c.in-TooLong.is) c.write_refusal-ended.ensures.err

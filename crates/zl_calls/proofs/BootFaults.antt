@@ -1,18 +1,26 @@
 -- Which fault a statement of a boot has, from what the code tests.
-use Rattle.zl_code.proofs.Common.{or_left, or_right, length-map, ◌≡◌, ◌<◌, ◌≤◌, ℕ, true, false, ◌||◌, not, List, [], ◌∷◌, length, map, refl, Option, Some, None, inl, inr, ◌⊎◌, arith, slice_get, nat_lt, nat_le, option_map, nat_tests, then_some, first_some, get, Library, Program, body_in, boot_fault, is_job_body}
-use Rattle.zl_calls.specs.declared.objects.Body.{Body}
+use Rattle.zl_code.proofs.Common.{◌≡◌, ◌<◌, ◌≤◌, ◌&&◌, ◌||◌, ◌⊎◌, ℕ, Bool, true, false, not, List, [], ◌∷◌, ◌++◌, length, map, refl, sym, ap, ◌∙◌, false≢true, Option, Some, None, inl, inr, IsTrue, arith, or_left, or_right, and_parts, length-map, is_some, slice_get, nat_lt, nat_le, option_map, nat_tests, then_some, first_some, Map, get, has_key, World, Object as ObjectValue, Library, Program, body_in, boot_fault, is_job_body, has_default_rights, within, default_rights_of, rights_of, kind_of, ◌^◌, ◌==◌, bit_and, cases_Bool, eqb-true}
+use Rattle.std.specs.List.{list_all}
+use Rattle.std.specs.Option.{option_to_list}
 use Rattle.std.proofs.lemmas.Option.{slice_get_past}
+use Rattle.std.proofs.lemmas.Nat.{and_le_l}
+use Rattle.zl_rights.specs.declared.entry.Entry.{Entry}
+use Rattle.zl_rights.specs.declared.kind.Kind.{Kind}
+use Rattle.zl_rights.specs.declared.kind.Kind.TheVariants as kind
 use Rattle.zl_code.specs.declared.boot.BootCause.{BootCause}
 use Rattle.zl_code.specs.declared.boot.BootCause.TheVariants as cause
+use Rattle.zl_code.specs.declared.boot.Grant.{Grant}
 use Rattle.zl_code.specs.declared.boot.Statement.TheVariants as statement
-use Rattle.zl_code.specs.Boot.{is_job, MOST_PROCESSES, MOST_KOIDS}
+use Rattle.zl_code.specs.Boot.{rights_given, is_job, all_known, may_start_with, handle_given, handles_given, MOST_PROCESSES, MOST_KOIDS, MOST_GRANTS}
+use Rattle.zl_calls.specs.declared.objects.Body.{Body}
 use Rattle.zl_calls.specs.declared.objects.Body.TheVariants as body
 use Rattle.zl_calls.specs.declared.objects.Object.{Object}
 use Rattle.zl_calls.specs.declared.process.Process.{Process}
 use Rattle.zl_calls.specs.Objects.{Objects}
-use Rattle.zl_calls.specs.World.{process_entry, body_value, object_value, world_value}
+use Rattle.zl_calls.specs.World.{body_value, object_entry, object_value, world_value}
 use Rattle.zl_calls.specs.Objects.{is_job_in as is_job_object, is_job_body as is_job_here}
-use Rattle.zl_calls.specs.Makes.{IsCauseOf}
+use Rattle.zl_calls.specs.Objects.{kind_in, kind_at}
+use Rattle.zl_calls.specs.Gives.{allowed, if_default, rights_if}
 use Rattle.zl_calls.proofs.Labs.{get_seen}
 
 -- ---- jobs
@@ -29,39 +37,137 @@ job_seen ps r k = rw (get_seen r.objects k) (by_object (get r.objects k))
         by_body (body.Process job lives) = refl
         by_body body.Event = refl
 
+-- ---- handles
+
+module _ (objects : Map Object) where
+  kind_there : (k : ℕ) → is_some (kind_at objects k) ≡ has_key (map object_entry objects) k
+  kind_there k = rw (get_seen objects k) (by_object (get objects k))
+    where
+      by_object : (o : Option Object) → is_some (option_map (λ (x : Object). kind_in x.body) o) ≡ is_some (option_map object_value o)
+      by_object None = refl
+      by_object (Some o) = refl
+
+  pub known_seen : (gs : List Grant) → all_known (map object_entry objects) gs ≡ list_all (λ g. is_some (kind_at objects g.koid)) gs
+  known_seen [] = refl
+  known_seen (g ∷ gs) = λ i. sym (kind_there g.koid) i && known_seen gs i
+
+  -- the handle that is given, from the kind of its object
+  abbrev pub with_kind : Grant → Option Kind → Option Entry
+  with_kind g None = None
+  with_kind g (Some kind) = option_map (λ rights. record { koid = g.koid; kind = kind; rights = rights }) (rights_if (within (rights_given g.rights kind) (default_rights_of kind)) (rights_given g.rights kind))
+
+  pub handle_seen : (g : Grant) → allowed (map object_entry objects) g ≡ with_kind g (kind_at objects g.koid)
+  handle_seen g = rw (get_seen objects g.koid) (by_object (get objects g.koid))
+    where
+      by_test : (k : Kind) (b : Bool) → then_some {T = Entry} b (record { koid = g.koid; kind = k; rights = rights_of (rights_given g.rights k) }) ≡ option_map (λ rights. record { koid = g.koid; kind = k; rights = rights }) (then_some b (rights_of (rights_given g.rights k)))
+      by_test k true = refl
+      by_test k false = refl
+
+      given : Kind → Option Entry
+      given k = if_default (Some (record { koid = g.koid; kind = k; rights = rights_of (rights_given g.rights k) }))
+
+      kind_is : (b : Body) → kind_of (body_value b) ≡ kind_in b
+      kind_is body.RootJob = refl
+      kind_is (body.Process job lives) = refl
+      kind_is body.Event = refl
+
+      by_object : (o : Option Object) → if_default (handle_given g (body_in (option_map object_value o))) ≡ with_kind g (option_map (λ (x : Object). kind_in x.body) o)
+      by_object None = refl
+      by_object (Some o) =
+          ap (λ (k : Kind). given k) (kind_is o.body)
+          ∙ by_test (kind_in o.body) (within (rights_given g.rights (kind_in o.body)) (default_rights_of (kind_in o.body)))
+
+-- a number that is too large has a bit outside the default rights
+pub past_default : (rights : ℕ) (k : Kind) → (rights < 2 ^ 32 → ⊥) → within rights (default_rights_of k) ≡ false
+past_default rights k large = elim (cases_Bool (within rights (default_rights_of k))) as (λ _. within rights (default_rights_of k) ≡ false) [
+  | inl inside ↦ absurd (large (omega (arith, eqb-true (bit_and (default_rights_of k) rights) rights inside, and_le_l (default_rights_of k) rights, small k)))
+  | inr outside ↦ outside
+]
+  where
+    small : (j : Kind) → default_rights_of j < 2 ^ 32
+    small kind.Process = omega arith
+    small kind.Channel = omega arith
+    small kind.Event = omega arith
+    small kind.Port = omega arith
+    small kind.Job = omega arith
+
+-- where all objects are there, the handles that may be given are those with default rights
+pub rights_are : (objects : Map ObjectValue) (gs : List Grant) → IsTrue (all_known objects gs) → list_all has_default_rights (handles_given objects gs) ≡ list_all (λ g. is_some (allowed objects g)) gs
+rights_are objects [] known = refl
+rights_are objects (g ∷ gs) known = by_object (get objects g.koid) (and_parts (has_key objects g.koid) _ known).0 (rights_are objects gs (and_parts (has_key objects g.koid) _ known).1)
+  where
+    by_test : (b : Bool) (e : Entry) → b ≡ is_some (then_some b e)
+    by_test true e = refl
+    by_test false e = refl
+
+    by_handle : (x : Option Entry) → IsTrue (is_some x) → list_all has_default_rights (handles_given objects gs) ≡ list_all (λ y. is_some (allowed objects y)) gs
+        → list_all has_default_rights (option_to_list x ++ handles_given objects gs) ≡ (is_some (if_default x) && list_all (λ y. is_some (allowed objects y)) gs)
+    by_handle None there rest = absurd cc
+    by_handle (Some e) there rest = λ i. by_test (has_default_rights e) e i && rest i
+
+    by_object : (o : Option ObjectValue) → IsTrue (is_some o) → list_all has_default_rights (handles_given objects gs) ≡ list_all (λ y. is_some (allowed objects y)) gs
+        → list_all has_default_rights (option_to_list (handle_given g (body_in o)) ++ handles_given objects gs) ≡ (is_some (if_default (handle_given g (body_in o))) && list_all (λ y. is_some (allowed objects y)) gs)
+    by_object None there rest = absurd cc
+    by_object (Some o) there rest = by_handle (handle_given g (Some o.body)) refl rest
+
 -- ---- faults
 
-module _ (lib : Library) (ps : List Process) (r : Objects) (job program word : ℕ) where
+module _ (lib : Library) (w : World) (job program word : ℕ) (gs : List Grant) where
   abbrev fault : Option BootCause
-  fault = boot_fault lib (world_value ps r) (statement.Process job program word)
+  fault = boot_fault lib w (statement.Process job program word gs)
+
+  abbrev full : Bool
+  full = nat_le MOST_PROCESSES (length w.processes) || nat_lt MOST_KOIDS w.next_koid
+
+  by_tests : (known may filled : Bool) → (is_job w job && (is_some (slice_get lib program) && all_known w.objects gs)) ≡ known → may_start_with gs (handles_given w.objects gs) ≡ may → full ≡ filled
+      → fault ≡ first_some (then_some (not known) cause.Unknown ∷ then_some (not may) cause.BadHandleList ∷ then_some filled cause.Limit ∷ [])
+  unfolding boot_fault
+  by_tests known may filled a b c = rw (a, b, c) refl
+
+  no_and : (a b : Bool) → (a ≡ false) ⊎ (b ≡ false) → (a && b) ≡ false
+  no_and true b (inl h) = absurd (false≢true (sym h))
+  no_and true b (inr h) = h
+  no_and false b h = refl
+
+  unknown : (is_job w job && (is_some (slice_get lib program) && all_known w.objects gs)) ≡ false → fault ≡ Some cause.Unknown
+  unknown a = by_tests false _ _ a refl refl
 
   pub fault_no_program : length lib ≤ program → fault ≡ Some cause.Unknown
-  unfolding boot_fault
-  fault_no_program past = rw (slice_get_past lib program past) (elim (is_job (world_value ps r) job) as (λ b. first_some (then_some (not b || true) cause.Unknown ∷ then_some (nat_le MOST_PROCESSES (length (map process_entry ps)) || nat_lt MOST_KOIDS r.next_koid) cause.Limit ∷ []) ≡ Some cause.Unknown) [ true ↦ refl | false ↦ refl ])
+  fault_no_program past = unknown (no_and (is_job w job) _ (inr (rw (slice_get_past lib program past) refl)))
 
-  pub fault_no_job : is_job_object (get r.objects job) ≡ false → fault ≡ Some cause.Unknown
-  unfolding boot_fault
-  fault_no_job none = rw (job_seen ps r job, none) refl
+  pub fault_unknown : (is_job w job ≡ false) ⊎ (all_known w.objects gs ≡ false) → fault ≡ Some cause.Unknown
+  fault_unknown (inl h) = unknown (no_and (is_job w job) _ (inl h))
+  fault_unknown (inr h) = unknown (no_and (is_job w job) _ (inr (no_and (is_some (slice_get lib program)) _ (inr h))))
 
-  pub fault_limit : (g : Program) → slice_get lib program ≡ Some g → is_job_object (get r.objects job) ≡ true → (MOST_PROCESSES ≤ length ps) ⊎ (MOST_KOIDS < r.next_koid) → fault ≡ Some cause.Limit
-  unfolding boot_fault
-  fault_limit g there job_there past = rw (job_seen ps r job, job_there, there, above) refl
-    where
-      above : (nat_le MOST_PROCESSES (length (map process_entry ps)) || nat_lt MOST_KOIDS r.next_koid) ≡ true
-      above = elim past as (λ _. (nat_le MOST_PROCESSES (length (map process_entry ps)) || nat_lt MOST_KOIDS r.next_koid) ≡ true) [
-        | inl many ↦ or_left (nat_le MOST_PROCESSES (length (map process_entry ps))) (nat_lt MOST_KOIDS r.next_koid) (rw (length-map) (grind (arith, nat_tests, many)))
-        | inr given ↦ or_right (nat_le MOST_PROCESSES (length (map process_entry ps))) (nat_lt MOST_KOIDS r.next_koid) (grind (arith, nat_tests, given))
-      ]
+  module _ (g : Program) (there : slice_get lib program ≡ Some g) (in_job : is_job w job ≡ true) (known : all_known w.objects gs ≡ true) where
+    all_there : (is_job w job && (is_some (slice_get lib program) && all_known w.objects gs)) ≡ true
+    all_there = rw (in_job, there, known) refl
 
-  pub no_fault : (g : Program) → slice_get lib program ≡ Some g → is_job_object (get r.objects job) ≡ true → length ps < MOST_PROCESSES → r.next_koid ≤ MOST_KOIDS → fault ≡ None
-  unfolding boot_fault
-  no_fault g there job_there few left = rw (job_seen ps r job, job_there, there, room, koid) refl
-    where
-      room : nat_le MOST_PROCESSES (length (map process_entry ps)) ≡ false
-      room = rw (length-map) (grind (arith, nat_tests, few))
+    abbrev may : Bool
+    may = list_all (λ x. is_some (allowed w.objects x)) gs
 
-      koid : nat_lt MOST_KOIDS r.next_koid ≡ false
-      koid = grind (arith, nat_tests, left)
+    starts : may_start_with gs (handles_given w.objects gs) ≡ (nat_le (length gs) MOST_GRANTS && may)
+    starts = ap (λ b. nat_le (length gs) MOST_GRANTS && b) (rights_are w.objects gs known)
 
-  pub wants_memory : (g : Program) → slice_get lib program ≡ Some g → is_job_object (get r.objects job) ≡ true → length ps < MOST_PROCESSES → r.next_koid ≤ MOST_KOIDS → IsCauseOf fault cause.NoMemory
-  wants_memory g there job_there few left = rw (no_fault g there job_there few left) refl
+    pub fault_handles : (MOST_GRANTS < length gs) ⊎ (may ≡ false) → fault ≡ Some cause.BadHandleList
+    fault_handles bad = by_tests true false _ all_there (starts ∙ no_and _ may (either bad)) refl
+      where
+        either : (MOST_GRANTS < length gs) ⊎ (may ≡ false) → (nat_le (length gs) MOST_GRANTS ≡ false) ⊎ (may ≡ false)
+        either (inl many) = inl (grind (arith, nat_tests, many))
+        either (inr h) = inr h
+
+    module _ (few : length gs ≤ MOST_GRANTS) (all_may : may ≡ true) where
+      fine : may_start_with gs (handles_given w.objects gs) ≡ true
+      fine = let little : nat_le (length gs) MOST_GRANTS ≡ true = grind (arith, nat_tests, few) in starts ∙ rw (little, all_may) refl
+
+      pub fault_limit : (MOST_PROCESSES ≤ length w.processes) ⊎ (MOST_KOIDS < w.next_koid) → fault ≡ Some cause.Limit
+      fault_limit past = by_tests true true true all_there fine (elim past as (λ _. full ≡ true) [
+        | inl many ↦ or_left (nat_le MOST_PROCESSES (length w.processes)) (nat_lt MOST_KOIDS w.next_koid) (grind (arith, nat_tests, many))
+        | inr given ↦ or_right (nat_le MOST_PROCESSES (length w.processes)) (nat_lt MOST_KOIDS w.next_koid) (grind (arith, nat_tests, given))
+      ])
+
+      pub no_fault : length w.processes < MOST_PROCESSES → w.next_koid ≤ MOST_KOIDS → fault ≡ None
+      no_fault place left =
+          let room : nat_le MOST_PROCESSES (length w.processes) ≡ false = grind (arith, nat_tests, place) in
+          let koid : nat_lt MOST_KOIDS w.next_koid ≡ false = grind (arith, nat_tests, left) in
+          by_tests true true false all_there fine (rw (room, koid) refl)

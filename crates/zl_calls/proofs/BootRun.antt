@@ -11,7 +11,7 @@ use Rattle.zl_calls.proofs.BootMaking.{starts_making}
 -- the statements made this
 pub record IsMadeBy (lib : Library) (done : List Statement) (made : Made) : Type 0 where
   pub boots : Boots lib origin done (seen made)
-  pub making : IsMaking made.processes.items made.objects
+  pub making : IsMaking made.processes.items [] made.objects
 
 boots_more : (lib : Library) (w w2 w3 : World) (ss : List Statement) (s : Statement) (vs : List ℕ) → Boots lib w ss w2
     → boot_fault lib w2 s ≡ None → IsTrue (may_boot lib w2 s vs) → w3 ≡ boot_effect lib w2 s vs → Boots lib w (ss ++ s ∷ []) w3

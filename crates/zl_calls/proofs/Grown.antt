@@ -1,5 +1,5 @@
 -- One object more, with one handle: what the invariant says of the objects.
-use Rattle.zl_code.proofs.Common.{◌≡◌, ◌<◌, ◌+◌, ◌^◌, ℕ, zero, suc, Bool, true, false, ◌||◌, ◌==◌, List, [], ◌∷◌, ◌++◌, map, refl, sym, ap, ◌∙◌, subst, cond, Option, Some, None, inl, inr, IsTrue, arith, eq-eqb, if◌then◌else◌, is_some, list_any, cases_Bool, eqb-true, false≢true, same_Some, Map, get, put, Process as ProcessValue, is_process, runs, state_passes, in_table, handles_to}
+use Rattle.zl_code.proofs.Common.{◌≡◌, ◌<◌, ◌+◌, ◌^◌, ℕ, zero, suc, Bool, true, false, ◌||◌, ◌==◌, List, [], ◌∷◌, ◌++◌, map, refl, sym, ap, ◌∙◌, subst, cond, Option, Some, None, inl, inr, IsTrue, arith, eq-eqb, if◌then◌else◌, is_some, list_any, cases_Bool, eqb-true, false≢true, same_Some, Map, get, put, Process as ProcessValue, is_process, runs, state_passes, in_table, handles_to, has_key, nat_cmp, is_sorted}
 use Rattle.zl_rights.specs.declared.entry.Entry.{Entry}
 use Rattle.zl_rights.proofs.MapLaws.{get-put}
 use Rattle.zl_table.specs.Table.{IsTable}
@@ -22,26 +22,33 @@ any_behind test (y ∷ xs) x out = ap (λ b. test y || b) (any_behind test xs x 
 
 -- ---- no handle names a koid that wasn't given
 
+module _ (ps : List Process) (r : Objects) (in_order : IsTrue (is_sorted nat_cmp (map process_entry ps)))
+    (tables : (k : ℕ) (p : ProcessValue) → get (map process_entry ps) k ≡ Some p → IsTable (record { entries = p.handles; last = p.last }))
+    (names : (k : ℕ) (p : ProcessValue) (v : ℕ) (e : Entry) → get (map process_entry ps) k ≡ Some p → get p.handles v ≡ Some e → IsNamed r.objects e)
+    (given : (k : ℕ) → IsTrue (has_key r.objects k) → k < r.next_koid) where
+  not_in_a_table : IsTrue (in_table (world_value ps r) r.next_koid) → ⊥
+  unfolding in_table
+  not_in_a_table some =
+      let holder : Found (λ p. list_any (λ h. h.1.koid == r.next_koid) p.1.handles) (map process_entry ps)
+      = any_found (λ p. list_any (λ h. h.1.koid == r.next_koid) p.1.handles) (map process_entry ps) in_order some in
+      let table : IsTable (record { entries = holder.value.handles; last = holder.value.last }) = tables holder.key holder.value holder.at in
+      let handle : Found (λ h. h.1.koid == r.next_koid) holder.value.handles = any_found (λ h. h.1.koid == r.next_koid) holder.value.handles table.sorted holder.passes in
+      let named : IsNamed r.objects handle.value = names holder.key holder.value handle.key handle.value holder.at handle.at in
+      omega (arith, given handle.value.koid (rw named.there refl), eqb-true handle.value.koid r.next_koid handle.passes)
+
+  pub never_named : handles_to (world_value ps r) r.next_koid ≡ 0
+  never_named = by_count (handles_to (world_value ps r) r.next_koid) refl
+    where
+      by_count : (n : ℕ) → handles_to (world_value ps r) r.next_koid ≡ n → ◌≡◌ {A = ℕ} n 0
+      by_count zero is = refl
+      by_count (suc n) is = absurd (not_in_a_table (counted_in_table ps r r.next_koid (omega (arith, is))))
+
 module _ (ps : List Process) (r : Objects) (lab : IsConsistent ps r) where
   given_key : (k : ℕ) (o : Object) → get r.objects k ≡ Some o → k < r.next_koid
   given_key k o at = lab.given_objects k (rw at refl)
 
-  unnamed_any : IsTrue (in_table (world_value ps r) r.next_koid) → ⊥
-  unfolding in_table
-  unnamed_any some =
-      let holder : Found (λ p. list_any (λ h. h.1.koid == r.next_koid) p.1.handles) (map process_entry ps)
-      = any_found (λ p. list_any (λ h. h.1.koid == r.next_koid) p.1.handles) (map process_entry ps) lab.processes_in_order some in
-      let table : IsTable (record { entries = holder.value.handles; last = holder.value.last }) = lab.tables holder.key holder.value holder.at in
-      let handle : Found (λ h. h.1.koid == r.next_koid) holder.value.handles = any_found (λ h. h.1.koid == r.next_koid) holder.value.handles table.sorted holder.passes in
-      let named : IsNamed r.objects handle.value = lab.named holder.key holder.value handle.key handle.value holder.at handle.at in
-      omega (arith, given_key handle.value.koid named.object named.there, eqb-true handle.value.koid r.next_koid handle.passes)
-
   unnamed : handles_to (world_value ps r) r.next_koid ≡ 0
-  unnamed = by_count (handles_to (world_value ps r) r.next_koid) refl
-    where
-      by_count : (n : ℕ) → handles_to (world_value ps r) r.next_koid ≡ n → ◌≡◌ {A = ℕ} n 0
-      by_count zero is = refl
-      by_count (suc n) is = absurd (unnamed_any (counted_in_table ps r r.next_koid (omega (arith, is))))
+  unnamed = never_named ps r lab.processes_in_order lab.tables lab.named lab.given_objects
 
   -- ---- the new object
 

@@ -26,6 +26,7 @@ pub mod ProcessCalls
 pub mod Performed
 pub mod Performing
 pub mod Turns
+pub mod BootGiving
 pub mod BootFaults
 pub mod BootMaking
 pub mod BootLab

@@ -14,23 +14,9 @@ use Rattle.zl_calls.specs.declared.process.Process.{Process}
 use Rattle.zl_calls.specs.Objects.{Objects, is_kept, stays_alone, has_living_child, lives_below, is_job_at, is_job_body}
 use Rattle.zl_calls.specs.World.{process_entry, state_value, object_entry, body_value, world_value}
 use Rattle.zl_calls.specs.Consistent.{IsNamed, AgreesOn, is_in_job}
+pub use Rattle.zl_calls.specs.Making.{IsSound}
 use Rattle.zl_calls.proofs.Counting.{no_queues}
 use Rattle.zl_calls.proofs.Labs.{Found, any_found, any_at}
-
--- The invariant but for what keeps the objects, where the handles m have left the tables and still count.
-pub record IsSound (ps : List Process) (m : Map Entry) (r : Objects) : Type 0 where
-  pub processes_in_order : IsTrue (is_sorted nat_cmp (map process_entry ps))
-  pub objects_in_order : IsTrue (is_sorted nat_cmp r.objects)
-  pub given_processes : (k : ℕ) → IsTrue (has_key (map process_entry ps) k) → k < r.next_koid
-  pub given_objects : (k : ℕ) → IsTrue (has_key r.objects k) → k < r.next_koid
-  pub koids : r.next_koid ≤ 2 ^ 62
-  pub above_zero : 0 < r.next_koid
-  pub no_zero : (k : ℕ) → IsTrue (has_key r.objects k) → 0 < k
-  pub tables : (k : ℕ) (p : ProcessValue) → get (map process_entry ps) k ≡ Some p → IsTable (record { entries = p.handles; last = p.last })
-  pub named : (k : ℕ) (p : ProcessValue) (v : ℕ) (e : Entry) → get (map process_entry ps) k ≡ Some p → get p.handles v ≡ Some e → IsNamed r.objects e
-  pub counted : (k : ℕ) (o : Object) → get r.objects k ≡ Some o → o.handles ≡ handles_to (world_value ps r) k + count_by (λ h. h.1.koid == k) m
-  pub agrees : (k : ℕ) (o : Object) → get r.objects k ≡ Some o → AgreesOn o.body (is_process (world_value ps r) runs k)
-  pub in_jobs : (k : ℕ) (o : Object) → get r.objects k ≡ Some o → IsTrue (is_in_job r.objects o.body)
 
 -- ---- counts
 

@@ -1,5 +1,5 @@
 -- The Cpu of a process that starts, its slots, and instructions that are never stuck. No public clause cites this module.
-use Rattle.std.specs.Prelude.{ℕ, Bool, true, false, List, [], Option, Some, None, slice_get, slice_set, replicate}
+use Rattle.std.specs.Prelude.{ℕ, ◌+◌, ◌==◌, if◌then◌else◌, Bool, true, false, List, [], Option, Some, None, slice_get, slice_set, replicate}
 use Rattle.zl_code.specs.Common.{Cpu, Image, bytes_of}
 use Rattle.zl_code.specs.declared.instr.LocalInstr.{LocalInstr}
 use Rattle.zl_code.specs.declared.instr.LocalInstr.TheVariants as local
@@ -14,6 +14,10 @@ started_cpu image word = cpu_given [] word (blank_cpu (Some (record { checked = 
 -- the register holds the value
 abbrev pub register_set : Cpu → ℕ → ℕ → Cpu
 register_set c register value = record c { registers = slice_set c.registers register value }
+
+-- the register in which a process finds its handle of this number, from 0, as it starts
+abbrev pub handle_register : ℕ → ℕ
+handle_register number = if number == 0 then 0 else number + 1
 
 -- the n bytes of the value stand in memory from the address on
 abbrev pub memory_set : Cpu → ℕ → ℕ → ℕ → Cpu

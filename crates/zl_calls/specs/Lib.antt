@@ -8,3 +8,4 @@ pub mod Consistent
 pub mod Making
 pub mod Makes
 pub mod Steps
+pub mod Gives

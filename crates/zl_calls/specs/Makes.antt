@@ -1,6 +1,6 @@
 -- What one statement of a boot does to the processes and objects made so far.
 use Rattle.zl_code.specs.Common.{World, Library, boot_fault, boot_effect, may_boot, Boots, origin}
-use Rattle.std.specs.Prelude.{ℕ, ◌≡◌, ◌<◌, List, length, take, Option, Some, None, IsTrue, max}
+use Rattle.std.specs.Prelude.{ℕ, ◌≡◌, ◌<◌, List, [], length, take, Option, Some, None, IsTrue, max}
 use Rattle.zl_code.specs.declared.boot.BootCause.{BootCause}
 use Rattle.zl_code.specs.declared.boot.BootCause.TheVariants as cause
 use Rattle.zl_code.specs.declared.boot.Statement.{Statement}
@@ -18,7 +18,7 @@ pub record Makes (lib : Library) (s : Statement) (old new : Made) : Type 0 where
   pub values : List ℕ
   pub chosen : IsTrue (may_boot lib (seen old) s values)
   pub effect : seen new ≡ boot_effect lib (seen old) s values
-  pub making : IsMaking new.processes.items new.objects
+  pub making : IsMaking new.processes.items [] new.objects
 
 -- the cause is that of the statement; where it has none it is the want of memory
 abbrev pub IsCauseOf : Option BootCause → BootCause → Type 0

@@ -1,18 +1,17 @@
 -- What the statements of a boot make, before what isn't held is gone. No public clause cites this module.
-use Rattle.std.specs.Prelude.{ℕ, ◌≡◌, ◌+◌, ◌<◌, ◌≤◌, true, IsTrue, List, [], ◌∷◌, map, None}
-use Rattle.std.specs.List.{All}
+use Rattle.std.specs.Prelude.{ℕ, ◌≡◌, ◌+◌, ◌*◌, ◌^◌, ◌<◌, ◌≤◌, ◌==◌, IsTrue, List, [], ◌∷◌, length, map, Some}
+use Rattle.std.specs.List.{count_by}
 use Rattle.std.specs.Ordering.{nat_cmp}
 use Rattle.std.specs.FinMap.Entries.{is_sorted}
-use Rattle.zl_code.specs.Common.{has_key}
-use Rattle.zl_code.specs.Boot.{MOST_KOIDS}
+use Rattle.zl_code.specs.Common.{Map, get, has_key, Process as ProcessValue, is_process, runs, handles_to}
+use Rattle.zl_rights.specs.declared.entry.Entry.{Entry}
+use Rattle.zl_table.specs.Table.{IsTable}
 use Rattle.zl_calls.specs.declared.objects.Body.TheVariants as body
 use Rattle.zl_calls.specs.declared.objects.Object.{Object}
-use Rattle.zl_calls.specs.declared.process.State.TheVariants as state
 use Rattle.zl_calls.specs.declared.process.Process.{Process}
 use Rattle.zl_calls.specs.Objects.{Objects, new_object}
-use Rattle.zl_calls.specs.World.{process_entry}
-
--- ---- objects
+use Rattle.zl_calls.specs.World.{process_entry, world_value}
+use Rattle.zl_calls.specs.Consistent.{IsNamed, AgreesOn, is_in_job}
 
 -- the root job without handles
 abbrev pub root_job : Object
@@ -22,30 +21,24 @@ root_job = new_object body.RootJob 0
 abbrev pub root_alone : Objects
 root_alone = record { objects = (1, root_job) ∷ []; next_koid = 2 }
 
--- a living process of the root job without handles
-abbrev pub living : Object
-living = new_object (body.Process 1 true) 0
-
--- the object of a process, under its pid
-abbrev pub object_of : Process → ℕ × Object
-object_of p = (p.pid, living)
-
--- ---- processes
-
--- a process before its first step: it is ready and has no handles
-pub record IsFresh (p : Process) : Type 0 where
-  pub ready : p.state ≡ state.Ready
-  pub no_handles : p.table.entries ≡ []
-  pub none_removed : p.table.last ≡ None
-
--- ---- all of it
-
--- the processes are fresh, and beside the root job just they are the objects
-pub record IsMaking (processes : List Process) (r : Objects) : Type 0 where
-  pub fresh : All IsFresh processes
-  pub objects : r.objects ≡ (1, root_job) ∷ map object_of processes
-  pub processes_in_order : IsTrue (is_sorted nat_cmp (map process_entry processes))
+-- The invariant but for what keeps the objects, where the handles m are in no table and count all the same:
+-- they have left one, or are to enter that of a process which isn't there yet.
+pub record IsSound (ps : List Process) (m : Map Entry) (r : Objects) : Type 0 where
+  pub processes_in_order : IsTrue (is_sorted nat_cmp (map process_entry ps))
   pub objects_in_order : IsTrue (is_sorted nat_cmp r.objects)
-  pub given_processes : (k : ℕ) → IsTrue (has_key (map process_entry processes) k) → k < r.next_koid
+  pub given_processes : (k : ℕ) → IsTrue (has_key (map process_entry ps) k) → k < r.next_koid
   pub given_objects : (k : ℕ) → IsTrue (has_key r.objects k) → k < r.next_koid
-  pub koids : r.next_koid ≤ MOST_KOIDS + 1
+  pub koids : r.next_koid ≤ 2 ^ 62
+  pub above_zero : 0 < r.next_koid
+  pub no_zero : (k : ℕ) → IsTrue (has_key r.objects k) → 0 < k
+  pub tables : (k : ℕ) (p : ProcessValue) → get (map process_entry ps) k ≡ Some p → IsTable (record { entries = p.handles; last = p.last })
+  pub named : (k : ℕ) (p : ProcessValue) (v : ℕ) (e : Entry) → get (map process_entry ps) k ≡ Some p → get p.handles v ≡ Some e → IsNamed r.objects e
+  pub counted : (k : ℕ) (o : Object) → get r.objects k ≡ Some o → o.handles ≡ handles_to (world_value ps r) k + count_by (λ h. h.1.koid == k) m
+  pub agrees : (k : ℕ) (o : Object) → get r.objects k ≡ Some o → AgreesOn o.body (is_process (world_value ps r) runs k)
+  pub in_jobs : (k : ℕ) (o : Object) → get r.objects k ≡ Some o → IsTrue (is_in_job r.objects o.body)
+
+-- what statements have made; the handles m are given to a process that isn't there yet
+pub record IsMaking (processes : List Process) (m : Map Entry) (r : Objects) : Type 0 where
+  pub sound : IsSound processes m r
+  -- each table names an object 1,024 times at most
+  pub few : (k : ℕ) → handles_to (world_value processes r) k ≤ 1024 * length processes

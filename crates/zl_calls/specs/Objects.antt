@@ -1,8 +1,11 @@
 -- What the definitions of calls see of the objects: each with its count of handles, by koid. No public clause cites this module.
 use Rattle.std.specs.Prelude.{ℕ, ◌≡◌, ◌+◌, ◌-◌, ◌^◌, ◌<◌, IsTrue, Bool, true, false, ◌&&◌, ◌||◌, ◌==◌, nat_lt, [], ◌∷◌, ◌++◌, Option, Some, None, length, take, if◌then◌else◌}
 use Rattle.std.specs.List.{list_any}
+use Rattle.std.specs.Option.{option_map}
 use Rattle.zl_code.specs.Common.{Map, get, update, without, has_key}
 use Rattle.zl_rights.specs.declared.entry.Entry.{Entry}
+use Rattle.zl_rights.specs.declared.kind.Kind.{Kind}
+use Rattle.zl_rights.specs.declared.kind.Kind.TheVariants as kind
 use Rattle.zl_rights.specs.Numbers.{changed}
 use Rattle.zl_calls.specs.declared.objects.Body.{Body}
 use Rattle.zl_calls.specs.declared.objects.Body.TheVariants as body
@@ -66,6 +69,18 @@ stopped_body b = b
 -- the object of a process that has ended
 abbrev pub stopped : Object → Object
 stopped o = record o { body = stopped_body o.body }
+
+-- ---- kinds
+
+-- the kind of an object with this body
+abbrev pub kind_in : Body → Kind
+kind_in body.RootJob = kind.Job
+kind_in (body.Process job lives) = kind.Process
+kind_in body.Event = kind.Event
+
+-- the kind of the object k, if it is there
+abbrev pub kind_at : Map Object → ℕ → Option Kind
+kind_at objects k = option_map (λ o. kind_in o.body) (get objects k)
 
 -- ---- what keeps an object
 

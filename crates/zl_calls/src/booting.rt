@@ -1,19 +1,25 @@
 //! The processes and objects that the statements of a boot make.
 
-ghost use Rattle.std.specs.Prelude.{◌≡◌, ◌≢◌, ◌≤◌, [], IfOk, OnOk, IfErr};
+ghost use Rattle.std.specs.Prelude.{ℕ, ◌≡◌, ◌≢◌, ◌≤◌, ◌<◌, false, [], length, is_some, Some, slice_get, IfOk, OnOk, IfErr, IsTrue};
+ghost use Rattle.std.specs.List.{list_all};
+ghost use Rattle.std.specs.Result.{result_err};
+ghost use Rattle.zl_rights.specs.Numbers.{within, default_rights_of};
 ghost use Rattle.zl_rights.specs.Settle.{Settles};
-ghost use Rattle.zl_code.specs.Boot.{IsBoot, FirstFault, MOST_ITEMS, boot_fault};
+ghost use Rattle.zl_code.specs.Boot.{IsBoot, FirstFault, MOST_ITEMS, MOST_GRANTS, MOST_PROCESSES, boot_fault, rights_given};
 ghost use Rattle.zl_calls.specs.Consistent.{IsConsistent};
 ghost use Rattle.zl_calls.specs.Making.{IsMaking, root_alone};
+ghost use Rattle.zl_calls.specs.Objects.{kind_at};
 ghost use Rattle.zl_calls.specs.Makes.{Makes, seen, IsCauseOf, IsReached};
+ghost use Rattle.zl_calls.specs.Gives.{allowed, rights_if, IsBare, Gives};
 
 use crate::cpu::Cpu;
 use crate::objects::{Body, Objects};
 use crate::process::{Process, State};
 use crate::program::Library;
+use bitflags::Flags;
 use std::alloc::{AllocError, Global};
-use zl_code::{Boot, BootCause, BootFault, Statement};
-use zl_rights::Koid;
+use zl_code::{Boot, BootCause, BootFault, Grant, Grants, Image, Statement};
+use zl_rights::{Entry, Kind, Koid, Rights};
 use zl_table::Table;
 
 /// The most processes that a boot makes (own profile).
@@ -44,7 +50,7 @@ pub fn booted(alloc: Global, library: &Library, boot: &Boot) -> Result<Made, Boo
         return Err(fault_at(0, BootCause::NoMemory));
     };
     for (number, statement) in boot.statements.iter().enumerate() {
-        if let Err(cause) = made.make(alloc, library, *statement) {
+        if let Err(cause) = made.make(alloc, library, statement) {
             return Err(fault_at(number, cause));
         }
     }
@@ -73,15 +79,22 @@ impl Made {
         &mut self,
         alloc: Global,
         library: &Library,
-        statement: Statement,
+        statement: &Statement,
     ) -> Result<(), BootCause>
-        requires { IsMaking self.old.processes.items self.old.objects }
-        ensures ok { OnOk result (Makes library.now statement self.old self.new) }
-        ensures err { IfErr result (IsCauseOf (boot_fault library.now (seen self.old) statement)) }
+        requires { IsMaking self.old.processes.items [] self.old.objects }
+        ensures ok { OnOk result (Makes library.now statement.now self.old self.new) }
+        ensures err { IfErr result
+            (IsCauseOf (boot_fault library.now (seen self.old) statement.now)) }
     {
         match statement {
-            Statement::Process { job, program, word } => {
-                self.make_process(alloc, library, job, program, word)
+            Statement::Process {
+                job,
+                program,
+                word,
+                handles,
+            } => {
+                let handles = handles.as_slice();
+                self.make_process(alloc, library, *job, *program, *word, handles)
             }
         }
     }
@@ -93,34 +106,30 @@ impl Made {
         job: Koid,
         program: u64,
         word: u64,
+        handles: &[Grant],
     ) -> Result<(), BootCause>
-        requires { IsMaking self.old.processes.items self.old.objects }
-        ensures ok { OnOk result
-            (Makes library.now (Statement.Process job program word) self.old self.new) }
-        ensures err { IfErr result (IsCauseOf
-            (boot_fault library.now (seen self.old) (Statement.Process job program word))) }
+        requires { IsMaking self.old.processes.items [] self.old.objects }
+        ensures ok { OnOk result (Makes library.now
+            (Statement.Process job program word handles.now) self.old self.new) }
+        ensures err { IfErr result (IsCauseOf (boot_fault library.now (seen self.old)
+            (Statement.Process job program word handles.now))) }
     {
-        let Some(listed) = library.get(program as usize) else {
-            return Err(BootCause::Unknown);
-        };
-        if !self.objects.is_job(job) {
-            return Err(BootCause::Unknown);
-        }
-        if self.processes.len() >= MOST_PROCESSES || self.objects.next_koid() > MOST_KOIDS {
-            return Err(BootCause::Limit);
-        }
-        let Ok(cpu) = Cpu::new(alloc, listed.image(), word) else {
+        let image = self.image_for(library, job, program, handles)?;
+        let Ok(cpu) = Cpu::new(alloc, image, word) else {
             return Err(BootCause::NoMemory);
         };
-        let Ok(pid) = self.objects.create(Body::Process { job, lives: true }, 0) else {
-            return Err(BootCause::NoMemory);
-        };
-        let process = Process {
-            pid,
+        let mut process = Process {
+            pid: self.objects.next_koid(),
             program: program as usize,
             state: State::Ready,
             cpu,
             table: Table::new(alloc),
+        };
+        if self.give(&mut process, handles).is_err() {
+            return Err(BootCause::NoMemory);
+        }
+        let Ok(_) = self.objects.create(Body::Process { job, lives: true }, 0) else {
+            return Err(BootCause::NoMemory);
         };
         if self.processes.push(process).is_err() {
             return Err(BootCause::NoMemory);
@@ -128,15 +137,119 @@ impl Made {
         Ok(())
     }
 
-    /// What isn't held is gone: the root job, if no process is in it.
+    /// The image that the process is to run, if its statement can be done.
+    fn image_for<'a>(
+        &self,
+        library: &'a Library,
+        job: Koid,
+        program: u64,
+        handles: &[Grant],
+    ) -> Result<&'a Image, BootCause>
+        ensures image { IfOk result (λ image. slice_get library.now program
+            ≡ Some (record { checked = false; image = image.now })) }
+        ensures fault { (word : ℕ) → boot_fault library.now (seen self.now)
+            (Statement.Process job program word handles.now) ≡ result_err result }
+    {
+        let Some(listed) = library.get(program as usize) else {
+            return Err(BootCause::Unknown);
+        };
+        if !self.objects.is_job(job) || !self.knows(handles) {
+            return Err(BootCause::Unknown);
+        }
+        if handles.len() > Grants::MOST || !self.may_give(handles) {
+            return Err(BootCause::BadHandleList);
+        }
+        if self.processes.len() >= MOST_PROCESSES || self.objects.next_koid() > MOST_KOIDS {
+            return Err(BootCause::Limit);
+        }
+        Ok(listed.image())
+    }
+
+    /// Whether each handle names an object that is there.
+    fn knows(&self, handles: &[Grant]) -> bool
+        ensures { result
+            ≡ list_all (λ g. is_some (kind_at self.now.objects.objects g.koid)) handles.now }
+    {
+        handles
+            .iter()
+            .all(|grant| self.objects.kind_of(grant.koid).is_some())
+    }
+
+    /// Whether each handle may be given.
+    fn may_give(&self, handles: &[Grant]) -> bool
+        ensures { result ≡ list_all (λ g. is_some (allowed (seen self.now).objects g)) handles.now }
+    {
+        handles.iter().all(|grant| self.handle(*grant).is_some())
+    }
+
+    /// The handle that is to be given, if its object is there and its rights are among the default
+    /// rights of the kind.
+    fn handle(&self, grant: Grant) -> Option<Entry>
+        ensures { result ≡ allowed (seen self.now).objects grant }
+    {
+        let kind = self.objects.kind_of(grant.koid)?;
+        let rights = rights_given(grant.rights, kind)?;
+        Some(Entry {
+            koid: grant.koid,
+            kind,
+            rights,
+        })
+    }
+
+    /// Gives the handles to the process, which has none yet and isn't among the others.
+    fn give(&mut self, process: &mut Process, handles: &[Grant]) -> Result<(), AllocError>
+        requires making { IsMaking self.old.processes.items [] self.old.objects }
+        requires place { length self.old.processes.items < MOST_PROCESSES }
+        requires bare { IsBare process.old }
+        requires few { length handles.now ≤ MOST_GRANTS }
+        requires may { IsTrue (list_all
+            (λ g. is_some (allowed (seen self.old).objects g)) handles.now) }
+        ensures { OnOk result (Gives handles.now self.old process.old self.new process.new) }
+    {
+        for (number, grant) in handles.iter().enumerate() {
+            let Some(entry) = self.handle(*grant) else {
+                unreachable!()
+            };
+            let Ok(value) = process.table.insert(entry) else {
+                return Err(AllocError);
+            };
+            process.cpu.give(number, value);
+            self.objects.hold(entry.koid);
+        }
+        Ok(())
+    }
+
+    /// What isn't held is gone.
     fn settle(&mut self)
-        requires { IsMaking self.old.processes.items self.old.objects }
+        requires { IsMaking self.old.processes.items [] self.old.objects }
         ensures settles { Settles (seen self.old) (seen self.new) }
         ensures lab { IsConsistent self.new.processes.items self.new.objects }
     {
-        if self.processes.is_empty() {
-            self.objects.clear();
+        // What is newer goes first, as a job is older than what is in it.
+        for koid in (0..self.objects.next_koid()).rev() {
+            self.objects.remove_unheld(koid);
         }
+    }
+}
+
+/// The rights of a handle to a new object of the kind: those that are asked for, if the kind gives
+/// them, or else all that it gives.
+fn rights_given(asked: Option<u64>, kind: Kind) -> Option<Rights>
+    ensures { result ≡ rights_if
+        (within (rights_given asked kind) (default_rights_of kind)) (rights_given asked kind) }
+{
+    let default = kind.default_rights();
+    let Some(asked) = asked else {
+        return Some(default);
+    };
+    let Ok(bits) = u32::try_from(asked) else {
+        return None;
+    };
+    let rights = Rights::from_bits_retain(bits);
+    if rights.within(default) {
+        Some(rights)
+    } else {
+        None
     }
 }
 

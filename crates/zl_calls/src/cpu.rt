@@ -1,10 +1,11 @@
 ghost use Rattle.std.specs.Prelude.{◌≡◌, ◌+◌, ◌<◌, ◌^◌, IfOk, map};
 ghost use Rattle.zl_code.specs.Local.{reg, sets, goes_to, goes_if};
-ghost use Rattle.zl_calls.specs.Cpu.{started_cpu, register_set, empty_places};
+ghost use Rattle.zl_calls.specs.Cpu.{started_cpu, register_set, handle_register, empty_places};
 
 use std::alloc::{AllocError, Global};
 use std::marker::Model;
 use zl_code::{Image, Register, SlotArray};
+use zl_rights::HValue;
 
 /// What a process computes with: program counter, registers, data memory and slot arrays.
 #[derive(Drop)]
@@ -67,6 +68,16 @@ impl Cpu {
         ensures { self.new ≡ register_set self.old register value }
     {
         self.registers[register.number() as usize] = value;
+    }
+
+    /// The register of this handle of a process that starts, counted from 0, becomes its value: the
+    /// first is in register 0, the others stand from register 2 on. There are 7 at most.
+    pub fn give(&mut self, number: usize, value: HValue)
+        requires { number < 7 }
+        ensures { self.new ≡ register_set self.old (handle_register number) value }
+    {
+        let register = if number == 0 { 0 } else { number + 1 };
+        self.registers[register] = u64::from(value);
     }
 
     /// The next instruction is the one behind this.

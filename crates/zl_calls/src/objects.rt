@@ -1,13 +1,13 @@
 ghost use Rattle.std.specs.Prelude.{[], ◌≡◌, ◌+◌, ◌<◌, ◌^◌, nat_lt, IfOk, OnErr};
 ghost use Rattle.zl_rights.specs.Map.{get};
-ghost use Rattle.zl_calls.specs.Objects.{has_place, held_once_more, held_once_less, raised_changed, stopped, job_of, job_in, lives_below, has_living_child, is_kept, is_job_at, with_new, without_newest, holding, changing, letting_go, stopping, without_unheld, released, process_ended};
+ghost use Rattle.zl_calls.specs.Objects.{has_place, held_once_more, held_once_less, raised_changed, stopped, job_of, job_in, lives_below, has_living_child, is_kept, is_job_at, kind_in, kind_at, with_new, without_newest, holding, changing, letting_go, stopping, without_unheld, released, process_ended};
 ghost use Rattle.zl_calls.specs.Making.{root_alone};
 
 use bitflags::Flags;
 use std::alloc::{AllocError, Global};
 use std::collections::BTreeMap;
 use std::marker::Model;
-use zl_rights::{Koid, Signals};
+use zl_rights::{Kind, Koid, Signals};
 
 /// What an object is.
 #[derive(Clone, Copy)]
@@ -85,6 +85,17 @@ impl Object {
 }
 
 impl Body {
+    /// The kind of the object.
+    fn kind(&self) -> Kind
+        ensures { result ≡ kind_in self.now }
+    {
+        match self {
+            Body::RootJob => Kind::Job,
+            Body::Process { .. } => Kind::Process,
+            Body::Event => Kind::Event,
+        }
+    }
+
     /// Whether it is a process of the job that lives.
     fn lives_below(&self, parent: Koid) -> bool
         ensures { result ≡ lives_below parent self.now }
@@ -177,13 +188,6 @@ impl Objects {
         self.next_koid = koid;
     }
 
-    /// All objects are gone. It takes no memory.
-    pub fn clear(&mut self)
-        ensures { self.new ≡ record self.old { objects = [] } }
-    {
-        self.by_koid.clear();
-    }
-
     /// Whether the koid is that of a job.
     pub fn is_job(&self, koid: Koid) -> bool
         ensures { result ≡ is_job_at self.now.objects koid }
@@ -191,6 +195,16 @@ impl Objects {
         match self.by_koid.get(&koid) {
             Some(object) => matches!(object.body, Body::RootJob),
             None => false,
+        }
+    }
+
+    /// The kind of the object, if there is one of this koid.
+    pub fn kind_of(&self, koid: Koid) -> Option<Kind>
+        ensures { result ≡ kind_at self.now.objects koid }
+    {
+        match self.by_koid.get(&koid) {
+            Some(object) => Some(object.body.kind()),
+            None => None,
         }
     }
 

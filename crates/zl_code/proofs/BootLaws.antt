@@ -1,11 +1,17 @@
 -- A boot makes a world or comes to a first fault, never both, whichever values new handles get.
-use Rattle.zl_code.proofs.Common.{◌≡◌, ◌<◌, ◌≤◌, ◌+◌, ◌⊎◌, ◌==◌, ℕ, zero, suc, true, false, cond, List, [], ◌∷◌, take, length, refl, sym, ap, ◌∙◌, Option, Some, None, inl, inr, IsTrue, arith, slice_get, nat_lt, cases_lt, length-map, none-some, same_Some, Map, put, World, ProcessBody, Library, with_object, boot_fault, boot_effect, may_boot, Boots, IsBoot, FirstFault, at_statement, at_limit, MOST_ITEMS, origin}
+use Rattle.zl_code.proofs.Common.{◌≡◌, ◌<◌, ◌≤◌, ◌+◌, ◌⊎◌, ◌==◌, ℕ, zero, suc, true, false, cond, List, [], ◌∷◌, take, length, refl, sym, ap, ◌∙◌, Option, Some, None, inl, inr, IsTrue, arith, slice_get, nat_lt, cases_lt, length-map, none-some, same_Some, Map, put, World, ProcessBody, Library, with_object, boot_fault, boot_effect, may_boot, Boots, IsBoot, FirstFault, at_statement, at_limit, MOST_ITEMS, origin, map, and_from, and_parts, nat_tests, subst, false≢true, cases_Bool, eqb-true, get, has_key, Process, may_get, process_with}
+use Rattle.std.specs.List.{list_all}
+use Rattle.zl_rights.specs.declared.entry.Entry.{Entry}
+use Rattle.zl_rights.proofs.MapLaws.{get-put}
 use Rattle.zl_rights.proofs.Settling.{settled_in, keys_of, Settles-exists, Settles-unique}
+use Rattle.zl_code.specs.Effects.{may_get_all}
+use Rattle.zl_code.specs.Starting.{created_process}
 use Rattle.zl_code.specs.declared.boot.Statement.{Statement}
 use Rattle.zl_code.specs.declared.boot.Statement.TheVariants as statement
 use Rattle.zl_code.specs.declared.boot.BootCause.{BootCause}
 use Rattle.zl_code.specs.declared.boot.BootCause.TheVariants as cause
-use Rattle.zl_code.specs.Boot.{IsBooted}
+use Rattle.zl_code.specs.Boot.{IsBooted, handles_given, values_given, gives_no_handle}
+use Rattle.zl_code.proofs.CanStart.{can_start, handles_at_most}
 
 -- ---- worlds that differ by handles alone
 
@@ -37,7 +43,7 @@ keys_of-put (e ∷ m) k x = elim (e.0 == k) as (λ b. keys_of (cond b ((k, x) �
 module _ (lib : Library) where
   same_fault : (u v : World) → IsAlike u v → (s : Statement) → boot_fault lib u s ≡ boot_fault lib v s
   unfolding boot_fault
-  same_fault u v a (statement.Process job program word) = rw (a.objects, a.next, count) refl
+  same_fault u v a (statement.Process job program word handles) = rw (a.objects, a.next, count) refl
     where
       count : length u.processes ≡ length v.processes
       count = sym (length-keys u.processes) ∙ ap length a.pids ∙ length-keys v.processes
@@ -45,7 +51,7 @@ module _ (lib : Library) where
   -- whichever values the handles of the statement get
   alike_after : (u v : World) → IsAlike u v → (s : Statement) (vs xs : List ℕ) → IsAlike (boot_effect lib u s vs) (boot_effect lib v s xs)
   unfolding boot_effect with_object
-  alike_after u v a (statement.Process job program word) vs xs = record {
+  alike_after u v a (statement.Process job program word handles) vs xs = record {
     objects = λ i. put (a.objects i) (a.next i) (record { body = ProcessBody job; raised = 0 });
     next = ap (λ (k : ℕ). k + 1) a.next;
     pids = keys_of-put u.processes u.next_koid _ ∙ (λ i. keys_with (a.pids i) (a.next i)) ∙ sym (keys_of-put v.processes v.next_koid _);
@@ -109,22 +115,47 @@ module _ (lib : Library) where
 
   -- ---- there is a world, or a fault
 
-  -- values can be chosen for the handles of each statement
-  chosen : (w : World) (s : Statement) → (vs : List ℕ) × IsTrue (may_boot lib w s vs)
-  chosen w (statement.Process job program word) = ([], refl)
+  -- the values from v on, one for each handle
+  abbrev values_from : ℕ → List Entry → List ℕ
+  values_from v [] = []
+  values_from v (e ∷ es) = v ∷ values_from (v + 1) es
+
+  -- where no handle stands at v or above, they may be given
+  may_get_from : (q : Process) (v : ℕ) (es : List Entry) → 0 < v → v + length es ≤ 65536 → q.last ≡ None → ((k : ℕ) → IsTrue (has_key q.handles k) → k < v) → IsTrue (may_get_all q es (values_from v es))
+  may_get_from q v [] above room none below = refl
+  may_get_from q v (e ∷ es) above room none below =
+      and_from (may_get q v) _ (rw (none, unused) (grind (arith, nat_tests, above, room)))
+      (may_get_from (process_with v e q) (v + 1) es (omega arith) (omega (arith, room)) refl
+      (λ k there. elim (cases_Bool (v == k)) as (λ _. k < v + 1) [
+        | inl here ↦ omega (arith, eqb-true v k here)
+        | inr apart ↦ omega (arith, below k (rw (get-put q.handles v e k, apart) at there))
+      ]))
+    where
+      unused : has_key q.handles v ≡ false
+      unused = elim (cases_Bool (has_key q.handles v)) as (λ _. has_key q.handles v ≡ false) [ inl there ↦ absurd (omega (arith, below v there)) | inr free ↦ free ]
+
+  -- values for the handles of each statement
+  abbrev first_values : World → Statement → List ℕ
+  first_values w (statement.Process job program word handles) = values_from 1 (handles_given w.objects handles)
+
+  chosen : (w : World) (s : Statement) → boot_fault lib w s ≡ None → IsTrue (may_boot lib w s (first_values w s))
+  unfolding get
+  chosen w (statement.Process job program word handles) fine =
+      may_get_from (created_process lib program) 1 (handles_given w.objects handles) (omega arith)
+      (omega (arith, (can_start lib w job program word handles fine).few, handles_at_most w.objects handles)) refl (λ k there. absurd (false≢true there))
 
   abbrev Ends : World → List Statement → Type 0
   Ends w ss = ((made : World) × Boots lib w ss made) ⊎ ((n : ℕ) × (c : BootCause) × FaultAt w ss n c)
 
   ends : (w : World) (ss : List Statement) → Ends w ss
   ends w [] = inl (w, refl)
-  ends w (s ∷ ss) = by_fault (boot_fault lib w s) refl (ends (boot_effect lib w s (chosen w s).0) ss)
+  ends w (s ∷ ss) = by_fault (boot_fault lib w s) refl (ends (boot_effect lib w s (first_values w s)) ss)
     where
-      by_rest : boot_fault lib w s ≡ None → Ends (boot_effect lib w s (chosen w s).0) ss → Ends w (s ∷ ss)
-      by_rest fine (inl (made, rest)) = inl (made, ((chosen w s).0, fine, (chosen w s).1, rest))
-      by_rest fine (inr (n, c, f)) = inr (suc n, c, record { made = f.made; at = f.at; before = ((chosen w s).0, fine, (chosen w s).1, f.before); stands = f.stands; faulty = f.faulty })
+      by_rest : boot_fault lib w s ≡ None → Ends (boot_effect lib w s (first_values w s)) ss → Ends w (s ∷ ss)
+      by_rest fine (inl (made, rest)) = inl (made, (first_values w s, fine, chosen w s fine, rest))
+      by_rest fine (inr (n, c, f)) = inr (suc n, c, record { made = f.made; at = f.at; before = (first_values w s, fine, chosen w s fine, f.before); stands = f.stands; faulty = f.faulty })
 
-      by_fault : (o : Option BootCause) → boot_fault lib w s ≡ o → Ends (boot_effect lib w s (chosen w s).0) ss → Ends w (s ∷ ss)
+      by_fault : (o : Option BootCause) → boot_fault lib w s ≡ o → Ends (boot_effect lib w s (first_values w s)) ss → Ends w (s ∷ ss)
       by_fault None fine rest = by_rest fine rest
       by_fault (Some c) is rest = inr (0, c, record { made = w; at = s; before = refl; stands = refl; faulty = is })
 
@@ -172,16 +203,33 @@ one_or_other lib ss limit = by_end (ends lib origin ss)
     by_end (inl (made, boots)) = by_limit made boots (elim (cases_lt MOST_ITEMS limit) [ inl above ↦ inr above | inr within ↦ inl within ])
     by_end (inr (n, c, f)) = inr (n, c, at_statement f.made n f.at c f.before f.stands f.faulty)
 
--- ---- while no statement gives handles, there is one boot world
+-- ---- where handles get the same values, there is one boot world
 
-no_choice : (lib : Library) (w : World) (s : Statement) (vs : List ℕ) → IsTrue (may_boot lib w s vs) → vs ≡ []
-no_choice lib w (statement.Process job program word) [] may = refl
-no_choice lib w (statement.Process job program word) (v ∷ vs) may = absurd cc
+both_same : (x y : List ℕ) (xs ys : List (List ℕ)) → x ∷ xs ≡ y ∷ ys → (x ≡ y) × (xs ≡ ys)
+both_same x y xs ys e = (cc, cc)
 
-one_made : (lib : Library) (w : World) (ss : List Statement) (u v : World) → Boots lib w ss u → Boots lib w ss v → u ≡ v
-one_made lib w [] u v e f = e ∙ sym f
-one_made lib w (s ∷ ss) u v (vs, fine, may, rest) (xs, fine2, may2, rest2) =
-    one_made lib (boot_effect lib w s []) ss u v (rw (no_choice lib w s vs may) at rest) (rw (no_choice lib w s xs may2) at rest2)
+one_made : (lib : Library) (w : World) (ss : List Statement) (u v : World) → (x : Boots lib w ss u) (y : Boots lib w ss v) → values_given lib w ss u x ≡ values_given lib w ss v y → u ≡ v
+one_made lib w [] u v e f same = e ∙ sym f
+one_made lib w (s ∷ ss) u v (vs, fine, may, rest) (xs, fine2, may2, rest2) same =
+    let apart = both_same vs xs (values_given lib (boot_effect lib w s vs) ss u rest) (values_given lib (boot_effect lib w s xs) ss v rest2) same in
+    subst (λ (zs : List ℕ). (y : Boots lib (boot_effect lib w s zs) ss v) → values_given lib (boot_effect lib w s vs) ss u rest ≡ values_given lib (boot_effect lib w s zs) ss v y → u ≡ v)
+    apart.0 (λ y e. one_made lib (boot_effect lib w s vs) ss u v rest y e) rest2 apart.1
 
-pub one_boot_world : (lib : Library) (ss : List Statement) (u v : World) → IsBoot lib ss u → IsBoot lib ss v → u ≡ v
-one_boot_world lib ss u v x y = Settles-unique x.made u v x.settles (rw (one_made lib origin ss y.made x.made y.boots x.boots) at y.settles)
+pub one_boot_world : (lib : Library) (ss : List Statement) (u v : World) (x : IsBoot lib ss u) (y : IsBoot lib ss v) → values_given lib origin ss x.made x.boots ≡ values_given lib origin ss y.made y.boots → u ≡ v
+one_boot_world lib ss u v x y same = Settles-unique x.made u v x.settles (rw (one_made lib origin ss y.made x.made y.boots x.boots (sym same)) at y.settles)
+
+-- ---- where no handle is given, none gets a value
+
+no_choice : (lib : Library) (w : World) (s : Statement) (vs : List ℕ) → IsTrue (gives_no_handle s) → IsTrue (may_boot lib w s vs) → vs ≡ []
+no_choice lib w (statement.Process job program word []) [] none may = refl
+no_choice lib w (statement.Process job program word []) (v ∷ vs) none may = absurd cc
+no_choice lib w (statement.Process job program word (g ∷ gs)) vs none may = absurd (false≢true none)
+
+no_values : (lib : Library) (w : World) (ss : List Statement) (u : World) → IsTrue (list_all gives_no_handle ss) → (x : Boots lib w ss u) → values_given lib w ss u x ≡ map (λ s. []) ss
+no_values lib w [] u none x = refl
+no_values lib w (s ∷ ss) u none (vs, fine, may, rest) =
+    let both = and_parts (gives_no_handle s) (list_all gives_no_handle ss) none in
+    λ i. no_choice lib w s vs both.0 may i ∷ no_values lib (boot_effect lib w s vs) ss u both.1 rest i
+
+pub one_without_handles : (lib : Library) (ss : List Statement) (u v : World) → IsTrue (list_all gives_no_handle ss) → IsBoot lib ss u → IsBoot lib ss v → u ≡ v
+one_without_handles lib ss u v none x y = one_boot_world lib ss u v x y (no_values lib origin ss x.made none x.boots ∙ sym (no_values lib origin ss y.made none y.boots))

@@ -44,7 +44,7 @@ library = program_of (instr.Local (local.Const 2 1) ∷ [])
 
 -- a process of the root job that runs it, with the word 6
 abbrev one : Statement
-one = statement.Process 1 0 6
+one = statement.Process 1 0 6 []
 
 -- With no statement nothing keeps the root job, so the boot world has no object.
 nothing_boots : IsBoot [] [] (settled_in origin 1)
@@ -88,12 +88,12 @@ unfolding computing boot_fault
 no_program = refl
 
 -- There is no job 2.
-no_job : boot_fault library origin (statement.Process 2 0 0) ≡ Some cause.Unknown
+no_job : boot_fault library origin (statement.Process 2 0 0 []) ≡ Some cause.Unknown
 unfolding computing boot_fault
 no_job = refl
 
 -- Koid 2 is a process, and no job.
-process_is_no_job : boot_fault library (boot_effect library origin one []) (statement.Process 2 0 0) ≡ Some cause.Unknown
+process_is_no_job : boot_fault library (boot_effect library origin one []) (statement.Process 2 0 0 []) ≡ Some cause.Unknown
 unfolding computing boot_fault boot_effect
 process_is_no_job = refl
 
@@ -113,9 +113,9 @@ unfolding computing boot_fault
 unknown_first = refl
 
 -- The second statement names program 1 of a library of one.
-second_is_unknown : FirstFault library (one ∷ statement.Process 1 1 0 ∷ []) 100 1 cause.Unknown
+second_is_unknown : FirstFault library (one ∷ statement.Process 1 1 0 [] ∷ []) 100 1 cause.Unknown
 unfolding computing boot_fault boot_effect
-second_is_unknown = at_statement (booted library origin (one ∷ [])) 1 (statement.Process 1 1 0) cause.Unknown (Boots-by library origin (one ∷ []) refl) refl refl
+second_is_unknown = at_statement (booted library origin (one ∷ [])) 1 (statement.Process 1 1 0 []) cause.Unknown (Boots-by library origin (one ∷ []) refl) refl refl
 
 -- The 65th process is one too many.
 too_many_processes : FirstFault library (replicate 65 one) 100 64 cause.Limit

@@ -57,7 +57,7 @@ step_sound lib w p x after s step = changes_keep_sound w after (step_changes lib
 boots_sound : (lib : Library) (w : World) (statements : List Statement) (after : World) → IsSound w → Boots lib w statements after → IsSound after
 boots_sound lib w [] after s e = rw e s
 boots_sound lib w (st ∷ statements) after s (vs, fine, may, rest) =
-    boots_sound lib (boot_effect lib w st vs) statements after (changes_keep_sound w (boot_effect lib w st vs) (boot_changes lib w st vs fine) s) rest
+    boots_sound lib (boot_effect lib w st vs) statements after (changes_keep_sound w (boot_effect lib w st vs) (boot_changes lib w st vs s.objects fine may) s) rest
 
 -- the root job is alone in the world where a boot begins
 root_alone : (P : ℕ → Object → Type 0) → ((o : Object) → o.raised ≡ 0 → queue_of o.body ≡ [] → P 1 o) → (k : ℕ) (o : Object) → get origin.objects k ≡ Some o → P k o

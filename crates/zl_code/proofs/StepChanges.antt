@@ -1,7 +1,10 @@
 -- Which changes a step is made of: a call with its answer, a statement of a boot, and waking.
-use Rattle.zl_code.proofs.Common.{◌≡◌, ◌<◌, arith, ℕ, Bool, true, false, List, [], ◌∷◌, refl, ap, sym, IsTrue, Option, Some, None, eq-eqb, if◌then◌else◌, is_some, then_some, ne_eqb, none-some, get, put, World, Process, State, Ready, Blocked, Object, Body, PortBody, ProcessBody, runs, wakes, fired, Library, Site, body_in, refusal, with_object, with_effect, gives_ok, gives_refused, taken_handles, may_choose, cpu_answered, replied, taken, ok_outcome, Choice, Refused, WantsMemory, Values, Next, Moves, AtCall, IsStuck, next_for, Acts, Step, boot_fault, boot_effect, is_job_body, IsSound}
-use Rattle.std.specs.List.{fold}
-use Rattle.std.proofs.lemmas.Bool.{not-false, or_parts, true≢false}
+use Rattle.zl_code.proofs.Common.{◌≡◌, ◌<◌, arith, ℕ, true, false, List, [], ◌∷◌, refl, ap, sym, IsTrue, Option, Some, None, eq-eqb, if◌then◌else◌, is_some, ne_eqb, get, put, World, Process, State, Ready, Blocked, Object, Body, PortBody, ProcessBody, runs, wakes, fired, Library, Site, body_in, refusal, with_object, with_effect, gives_ok, gives_refused, taken_handles, may_choose, cpu_answered, replied, taken, ok_outcome, Choice, Refused, WantsMemory, Values, Next, Moves, AtCall, IsStuck, next_for, Acts, Step, boot_fault, boot_effect, is_job_body, IsSound, ◌+◌, subst, ◌∙◌, All, and_parts, nat_tests, All-nil, Map, has_key, on_process, insert_all, process_with, has_default_rights, HasGivenKoids, ◌++◌, may_boot, update}
+use Rattle.std.specs.List.{fold, list_all}
+use Rattle.std.specs.Option.{option_to_list}
+use Rattle.std.proofs.lemmas.Bool.{true≢false}
+use Rattle.std.proofs.lemmas.List.Elements.{All-cons}
+use Rattle.zl_rights.specs.declared.entry.Entry.{Entry}
 use Rattle.zl_rights.specs.declared.status.Status.{Status}
 use Rattle.zl_rights.specs.declared.status.Status.TheVariants as status
 use Rattle.zl_rights.specs.Numbers.{meets}
@@ -9,17 +12,19 @@ use Rattle.zl_rights.specs.World.{SignalOf, PacketAt, Packet}
 use Rattle.zl_rights.specs.Signals.{active}
 use Rattle.zl_rights.specs.Wakes.{packet_values, woken, made_ready, with_body, woken_by_first, woken_by, woken_at_port, woken_from, woken_if_there}
 use Rattle.zl_rights.proofs.MapLaws.{get-put}
+use Rattle.zl_code.specs.declared.boot.Grant.{Grant}
 use Rattle.zl_code.specs.declared.boot.Statement.{Statement}
 use Rattle.zl_code.specs.declared.boot.Statement.TheVariants as statement
-use Rattle.zl_code.specs.declared.boot.BootCause.TheVariants as cause
 use Rattle.zl_code.specs.declared.history.Outcome.{Outcome}
 use Rattle.zl_code.specs.declared.history.Outcome.TheVariants as outcome
 use Rattle.zl_code.specs.declared.history.TraceItem.{TraceItem}
 use Rattle.zl_code.specs.Calls.{after_refusal, after_ok, CallBy}
-use Rattle.zl_code.specs.Boot.{is_job}
+use Rattle.zl_code.specs.Boot.{is_job, handle_given, handles_given, process_with_all, with_process}
+use Rattle.zl_code.specs.Starting.{created_process, started_with}
+use Rattle.zl_code.proofs.CanStart.{CanStart, can_start, handles_at_most, started_with_all, started_may_get}
 use Rattle.zl_code.proofs.MapKept.{changed}
 use Rattle.zl_code.proofs.Changes.{computes, Changes, stays, changes, settles, join, one, process_changes, process_ends, process_wakes, process_is_made, object_is_made, packet_goes, waits_fire}
-use Rattle.zl_code.proofs.Entering.{all_leave, left_behind}
+use Rattle.zl_code.proofs.Entering.{IsFine, all_enter, all_leave, left_behind}
 use Rattle.zl_code.proofs.CallLaws.{first_is_none, laws}
 
 -- ---- calls
@@ -105,37 +110,76 @@ step_changes lib w p x w2 step =
     (join w w step.acted _ (act_changes lib w p step.process step.is_there step.is_ready (next_for lib step.process) x step.acted step.acts)
     (settles step.acted step.settled _ step.settles (waking_changes w step.settled)))
 
-then_none : {X : Type 0} (b : Bool) (x : X) → then_some b x ≡ None → b ≡ false
-then_none true x h = absurd (none-some x (sym h))
-then_none false x h = refl
-
 pub job_is_there : (o : Option Object) → is_job_body (body_in o) ≡ true → IsTrue (is_some o)
 job_is_there None h = absurd (true≢false (sym h))
 job_is_there (Some o) h = refl
 
-pub boot_changes : (lib : Library) (w : World) (s : Statement) (vs : List ℕ) → boot_fault lib w s ≡ None → Changes w w (boot_effect lib w s vs)
-unfolding boot_fault boot_effect with_object
-boot_changes lib w (statement.Process job program word) vs fine =
+update_put : {X : Type 0} (m : Map X) (k : ℕ) (x : X) (f : X → X) → update (put m k x) k f ≡ put m k (f x)
+unfolding put update
+update_put [] k x f = rw (eq-eqb k k refl) refl
+update_put (e ∷ m) k x f = grind (arith, nat_tests, update_put m k x f)
+
+-- a process that was just made gets its handles
+made_with_all : (u : World) (k : ℕ) (q : Process) (es : List Entry) (vs : List ℕ) → insert_all (with_process u k q) k es vs ≡ with_process u k (process_with_all es vs q)
+unfolding insert_all on_process
+made_with_all u k q [] vs = refl
+made_with_all u k q (e ∷ es) [] = refl
+made_with_all u k q (e ∷ es) (v ∷ vs) =
+    ap (λ (m : Map Process). insert_all (record u { processes = m }) k es vs) (update_put u.processes k q (process_with v e)) ∙ made_with_all u k (process_with v e q) es vs
+
+-- the handles that a statement gives name objects that stay beside a new one
+given_are_fine : (w : World) (made : Map Object) (gs : List Grant) → ((k : ℕ) (o : Object) → get w.objects k ≡ Some o → get made k ≡ Some o) → IsTrue (list_all has_default_rights (handles_given w.objects gs)) → All (IsFine w made) (handles_given w.objects gs)
+given_are_fine w made [] stay rights = All-nil (IsFine w made)
+given_are_fine w made (g ∷ gs) stay rights = by_object (get w.objects g.koid) refl rights (given_are_fine w made gs stay)
+  where
+    by_object : (o : Option Object) → get w.objects g.koid ≡ o → IsTrue (list_all has_default_rights (option_to_list (handle_given g (body_in o)) ++ handles_given w.objects gs))
+        → (IsTrue (list_all has_default_rights (handles_given w.objects gs)) → All (IsFine w made) (handles_given w.objects gs)) → All (IsFine w made) (option_to_list (handle_given g (body_in o)) ++ handles_given w.objects gs)
+    by_object None is h others = others h
+    by_object (Some o) is h others = All-cons (IsFine w made) _ _ (record { rights = λ s. (and_parts _ _ h).0; names = λ s. (o, stay g.koid o is, refl) }) (others (and_parts _ _ h).1)
+
+pub boot_changes : (lib : Library) (w : World) (s : Statement) (vs : List ℕ) → HasGivenKoids w → boot_fault lib w s ≡ None → IsTrue (may_boot lib w s vs) → Changes w w (boot_effect lib w s vs)
+unfolding boot_effect with_object
+boot_changes lib w (statement.Process job program word handles) vs given fine may =
     changes w made _ (object_is_made w w (ProcessBody job) refl)
-    (one w made _ (process_is_made w made w.next_koid _ (record {
+    (changes made begun _ (process_is_made w made w.next_koid first (record {
       free = λ s. no_process s (get w.processes w.next_koid) refl;
       given = omega arith;
       empty = refl;
       nothing_last = refl;
-      object = λ s. (job, rw (get-put w.objects w.next_koid (record { body = ProcessBody job; raised = 0 }) w.next_koid, eq-eqb w.next_koid w.next_koid refl) refl, job_stays s);
-    }) refl))
+      object = λ s. (job, rw (get-put w.objects w.next_koid new_object w.next_koid, eq-eqb w.next_koid w.next_koid refl) refl, rw same_job can.in_job);
+    }) refl)
+    (subst (λ (x : World). Changes w begun x) (made_with_all made w.next_koid first es vs ∙ ap (with_process made w.next_koid) (started_with_all es vs vs word (created_process lib program)))
+    (all_enter w begun w.next_koid first es vs there refl (rw (started_may_get es vs vs word (created_process lib program)) may) (omega (arith, can.few, handles_at_most w.objects handles))
+    (given_are_fine w made.objects handles (λ k o at. stays k (rw at refl) ∙ at) can.rights))))
   where
     made : World
     made = with_object w (ProcessBody job)
+
+    new_object : Object
+    new_object = record { body = ProcessBody job; raised = 0 }
+
+    es : List Entry
+    es = handles_given w.objects handles
+
+    first : Process
+    first = started_with vs word (created_process lib program)
+
+    begun : World
+    begun = with_process made w.next_koid first
+
+    there : get begun.processes w.next_koid ≡ Some first
+    there = get-put w.processes w.next_koid first w.next_koid ∙ rw (eq-eqb w.next_koid w.next_koid refl) refl
+
+    can : CanStart lib w job program handles
+    can = can_start lib w job program word handles fine
 
     no_process : IsSound w → (o : Option Process) → get w.processes w.next_koid ≡ o → o ≡ None
     no_process s None is = refl
     no_process s (Some q) is = let below : w.next_koid < w.next_koid = s.processes w.next_koid (ap is_some is) in absurd (omega arith)
 
-    job_there : is_job w job ≡ true
-    job_there = not-false _ (or_parts _ _ (then_none _ cause.Unknown (first_is_none _ _ fine))).0
+    -- an object that was there is there beside the new one
+    stays : (k : ℕ) → IsTrue (has_key w.objects k) → get made.objects k ≡ get w.objects k
+    stays k old = let below : k < w.next_koid = given.below k old in get-put w.objects w.next_koid new_object k ∙ rw (ne_eqb w.next_koid k (λ e. omega arith)) refl
 
-    job_stays : IsSound w → IsTrue (is_job_body (body_in (get (put w.objects w.next_koid (record { body = ProcessBody job; raised = 0 })) job)))
-    job_stays s =
-        let below : job < w.next_koid = s.objects.below job (job_is_there (get w.objects job) job_there) in
-        rw (get-put w.objects w.next_koid (record { body = ProcessBody job; raised = 0 }) job, ne_eqb w.next_koid job (λ e. omega arith)) job_there
+    same_job : is_job_body (body_in (get made.objects job)) ≡ is_job w job
+    same_job = ap (λ o. is_job_body (body_in o)) (stays job (job_is_there (get w.objects job) can.in_job))

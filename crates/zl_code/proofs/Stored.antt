@@ -59,10 +59,10 @@ abbrev pub library : Library
 library = record { checked = false; image = image } ∷ []
 
 abbrev pub statements : List Statement
-statements = statement.Process 1 0 0 ∷ []
+statements = statement.Process 1 0 0 [] ∷ []
 
 abbrev pub made : World
-made = boot_effect library origin (statement.Process 1 0 0) []
+made = boot_effect library origin (statement.Process 1 0 0 []) []
 
 abbrev pub boot : World
 boot = settled_in made 1

@@ -1,15 +1,20 @@
 -- The world that a list of statements makes, or the first fault.
-use Rattle.std.specs.Prelude.{ℕ, ◌≡◌, ◌<◌, ◌≤◌, Bool, true, false, ◌||◌, not, nat_lt, nat_le, List, [], ◌∷◌, length, take, Option, Some, None, is_some, slice_get, IsTrue}
+use Rattle.std.specs.Prelude.{ℕ, ◌≡◌, ◌<◌, ◌≤◌, Bool, true, false, ◌&&◌, ◌||◌, not, nat_lt, nat_le, List, [], ◌∷◌, ◌++◌, length, take, Option, Some, None, is_some, slice_get, IsTrue}
 use Rattle.std.specs.Bool.{then_some}
-use Rattle.zl_rights.specs.Common.{put, World, Process, Body, JobBody, ProcessBody, Settles}
+use Rattle.std.specs.List.{list_all}
+use Rattle.std.specs.Option.{option_to_list}
+use Rattle.zl_rights.specs.Common.{rights_of, default_rights_of, Map, get, put, has_key, World, Process, Object, Body, JobBody, ProcessBody, kind_of, is_empty, Settles}
+use Rattle.zl_rights.specs.declared.kind.Kind.{Kind}
 use Rattle.zl_code.specs.First.{first_some}
 use Rattle.zl_rights.specs.declared.entry.Entry.{Entry}
+use Rattle.zl_code.specs.declared.boot.Grant.{Grant}
 use Rattle.zl_code.specs.declared.boot.Statement.{Statement}
 use Rattle.zl_code.specs.declared.boot.Statement.TheVariants as statement
 use Rattle.zl_code.specs.declared.boot.BootCause.{BootCause}
 use Rattle.zl_code.specs.declared.boot.BootCause.TheVariants as cause
 use Rattle.zl_code.specs.Image.{Library}
-use Rattle.zl_code.specs.Tests.{body_of}
+use Rattle.zl_code.specs.Tests.{body_in, body_of}
+use Rattle.zl_code.specs.Handles.{has_default_rights}
 use Rattle.zl_code.specs.Effects.{with_object, process_with, may_get_all}
 use Rattle.zl_code.specs.Starting.{created_process, started_with}
 
@@ -27,6 +32,35 @@ MOST_KOIDS = 1024
 abbrev pub MOST_ITEMS : ℕ
 MOST_ITEMS = 1000000
 
+-- the most handles that a statement gives: one for each register from 0 to 7 but the word's
+abbrev pub MOST_GRANTS : ℕ
+MOST_GRANTS = 7
+
+-- ---- the handles that a statement gives
+
+-- the rights of a handle to an object of the kind: those that are named, or else the default rights
+abbrev pub rights_given : Option ℕ → Kind → ℕ
+rights_given None kind = default_rights_of kind
+rights_given (Some rights) kind = rights
+
+-- the handle to what was found; none where nothing was
+abbrev pub handle_given : Grant → Option Body → Option Entry
+handle_given g None = None
+handle_given g (Some b) = Some (record { koid = g.koid; kind = kind_of b; rights = rights_of (rights_given g.rights (kind_of b)) })
+
+-- the handles to these objects, in order
+abbrev pub handles_given : Map Object → List Grant → List Entry
+handles_given objects [] = []
+handles_given objects (g ∷ gs) = option_to_list (handle_given g (body_in (get objects g.koid))) ++ handles_given objects gs
+
+-- each names an object that is there
+abbrev pub all_known : Map Object → List Grant → Bool
+all_known objects gs = list_all (λ g. has_key objects g.koid) gs
+
+-- a process can start with them: there are few enough, and each has default rights of its kind at most
+abbrev pub may_start_with : List Grant → List Entry → Bool
+may_start_with gs es = nat_le (length gs) MOST_GRANTS && list_all has_default_rights es
+
 -- ---- one statement
 
 -- the object is a job
@@ -38,21 +72,18 @@ is_job_body _ = false
 abbrev pub is_job : World → ℕ → Bool
 is_job w k = is_job_body (body_of w k)
 
--- why the statement can't be done: no such job or program; one process too many, or no koid is left
+-- why the statement can't be done: no such job, program or object; no handles to start with;
+-- one process too many, or no koid is left
 unfoldable pub boot_fault : Library → World → Statement → Option BootCause
-boot_fault lib w (statement.Process job program word) = first_some (
-    then_some (not (is_job w job) || not (is_some (slice_get lib program))) cause.Unknown
+boot_fault lib w (statement.Process job program word handles) = first_some (
+    then_some (not (is_job w job && (is_some (slice_get lib program) && all_known w.objects handles))) cause.Unknown
+    ∷ then_some (not (may_start_with handles (handles_given w.objects handles))) cause.BadHandleList
     ∷ then_some (nat_le MOST_PROCESSES (length w.processes) || nat_lt MOST_KOIDS w.next_koid) cause.Limit
     ∷ [])
 
--- the handles that the statement gives to its process; none gives any yet
-abbrev pub boot_handles : World → Statement → List Entry
-boot_handles w (statement.Process job program word) = []
-
--- these values may be given to the handles, one after another
+-- these values may be given to the handles of the statement, one after another
 abbrev pub may_boot : Library → World → Statement → List ℕ → Bool
-may_boot lib w (statement.Process job program word) vs =
-    may_get_all (created_process lib program) (boot_handles w (statement.Process job program word)) vs
+may_boot lib w (statement.Process job program word handles) vs = may_get_all (created_process lib program) (handles_given w.objects handles) vs
 
 -- the process with the handles, each at its value
 abbrev pub process_with_all : List Entry → List ℕ → Process → Process
@@ -70,9 +101,8 @@ with_process w k process = record w { processes = put w.processes k process }
 
 -- the world after the statement, where its handles get the values vs
 unfoldable pub boot_effect : Library → World → Statement → List ℕ → World
-boot_effect lib w (statement.Process job program word) vs =
-    with_process (with_object w (ProcessBody job)) w.next_koid
-    (started_process lib program (boot_handles w (statement.Process job program word)) vs word)
+boot_effect lib w (statement.Process job program word handles) vs =
+    with_process (with_object w (ProcessBody job)) w.next_koid (started_process lib program (handles_given w.objects handles) vs word)
 
 -- ---- all statements
 
@@ -92,6 +122,15 @@ abbrev pub Boots : Library → World → List Statement → World → Type 0
 Boots lib w [] w2 = w2 ≡ w
 Boots lib w (s ∷ ss) w2 =
     (vs : List ℕ) × (boot_fault lib w s ≡ None) × IsTrue (may_boot lib w s vs) × Boots lib (boot_effect lib w s vs) ss w2
+
+-- the values that the handles of each statement got
+abbrev pub values_given : (lib : Library) (w : World) (statements : List Statement) (w2 : World) → Boots lib w statements w2 → List (List ℕ)
+values_given lib w [] w2 boots = []
+values_given lib w (s ∷ ss) w2 (vs, fine, may, rest) = vs ∷ values_given lib (boot_effect lib w s vs) ss w2 rest
+
+-- the statement gives no handle
+abbrev pub gives_no_handle : Statement → Bool
+gives_no_handle (statement.Process job program word handles) = is_empty handles
 
 -- w is a boot world of the statements
 pub record IsBoot (lib : Library) (statements : List Statement) (w : World) : Type 0 where

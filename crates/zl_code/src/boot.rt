@@ -1,3 +1,7 @@
+ghost use Rattle.std.specs.Prelude.{◌≡◌, ◌++◌, ◌∷◌, [], OnOk, OnErr, IfErr};
+
+use std::alloc::{AllocFailed, Global};
+use std::marker::Model;
 use zl_rights::Koid;
 
 /// What a scenario says of the world before its first step; statements are done in order. Own
@@ -15,11 +19,73 @@ impl Boot {
 }
 
 /// One statement; the object that it makes gets the next koid. Own profile.
-#[derive(Clone, Copy)]
+#[derive(Drop)]
 pub enum Statement {
-    /// A process of the job, running the program of that number from 0, started with the word in
-    /// register 1.
-    Process { job: Koid, program: u64, word: u64 },
+    /// A process of the job, running the program of that number from 0. It is started with the first
+    /// of its handles in register 0, the word in register 1 and the other handles from register 2 on.
+    Process {
+        job: Koid,
+        program: u64,
+        word: u64,
+        handles: Grants,
+    },
+}
+
+/// A handle that a statement gives to its process. Own profile.
+#[derive(Clone, Copy)]
+pub struct Grant {
+    /// The object that it names, which an earlier statement made, or the root job.
+    pub koid: Koid,
+    /// Its rights; where no number stands, the default rights of the object's kind.
+    pub rights: Option<u64>,
+}
+
+/// The handles that a statement gives to its process, in order. Own profile.
+#[derive(Drop)]
+pub struct Grants {
+    list: Vec<Grant>,
+}
+
+impl Model for Grants {
+    ghost use Rattle.std.specs.Prelude.{List};
+    ghost use Rattle.zl_code.specs.declared.boot.Grant.{Grant as GrantValue};
+
+    ghost Value = { List GrantValue };
+
+    ghost view = { λ grants. grants.list.items };
+}
+
+impl Grants {
+    /// The most handles that a process can start with: one for each register from 0 to 7 but the
+    /// word's.
+    pub const MOST: usize = 7;
+
+    /// No handles. It takes no memory.
+    pub fn new(alloc: Global) -> Grants
+        ensures { result ≡ [] }
+    {
+        Grants {
+            list: Vec::new(alloc),
+        }
+    }
+
+    /// Adds a handle behind the others.
+    ///
+    /// Only memory can be refused; then nothing changes, and the handle comes back.
+    pub fn push(&mut self, grant: Grant) -> Result<(), AllocFailed<Grant>>
+        ensures added { OnOk result (self.new ≡ self.old ++ grant ∷ []) }
+        ensures unchanged { OnErr result (self.new ≡ self.old) }
+        ensures handed_back { IfErr result (λ refused. refused.value ≡ grant) }
+    {
+        self.list.push(grant)
+    }
+
+    /// The handles in order.
+    pub fn as_slice(&self) -> &[Grant]
+        ensures { result.now ≡ self.now }
+    {
+        self.list.as_slice()
+    }
 }
 
 /// Which statement can't be done, counted from 0, and why. Own profile.
@@ -33,9 +99,8 @@ pub struct BootFault {
 /// Why a statement can't be done. Own profile.
 #[derive(Clone, Copy)]
 pub enum BootCause {
-    /// A process can't start with these handles: there are eight or more, one has a right that a
-    /// new object of its kind doesn't give, or the program was checked for others. Not yet: no
-    /// statement gives handles.
+    /// A process can't start with these handles: there are eight or more, or one has a right that a
+    /// new object of its kind doesn't give. Not yet: that the program was checked for others.
     BadHandleList,
     /// The program was checked, and the policy of the job forbids it to make what it needs. Not
     /// yet: a boot doesn't look at needs.

@@ -1,10 +1,11 @@
 //! Laws of booting: each function's contract is one law, and its body is empty.
 
-ghost use Rattle.std.specs.Prelude.{ℕ, ◌≡◌, ◌⊎◌, List};
+ghost use Rattle.std.specs.Prelude.{ℕ, ◌≡◌, ◌⊎◌, List, IsTrue};
+ghost use Rattle.std.specs.List.{list_all};
 ghost use Rattle.zl_rights.specs.World.{World};
 ghost use Rattle.zl_code.specs.declared.boot.BootCause.{BootCause};
 ghost use Rattle.zl_code.specs.declared.boot.Statement.{Statement};
-ghost use Rattle.zl_code.specs.Boot.{boot_fault, Boots, IsBoot, IsBooted, FirstFault, origin};
+ghost use Rattle.zl_code.specs.Boot.{boot_fault, Boots, IsBoot, IsBooted, FirstFault, origin, values_given, gives_no_handle};
 ghost use Rattle.zl_code.specs.Image.{Library};
 
 /// Statements with a limit have a boot world or a first fault.
@@ -36,8 +37,18 @@ pub fn faults_depend_on_no_choice()
         → boot_fault lib u s ≡ boot_fault lib v s }
 {}
 
-/// Two boot worlds of the same statements are one, as no statement gives handles yet.
+/// Two boot worlds of the same statements are one, where their handles got the same values.
 pub fn the_boot_world_is_one()
     ensures { (lib : Library) (statements : List Statement) (u v : World)
+        → (x : IsBoot lib statements u) (y : IsBoot lib statements v)
+        → values_given lib origin statements x.made x.boots
+        ≡ values_given lib origin statements y.made y.boots
+        → u ≡ v }
+{}
+
+/// Two boot worlds of the same statements are one, where no statement gives a handle.
+pub fn the_boot_world_without_handles_is_one()
+    ensures { (lib : Library) (statements : List Statement) (u v : World)
+        → IsTrue (list_all gives_no_handle statements)
         → IsBoot lib statements u → IsBoot lib statements v → u ≡ v }
 {}

@@ -25,7 +25,7 @@ pub mod laws;
 mod layout;
 mod register;
 
-pub use boot::{Boot, BootCause, BootFault, Statement};
+pub use boot::{Boot, BootCause, BootFault, Grant, Grants, Statement};
 pub use decoding::decode;
 pub use encoding::encode;
 pub use history::{CallName, Outcome, ProcState, TraceItem};

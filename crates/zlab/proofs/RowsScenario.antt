@@ -52,13 +52,13 @@ a_program : reading_of none_refused empty_program ≡ whole (said (raw empty_ima
 unfolding reading_from line_said statement_said body_named limit_said process_said block_said is_end program_said digits_spelled body_said is_word digits_of bytes_of_digits first_fault header_fault pieces
 a_program = refl
 
-processes : reading_of none_refused (empty_program ++ codes "process 1 0 5\n\nprocess 77 0 0") ≡ whole (said (raw empty_image ∷ []) (statement.Process 1 0 5 ∷ statement.Process 77 0 0 ∷ []) (8 ∷ 10 ∷ []) 1000 [])
+processes : reading_of none_refused (empty_program ++ codes "process 1 0 5\n\nprocess 77 0 0") ≡ whole (said (raw empty_image ∷ []) (statement.Process 1 0 5 [] ∷ statement.Process 77 0 0 [] ∷ []) (8 ∷ 10 ∷ []) 1000 [])
 unfolding reading_from line_said statement_said body_named limit_said process_said block_said is_end program_said digits_spelled body_said is_word number_of digits_of bytes_of_digits first_fault header_fault pieces
 processes = refl
 
 -- the stored run
 stored_run : reading_of none_refused (codes "program raw hex\n5a4c41420101080000000000640000000000 0000\n46020300000000000000000000000000\n01050000000000000800000000000000\n47020300050000000000000000000000\n41020304000000000000008000000000\n40020300000000000000000000000000\n40020400000000000000000000000000\n40020400000000000000000000000000\n53000000000000000000000000000000\nend\nprocess 1 0 0\n--\n2 20\n")
-    ≡ whole (said (raw bytes ∷ []) (statement.Process 1 0 0 ∷ []) (12 ∷ []) 1000 ((2, 20) ∷ []))
+    ≡ whole (said (raw bytes ∷ []) (statement.Process 1 0 0 [] ∷ []) (12 ∷ []) 1000 ((2, 20) ∷ []))
 unfolding reading_from line_said statement_said body_named limit_said process_said block_said is_end program_said digits_spelled body_said turns_said pair_said is_word number_of digits_of bytes_of_digits first_fault header_fault instr_fault row_of pieces
 stored_run = refl
 

@@ -63,10 +63,10 @@ onto part (Err c) = Err c
 abbrev pub with_statement : Scenario → ℕ → Statement → Scenario
 with_statement said n s = record said { statements = said.statements ++ (s ∷ []); lines = said.lines ++ (n ∷ []) }
 
--- `process JOB PROGRAM WORD`: three numbers, and a program that stands further up
+-- `process JOB PROGRAM WORD`: three numbers, and a program that stands further up; no handle yet
 unfoldable pub process_said : ℕ → Scenario → Option ℕ → Option ℕ → Option ℕ → Result Scenario Cause
 process_said n said (Some job) (Some program) (Some word) =
-    if nat_lt program (length said.programs) then Ok (with_statement said n (statement.Process job program word)) else Err cause.Unknown
+    if nat_lt program (length said.programs) then Ok (with_statement said n (statement.Process job program word [])) else Err cause.Unknown
 process_said n said _ _ _ = Err cause.Syntax
 
 -- `limit N`: a number, and at most the largest limit of a trace; the last one counts

@@ -115,7 +115,9 @@ impl Reader {
         ensures unchanged { Keeps result self.old.said self.new.said }
     {
         self.part = match self.part {
-            Part::Statements => { read_statement(&mut self.draft, &mut self.body, number, words)? }
+            Part::Statements => {
+                read_statement(&mut self.draft, &mut self.body, alloc, number, words)?
+            }
             Part::Block { opened } => {
                 read_block(&mut self.draft, &mut self.body, alloc, opened, line, words)?
             }

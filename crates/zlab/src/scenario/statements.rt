@@ -12,6 +12,7 @@ use crate::scenario::fault::Fault;
 use crate::scenario::numbers::number;
 use crate::scenario::part::Part;
 use crate::scenario::words::is;
+use std::alloc::Global;
 use zl_code::Boot;
 
 /// Reads the words of a line that stands among the statements, and answers what the next line
@@ -20,6 +21,7 @@ use zl_code::Boot;
 pub fn read_statement(
     draft: &mut Draft,
     body: &mut Body,
+    alloc: Global,
     line: u64,
     words: &[&[u8]],
 ) -> Result<Part, Fault>
@@ -42,7 +44,7 @@ pub fn read_statement(
             Ok(Part::Block { opened: line })
         }
         [name, job, program, word] if is(name, b"process") => {
-            read_process(draft, line, job, program, word)?;
+            read_process(draft, alloc, line, job, program, word)?;
             Ok(Part::Statements)
         }
         _ => Err(Fault::Refused(Cause::Syntax)),
@@ -70,6 +72,7 @@ fn form_of(name: &[u8], mark: &[u8], form: &[u8]) -> Option<Form>
 #[tactic(auto, unfolding(crate::specs::Scenario::process_said))]
 fn read_process(
     draft: &mut Draft,
+    alloc: Global,
     line: u64,
     job: &[u8],
     program: &[u8],
@@ -86,7 +89,7 @@ fn read_process(
     if program >= draft.programs() as u64 {
         return Err(Fault::Refused(Cause::Unknown));
     }
-    draft.push_process(line, job, program, word)?;
+    draft.push_process(alloc, line, job, program, word)?;
     Ok(())
 }
 

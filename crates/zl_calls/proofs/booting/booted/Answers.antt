@@ -1,4 +1,6 @@
-use Rattle.zl_code.specs.declared.boot.Statement.TheVariants as statement
+use Rattle.zl_code.proofs.Common.{◌∙◌, ap, subst, get_or, List, boot_fault}
+use Rattle.zl_code.specs.declared.boot.Statement.{Statement}
+use Rattle.zl_calls.specs.Makes.{Makes, IsCauseOf, seen}
 use Rattle.zl_calls.proofs.BootRun.{none_made, one_more, first_fault, limit_fault, none_reached, some_reached}
 use Rattle.zl_calls.proofs.booting.booted.Goals as goal
 
@@ -18,14 +20,14 @@ pub returns-in-Err-clause-err : goal.returns-in-Err-clause-err
 returns-in-Err-clause-err c =
     let statements = c.deref-statement-items.ensures.value in
     rw c.fault_at-in-Err.ensures
-    (first_fault c.args.library.now c.args.boot.now.statements.items c.args.boot.now.limit c.loop-number.number (statement.Process 0 0 0) c.loop-number.made c.in-Err.cause
-    (rw statements at c.loop-number-test.true) c.loop-number.invariant (rw statements at (c.in-Err.ensures {u = tt}).err))
+    (first_fault c.args.library.now c.args.boot.now.statements.items c.args.boot.now.limit c.loop-number.number c.statement-item.result c.loop-number.made c.in-Err.cause
+    (rw statements at c.loop-number-test.true) c.loop-number.invariant (subst (λ (s : Statement). IsCauseOf (boot_fault c.args.library.now (seen c.loop-number.made) s) c.in-Err.cause) (c.statement-item.is ∙ ap (λ (ss : List Statement). get_or ss c.loop-number.number c.statement-item.result) statements) (c.in-Err.ensures {u = tt}).err))
 
 pub loop-number-preserved : goal.loop-number-preserved
 loop-number-preserved c =
     let statements = c.deref-statement-items.ensures.value in
-    one_more c.args.library.now c.args.boot.now.statements.items c.loop-number.number (statement.Process 0 0 0) c.loop-number.made c.make.new.self
-    (rw statements at c.loop-number-test.true) c.loop-number.invariant (rw statements at (c.in_default-make.ensures {u = tt}).ok)
+    one_more c.args.library.now c.args.boot.now.statements.items c.loop-number.number c.statement-item.result c.loop-number.made c.make.new.self
+    (rw statements at c.loop-number-test.true) c.loop-number.invariant (subst (λ (s : Statement). Makes c.args.library.now s c.loop-number.made c.make.new.self) (c.statement-item.is ∙ ap (λ (ss : List Statement). get_or ss c.loop-number.number c.statement-item.result) statements) (c.in_default-make.ensures {u = tt}).ok)
 
 pub returns-then-boot-gt-MOST_ITEMS-clause-err : goal.returns-then-boot-gt-MOST_ITEMS-clause-err
 returns-then-boot-gt-MOST_ITEMS-clause-err c =

@@ -1,46 +1,39 @@
-use Rattle.zl_code.proofs.Common.{ap, inl, inr, sym, ◌∙◌, refl, arith, Image}
-use Rattle.zl_calls.proofs.BootFaults.{fault_no_program, fault_no_job, fault_limit, wants_memory}
-use Rattle.zl_calls.proofs.BootMaking.{makes}
+use Rattle.zl_code.proofs.Common.{◌≡◌, ◌∙◌, ap, sym, refl, arith, length, length-map, World}
+use Rattle.zl_code.proofs.CanStart.{CanStart, can_start}
+use Rattle.zl_calls.specs.Makes.{seen}
+use Rattle.zl_calls.specs.World.{process_entry}
 use Rattle.zl_calls.specs.declared.process.State.TheVariants as state
-use Rattle.zl_calls.specs.Cpu.{started_cpu}
-use Rattle.zl_calls.specs.Program.{program_value}
+use Rattle.zl_calls.proofs.BootFaults.{rights_are}
+use Rattle.zl_calls.proofs.BootMaking.{done, makes}
 use Rattle.zl_calls.proofs.booting.Made.make_process.Goals as goal
-use Rattle.zl_calls.proofs.booting.Made.make_process.Goals.{then-len-ge-MOST_PROCESSES-via-then-len-ge-MOST_PROCESSES, then-len-ge-MOST_PROCESSES-via-else-len-ge-MOST_PROCESSES+then-next_koid-gt-MOST_KOIDS}
 
-pub returns-in_default-clause-err : goal.returns-in_default-clause-err
-returns-in_default-clause-err c =
-    rw (fault_no_program c.args.library.now c.args.self.now.processes.items c.args.self.now.objects c.args.job c.args.program c.args.word (c.in_default.ensures {u = tt}).missing) refl
+pub give-requires-clause-place : goal.give-requires-clause-place
+give-requires-clause-place c =
+    let can = can_start c.args.library.now (seen c.args.self.now) c.args.job c.args.program c.args.word c.args.handles.now ((c.in_ok-image.ensures {u = tt}).fault c.args.word) in
+    let count : length (seen c.args.self.now).processes ≡ length c.args.self.now.processes.items = length-map c.args.self.now.processes.items process_entry in
+    omega (arith, count, can.place)
 
-pub returns-then-not-is_job-clause-err : goal.returns-then-not-is_job-clause-err
-returns-then-not-is_job-clause-err c =
-    rw (fault_no_job c.args.library.now c.args.self.now.processes.items c.args.self.now.objects c.args.job c.args.program c.args.word (sym c.is_job.ensures ∙ c.if-not-is_job.true)) refl
+pub give-requires-clause-few : goal.give-requires-clause-few
+give-requires-clause-few c =
+    (can_start c.args.library.now (seen c.args.self.now) c.args.job c.args.program c.args.word c.args.handles.now ((c.in_ok-image.ensures {u = tt}).fault c.args.word)).few
 
-pub returns-then-len-ge-MOST_PROCESSES-clause-err : goal.returns-then-len-ge-MOST_PROCESSES-clause-err
-returns-then-len-ge-MOST_PROCESSES-clause-err c =
-    let limit = fault_limit c.args.library.now c.args.self.now.processes.items c.args.self.now.objects c.args.job c.args.program c.args.word (program_value c.in-Some.listed.now) c.in-Some.ensures.found (sym c.is_job.ensures ∙ c.if-not-is_job.false) in
-    elim c.then-len-ge-MOST_PROCESSES.branch [
-      | then-len-ge-MOST_PROCESSES-via-then-len-ge-MOST_PROCESSES w ↦ rw (limit (inl (omega (arith, c.args.self.now.processes.ok.0)))) refl
-      | then-len-ge-MOST_PROCESSES-via-else-len-ge-MOST_PROCESSES+then-next_koid-gt-MOST_KOIDS w ↦ rw (limit (inr (omega arith))) refl
-    ]
+pub give-requires-clause-may : goal.give-requires-clause-may
+give-requires-clause-may c =
+    let can = can_start c.args.library.now (seen c.args.self.now) c.args.job c.args.program c.args.word c.args.handles.now ((c.in_ok-image.ensures {u = tt}).fault c.args.word) in
+    sym (rights_are (seen c.args.self.now).objects c.args.handles.now can.known) ∙ can.rights
 
-pub returns-in_default-new-clause-err : goal.returns-in_default-new-clause-err
-returns-in_default-new-clause-err c =
-    wants_memory c.args.library.now c.args.self.now.processes.items c.args.self.now.objects c.args.job c.args.program c.args.word (program_value c.in-Some.listed.now) c.in-Some.ensures.found (sym c.is_job.ensures ∙ c.if-not-is_job.false) (omega (arith, c.args.self.now.processes.ok.0)) (omega arith)
-
-pub returns-in_default-create-clause-err : goal.returns-in_default-create-clause-err
-returns-in_default-create-clause-err c =
-    wants_memory c.args.library.now c.args.self.now.processes.items c.args.self.now.objects c.args.job c.args.program c.args.word (program_value c.in-Some.listed.now) c.in-Some.ensures.found (sym c.is_job.ensures ∙ c.if-not-is_job.false) (omega (arith, c.args.self.now.processes.ok.0)) (omega arith)
-
-pub returns-then-is_err-clause-err : goal.returns-then-is_err-clause-err
-returns-then-is_err-clause-err c =
-    wants_memory c.args.library.now c.args.self.now.processes.items c.args.self.now.objects c.args.job c.args.program c.args.word (program_value c.in-Some.listed.now) c.in-Some.ensures.found (sym c.is_job.ensures ∙ c.if-not-is_job.false) (omega (arith, c.args.self.now.processes.ok.0)) (omega arith)
+pub create-requires : goal.create-requires
+create-requires c =
+    let can = can_start c.args.library.now (seen c.args.self.now) c.args.job c.args.program c.args.word c.args.handles.now ((c.in_ok-image.ensures {u = tt}).fault c.args.word) in
+    let gives = done _ _ (c.if-is_err.ensures {u = tt}).value c.give.ensures in
+    let koid : c.give.new.self.objects.next_koid ≡ c.args.self.now.objects.next_koid = ap (λ (w : World). w.next_koid) gives.same in
+    omega (arith, koid, can.koid)
 
 pub returns-clause-ok : goal.returns-clause-ok
 returns-clause-ok c =
-    let created = c.in-Ok-create.ensures in
-    let cpu = c.in-Ok.ensures ∙ ap (λ (image : Image). started_cpu image c.args.word) c.image.ensures in
-    makes c.args.library.now c.args.self.now (record { processes = c.push.new.self; objects = c.create.new.self }) c.args.job c.args.program c.args.word
-    (program_value c.in-Some.listed.now) (record { pid = c.in-Ok-create.pid; program = c.args.program; state = state.Ready; cpu = c.in-Ok.cpu; table = c.new-2.result })
-    c.requires c.in-Some.ensures.found (sym c.is_job.ensures ∙ c.if-not-is_job.false) (omega (arith, c.args.self.now.processes.ok.0)) (omega arith)
-    (record { pid = created.koid; program_is = refl; cpu = cpu; fresh = record { ready = refl; no_handles = c.new-2.ensures.entries; none_removed = c.new-2.ensures.last } })
-    (rw (c.if-is_err.ensures {u = tt}).negation at c.push.ensures.items) created.created
+    makes c.args.library.now c.args.self.now c.give.new.self (record { processes = c.push.new.self; objects = c.create.new.self }) c.args.job c.args.program c.args.word c.args.handles.now c.in_ok-image.image.now
+    (record { pid = c.next_koid.result; program = c.args.program; state = state.Ready; cpu = c.in-Ok.cpu; table = c.new-2.result }) c.give.new.process
+    (c.in_ok-image.ensures {u = tt}).image ((c.in_ok-image.ensures {u = tt}).fault c.args.word)
+    (record { pid = c.next_koid.ensures; program_is = refl; cpu = c.in-Ok.ensures {u = tt}; ready = refl; bare = record { no_handles = c.new-2.ensures.entries; none_removed = c.new-2.ensures.last } })
+    (done _ _ (c.if-is_err.ensures {u = tt}).value c.give.ensures)
+    (rw (c.if-is_err-2.ensures {u = tt}).negation at c.push.ensures.items) c.in-Ok-create.ensures.created

@@ -1,15 +1,27 @@
-use Rattle.zl_code.proofs.Common.{rules}
-use Rattle.zl_calls.proofs.BootLab.{ends_with, ends_without}
+use Rattle.zl_code.proofs.Common.{◌≡◌, ◌+◌, ◌-◌, ℕ, refl, arith}
+use Rattle.zl_calls.proofs.BootLab.{none_swept, one_swept, swept_lab, swept_settles}
 use Rattle.zl_calls.proofs.booting.Made.settle.Goals as goal
 
-pub returns-then-is_empty-clause-settles : goal.returns-then-is_empty-clause-settles
-returns-then-is_empty-clause-settles c = rw c.clear.ensures (ends_without c.args.self.now.processes.items c.args.self.now.objects c.requires (search rules)).settles
+pub loop-koid-init : goal.loop-koid-init
+loop-koid-init c = record {
+  swept = rw c.next_koid-koid.ensures (none_swept c.args.self.now.processes.items c.args.self.now.objects c.requires);
+  processes = refl;
+}
 
-pub returns-then-is_empty-clause-lab : goal.returns-then-is_empty-clause-lab
-returns-then-is_empty-clause-lab c = rw c.clear.ensures (ends_without c.args.self.now.processes.items c.args.self.now.objects c.requires (search rules)).lab
+pub loop-koid-preserved : goal.loop-koid-preserved
+loop-koid-preserved c =
+    let koid : c.loop-koid.koid ≡ c.loop-koid.koid - 1 + 1 = omega (arith, c.loop-koid-test.true) in
+    record {
+      swept = rw c.remove_unheld.ensures (one_swept c.args.self.now.processes.items c.args.self.now.objects c.loop-koid.self.objects (c.loop-koid.koid - 1) (rw koid at c.loop-koid.invariant.swept));
+      processes = c.loop-koid.invariant.processes;
+    }
 
-pub returns-else-is_empty-clause-settles : goal.returns-else-is_empty-clause-settles
-returns-else-is_empty-clause-settles c = (ends_with c.args.self.now.processes.items c.args.self.now.objects c.requires (search rules)).settles
+pub returns-clause-settles : goal.returns-clause-settles
+returns-clause-settles c =
+    let all : ◌≡◌ {A = ℕ} c.loop-koid.koid 0 = omega (arith, c.loop-koid-test.false) in
+    rw c.loop-koid.invariant.processes (swept_settles c.args.self.now.processes.items c.args.self.now.objects c.loop-koid.self.objects (rw all at c.loop-koid.invariant.swept))
 
-pub returns-else-is_empty-clause-lab : goal.returns-else-is_empty-clause-lab
-returns-else-is_empty-clause-lab c = (ends_with c.args.self.now.processes.items c.args.self.now.objects c.requires (search rules)).lab
+pub returns-clause-lab : goal.returns-clause-lab
+returns-clause-lab c =
+    let all : ◌≡◌ {A = ℕ} c.loop-koid.koid 0 = omega (arith, c.loop-koid-test.false) in
+    rw c.loop-koid.invariant.processes (swept_lab c.args.self.now.processes.items c.args.self.now.objects c.loop-koid.self.objects (rw all at c.loop-koid.invariant.swept))

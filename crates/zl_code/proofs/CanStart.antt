@@ -1,0 +1,68 @@
+-- What is known of the process of a statement that has no fault, and how it gets its handles.
+use Rattle.zl_code.proofs.Common.{◌≡◌, ◌<◌, ◌≤◌, ◌&&◌, ◌||◌, ℕ, Bool, true, false, not, List, [], ◌∷◌, ◌++◌, length, refl, sym, ap, arith, nat_tests, nat_le, nat_lt, Option, Some, None, IsTrue, is_some, then_some, slice_get, and_parts, none-some, first_some, Map, get, Object, World, Library, Process, body_in, boot_fault, has_default_rights, may_get, process_with}
+use Rattle.std.specs.List.{list_all}
+use Rattle.std.specs.Option.{option_to_list}
+use Rattle.std.proofs.lemmas.Bool.{not-false, or_parts}
+use Rattle.zl_rights.specs.declared.entry.Entry.{Entry}
+use Rattle.zl_code.specs.Effects.{may_get_all}
+use Rattle.zl_code.specs.Starting.{started_with}
+use Rattle.zl_code.specs.declared.boot.Grant.{Grant}
+use Rattle.zl_code.specs.declared.boot.Statement.TheVariants as statement
+use Rattle.zl_code.specs.declared.boot.BootCause.{BootCause}
+use Rattle.zl_code.specs.declared.boot.BootCause.TheVariants as cause
+use Rattle.zl_code.specs.Boot.{MOST_GRANTS, MOST_PROCESSES, MOST_KOIDS, process_with_all, is_job, all_known, handle_given, handles_given, may_start_with}
+
+-- the process can start with its handles
+pub record CanStart (lib : Library) (w : World) (job program : ℕ) (handles : List Grant) : Type 0 where
+  pub in_job : IsTrue (is_job w job)
+  pub known : IsTrue (all_known w.objects handles)
+  pub few : length handles ≤ MOST_GRANTS
+  pub rights : IsTrue (list_all has_default_rights (handles_given w.objects handles))
+  pub place : length w.processes < MOST_PROCESSES
+  pub koid : w.next_koid ≤ MOST_KOIDS
+
+none_first : (b : Bool) (c : BootCause) (rest : List (Option BootCause)) → first_some (then_some b c ∷ rest) ≡ None → (b ≡ false) × (first_some rest ≡ None)
+none_first true c rest fine = absurd (none-some c (sym fine))
+none_first false c rest fine = (refl, fine)
+
+pub can_start : (lib : Library) (w : World) (job program word : ℕ) (handles : List Grant) → boot_fault lib w (statement.Process job program word handles) ≡ None → CanStart lib w job program handles
+unfolding boot_fault
+can_start lib w job program word handles fine =
+    let first = none_first (not (is_job w job && (is_some (slice_get lib program) && all_known w.objects handles))) cause.Unknown _ fine in
+    let second = none_first (not (may_start_with handles (handles_given w.objects handles))) cause.BadHandleList _ first.1 in
+    let third = none_first (nat_le MOST_PROCESSES (length w.processes) || nat_lt MOST_KOIDS w.next_koid) cause.Limit _ second.1 in
+    let left = or_parts (nat_le MOST_PROCESSES (length w.processes)) _ third.0 in
+    let there = and_parts (is_job w job) _ (not-false _ first.0) in
+    let start = and_parts (nat_le (length handles) MOST_GRANTS) _ (not-false _ second.0) in
+    record {
+      in_job = there.0;
+      known = (and_parts (is_some (slice_get lib program)) _ there.1).1;
+      few = grind (arith, nat_tests, start.0);
+      rights = start.1;
+      place = grind (arith, nat_tests, left.0);
+      koid = grind (arith, nat_tests, left.1);
+    }
+
+pub handles_at_most : (objects : Map Object) (gs : List Grant) → length (handles_given objects gs) ≤ length gs
+handles_at_most objects [] = omega arith
+handles_at_most objects (g ∷ gs) = elim (handle_given g (body_in (get objects g.koid))) as (λ o. length (option_to_list o ++ handles_given objects gs) ≤ length (g ∷ gs)) [
+  | None ↦ omega (arith, handles_at_most objects gs)
+  | Some e ↦ omega (arith, handles_at_most objects gs)
+]
+
+-- ---- its start, and its handles
+
+-- a process gets its handles after its start as before
+pub started_with_all : (es : List Entry) (vs xs : List ℕ) (word : ℕ) (q : Process) → process_with_all es vs (started_with xs word q) ≡ started_with xs word (process_with_all es vs q)
+started_with_all [] vs xs word q = refl
+started_with_all (e ∷ es) [] xs word q = refl
+started_with_all (e ∷ es) (v ∷ vs) xs word q = started_with_all es vs xs word (process_with v e q)
+
+pub started_may_get : (es : List Entry) (vs xs : List ℕ) (word : ℕ) (q : Process) → may_get_all (started_with xs word q) es vs ≡ may_get_all q es vs
+started_may_get [] [] xs word q = refl
+started_may_get [] (v ∷ vs) xs word q = refl
+started_may_get (e ∷ es) [] xs word q = refl
+started_may_get (e ∷ es) (v ∷ vs) xs word q = rw (same_values, started_may_get es vs xs word (process_with v e q)) refl
+  where
+    same_values : may_get (started_with xs word q) v ≡ may_get q v
+    same_values = elim q.last as (λ o. may_get (record (started_with xs word q) { last = o }) v ≡ may_get (record q { last = o }) v) [ None ↦ refl | Some l ↦ refl ]

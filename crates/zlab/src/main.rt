@@ -11,6 +11,8 @@ mod assembler_tests;
 mod assembling;
 #[cfg(test)]
 mod assembling_tests;
+#[cfg(test)]
+mod boot_tests;
 mod engine;
 mod fault;
 mod hints;

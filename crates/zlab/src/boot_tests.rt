@@ -1,0 +1,181 @@
+//! Boots whose statements give handles: what a process finds in its registers, and what is refused.
+
+use std::alloc::{AllocError, Global};
+use std::test::*;
+use zl_asm::assemble_bytes;
+use zl_calls::{Library, Program, World};
+use zl_code::{Boot, BootCause, BootFault, CallName, Grant, Grants, Outcome, Statement, TraceItem};
+use zl_rights::{Koid, Pid, Status};
+
+/// The root job's koid, and those of the first and the second process.
+const ROOT: Koid = 1;
+
+const FIRST: Koid = 2;
+
+const SECOND: Koid = 3;
+
+/// Exits with the word.
+const EXITS: &str = ".raw
+process_exit r1
+";
+
+/// Copies the handles in registers 0 and 2, the first with the default rights of a job and the second
+/// with the rights to duplicate and to wait; closes the word, which is no handle, and the two, and
+/// exits with what is left of the word, which is 0.
+const USES_TWO: &str = ".raw
+dup r3, r0, r4, 251407
+dup r3, r2, r5, 16385
+dup r3, r2, r6, 4
+close r3, r1
+close r3, r0
+close r3, r2
+close r3, r2
+process_exit r1
+";
+
+fn library(alloc: Global) -> Result<Library, Fail> {
+    let mut library = Library::new(alloc);
+    for text in [EXITS, USES_TWO] {
+        let image = assemble_bytes(alloc, text.as_bytes())
+            .ok()
+            .ok_or("the text is a program")?;
+        if library.push(Program::Raw(image)).is_err() {
+            return Err(Fail::from("memory was refused"));
+        }
+    }
+    Ok(library)
+}
+
+/// `process 1 PROGRAM 77` with these handles.
+fn process(alloc: Global, program: u64, given: &[Grant]) -> Result<Statement, AllocError> {
+    let mut handles = Grants::new(alloc);
+    for grant in given {
+        handles.push(*grant)?;
+    }
+    Ok(Statement::Process {
+        job: ROOT,
+        program,
+        word: 77,
+        handles,
+    })
+}
+
+/// A boot of a process without handles, and then of one with these.
+fn boot_of(alloc: Global, given: &[Grant]) -> Result<Boot, AllocError> {
+    let mut statements = Vec::new(alloc);
+    statements.push(process(alloc, 0, &[])?)?;
+    statements.push(process(alloc, 1, given)?)?;
+    Ok(Boot {
+        statements,
+        limit: 100,
+    })
+}
+
+fn default_rights(koid: Koid) -> Grant {
+    Grant { koid, rights: None }
+}
+
+fn rights(koid: Koid, rights: u64) -> Grant {
+    Grant {
+        koid,
+        rights: Some(rights),
+    }
+}
+
+/// The call that the process does next, and how it is answered.
+fn call(world: &mut World, pid: Pid) -> Option<(CallName, Outcome)> {
+    match world.step(pid)? {
+        TraceItem::Call { call, outcome, .. } => Some((call, outcome)),
+        _ => None,
+    }
+}
+
+#[test]
+fn starts_with_two_handles(rt: HostRuntime) -> Result<(), Fail> {
+    let boot = boot_of(rt.alloc(), &[default_rights(ROOT), rights(FIRST, 16385)])?;
+    let Ok(mut world) = World::boot(rt.alloc(), library(rt.alloc())?, &boot) else {
+        return Err(Fail::from("the boot is refused"));
+    };
+    assert!(rt;
+        matches!(
+            call(&mut world, FIRST),
+            Some((CallName::ProcessExit, Outcome::Ended(77)))
+        )
+    );
+    let answers = [
+        (CallName::Dup, Status::Ok),
+        (CallName::Dup, Status::Ok),
+        (CallName::Dup, Status::InvalidArgs),
+        (CallName::Close, Status::BadHandle),
+        (CallName::Close, Status::Ok),
+        (CallName::Close, Status::Ok),
+        (CallName::Close, Status::Ok),
+    ];
+    for (name, status) in answers {
+        let answered = call(&mut world, SECOND);
+        assert!(rt;
+            matches!(answered, Some((called, Outcome::Answered(answer)))
+            if called == name && answer == status)
+        );
+    }
+    assert!(rt;
+        matches!(
+            call(&mut world, SECOND),
+            Some((CallName::ProcessExit, Outcome::Ended(0)))
+        )
+    );
+    Ok(())
+}
+
+/// The fault of a boot whose second process is given these handles.
+fn fault_of(alloc: Global, given: &[Grant]) -> Result<Option<BootFault>, Fail> {
+    let boot = boot_of(alloc, given)?;
+    Ok(World::boot(alloc, library(alloc)?, &boot).err())
+}
+
+#[test]
+fn refuses_handles(rt: HostRuntime) -> Result<(), Fail> {
+    let job = default_rights(ROOT);
+    assert!(rt; fault_of(rt.alloc(), &[job; 7])?.is_none());
+    let refused = [
+        // A right to signal a peer, which a job doesn't give.
+        rights(ROOT, 8192),
+        // A right to set policies, which a process doesn't give.
+        rights(FIRST, 1024),
+        rights(ROOT, 4_294_967_296),
+        rights(ROOT, u64::MAX),
+    ];
+    for grant in refused {
+        let fault = fault_of(rt.alloc(), &[job, grant])?;
+        assert!(rt;
+            matches!(
+                fault,
+                Some(BootFault {
+                    statement: 1,
+                    cause: BootCause::BadHandleList,
+                })
+            )
+        );
+    }
+    let fault = fault_of(rt.alloc(), &[job; 8])?;
+    assert!(rt;
+        matches!(
+            fault,
+            Some(BootFault {
+                statement: 1,
+                cause: BootCause::BadHandleList,
+            })
+        )
+    );
+    let itself = fault_of(rt.alloc(), &[rights(ROOT, 8192), default_rights(SECOND)])?;
+    assert!(rt;
+        matches!(
+            itself,
+            Some(BootFault {
+                statement: 1,
+                cause: BootCause::Unknown,
+            })
+        )
+    );
+    Ok(())
+}

@@ -48,20 +48,15 @@ two_may_get_them : may_boot library after_one two (9 ∷ 5 ∷ []) ≡ true
 unfolding computing boot_fault boot_effect
 two_may_get_them = refl
 
--- A value can't be given twice.
-not_one_value : may_boot library after_one two (9 ∷ 9 ∷ []) ≡ false
+rows_of_a_second_process_with_the_handles_1_and_2_16385_at_the_values_9_and_5 :
+    -- A value can't be given twice.
+    (may_boot library after_one two (9 ∷ 9 ∷ []) ≡ false)
+    -- The first handle is in register 0, the word in 1 and the second handle in 2.
+    × (registers_of after_two 3 ≡ 9 ∷ 6 ∷ 5 ∷ 0 ∷ 0 ∷ 0 ∷ [])
+    -- The table has the default rights of a job, 251407, at the first, and those that are named at the second.
+    × (table_of after_two 3 ≡ (5, record { koid = 2; kind = kind.Process; rights = rights_of 16385 }) ∷ (9, record { koid = 1; kind = kind.Job; rights = rights_of 251407 }) ∷ [])
 unfolding computing boot_fault boot_effect
-not_one_value = refl
-
--- The first handle is in register 0, the word in 1 and the second handle in 2.
-two_has_them : registers_of after_two 3 ≡ 9 ∷ 6 ∷ 5 ∷ 0 ∷ 0 ∷ 0 ∷ []
-unfolding computing boot_fault boot_effect
-two_has_them = refl
-
--- The table has the default rights of a job, 251407, at the first, and those that are named at the second.
-two_in_its_table : table_of after_two 3 ≡ (5, record { koid = 2; kind = kind.Process; rights = rights_of 16385 }) ∷ (9, record { koid = 1; kind = kind.Job; rights = rights_of 251407 }) ∷ []
-unfolding computing boot_fault boot_effect
-two_in_its_table = refl
+rows_of_a_second_process_with_the_handles_1_and_2_16385_at_the_values_9_and_5 = (refl, refl, refl)
 
 -- ---- faults
 

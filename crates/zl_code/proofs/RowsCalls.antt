@@ -56,93 +56,53 @@ with_many = λ n. world_of [] (process_of (9 ∷ 7 ∷ 9 ∷ []) (times n (event
 
 -- ---- close
 
--- The value 5 isn't live.
-close_dead : Refuses bare (close 5) (outcome.Answered status.BadHandle)
+rows_of_close :
+    -- The value 5 isn't live.
+    (Refuses bare (close 5) (outcome.Answered status.BadHandle))
+    -- The status goes to its register, and the closed register becomes 0 all the same.
+    × (told (turn (call.Close 0 1) bare Refused)
+        ≡ Some (item.Call 2 name.Close (outcome.Answered status.BadHandle), 11 ∷ 0 ∷ 9 ∷ 0 ∷ 0 ∷ 0 ∷ []))
+    -- A value that isn't live isn't the value removed last.
+    × (last_of (after bare (turn (call.Close 0 1) bare Refused)) 2 ≡ None)
+    -- 0 is no handle, and closing it is no fault.
+    × (Passes bare (close 0))
+    -- Closing 0 is answered OK.
+    × (told (turn (call.Close 0 3) bare (Values []))
+        ≡ Some (item.Call 2 name.Close (outcome.Answered status.Ok), 0 ∷ 5 ∷ 9 ∷ 0 ∷ 0 ∷ 0 ∷ []))
+    -- Where the policy kills for a bad handle, the process ends with -1026.
+    × (Refuses (bare_under condition.BadHandle action.Kill) (close 5) (outcome.Ended (negsuc 1025)))
+    -- It has ended then.
+    × (state_of (after bare (turn (call.Close 0 1) (bare_under condition.BadHandle action.Kill) Refused)) 2 ≡ Some (Ended (negsuc 1025)))
+    -- A policy that denies changes nothing at a bad handle.
+    × (Refuses (bare_under condition.BadHandle action.Deny) (close 5) (outcome.Answered status.BadHandle))
+    -- Closing 0 is no bad handle under such a policy either.
+    × (Passes (bare_under condition.BadHandle action.Kill) (close 0))
+    -- A handle without any right may be closed.
+    × (Passes (with_rights 0) (close 7))
+    -- Closing a live handle is answered OK, and its register becomes 0.
+    × (told (turn (call.Close 0 1) (with_rights 0) (Values []))
+        ≡ Some (item.Call 2 name.Close (outcome.Answered status.Ok), 0 ∷ 0 ∷ 9 ∷ 0 ∷ 0 ∷ 0 ∷ []))
+    -- Where the status goes to the closed register, the status stands.
+    × (told (turn (call.Close 1 1) bare Refused)
+        ≡ Some (item.Call 2 name.Close (outcome.Answered status.BadHandle), 9 ∷ 11 ∷ 9 ∷ 0 ∷ 0 ∷ 0 ∷ []))
 unfolding computing
-close_dead = refl
-
--- The status goes to its register, and the closed register becomes 0 all the same.
-close_dead_told : told (turn (call.Close 0 1) bare Refused)
-    ≡ Some (item.Call 2 name.Close (outcome.Answered status.BadHandle), 11 ∷ 0 ∷ 9 ∷ 0 ∷ 0 ∷ 0 ∷ [])
-unfolding computing
-close_dead_told = refl
-
--- A value that isn't live isn't the value removed last.
-close_dead_last : last_of (after bare (turn (call.Close 0 1) bare Refused)) 2 ≡ None
-unfolding computing
-close_dead_last = refl
-
--- 0 is no handle, and closing it is no fault.
-close_zero : Passes bare (close 0)
-unfolding computing
-close_zero = refl
-
--- Closing 0 is answered OK.
-close_zero_told : told (turn (call.Close 0 3) bare (Values []))
-    ≡ Some (item.Call 2 name.Close (outcome.Answered status.Ok), 0 ∷ 5 ∷ 9 ∷ 0 ∷ 0 ∷ 0 ∷ [])
-unfolding computing
-close_zero_told = refl
-
--- Where the policy kills for a bad handle, the process ends with -1026.
-close_kill : Refuses (bare_under condition.BadHandle action.Kill) (close 5) (outcome.Ended (negsuc 1025))
-unfolding computing
-close_kill = refl
-
--- It has ended then.
-close_kill_state : state_of (after bare (turn (call.Close 0 1) (bare_under condition.BadHandle action.Kill) Refused)) 2 ≡ Some (Ended (negsuc 1025))
-unfolding computing
-close_kill_state = refl
-
--- A policy that denies changes nothing at a bad handle.
-close_deny : Refuses (bare_under condition.BadHandle action.Deny) (close 5) (outcome.Answered status.BadHandle)
-unfolding computing
-close_deny = refl
-
--- Closing 0 is no bad handle under such a policy either.
-close_zero_kill : Passes (bare_under condition.BadHandle action.Kill) (close 0)
-unfolding computing
-close_zero_kill = refl
-
--- A handle without any right may be closed.
-close_without_rights : Passes (with_rights 0) (close 7)
-unfolding computing
-close_without_rights = refl
-
--- Closing a live handle is answered OK, and its register becomes 0.
-close_told : told (turn (call.Close 0 1) (with_rights 0) (Values []))
-    ≡ Some (item.Call 2 name.Close (outcome.Answered status.Ok), 0 ∷ 0 ∷ 9 ∷ 0 ∷ 0 ∷ 0 ∷ [])
-unfolding computing
-close_told = refl
-
--- Where the status goes to the closed register, the status stands.
-close_same_register : told (turn (call.Close 1 1) bare Refused)
-    ≡ Some (item.Call 2 name.Close (outcome.Answered status.BadHandle), 9 ∷ 11 ∷ 9 ∷ 0 ∷ 0 ∷ 0 ∷ [])
-unfolding computing
-close_same_register = refl
+rows_of_close = (refl, refl, refl, refl, refl, refl, refl, refl, refl, refl, refl, refl)
 
 -- the world after the close of 7
 abbrev closed : World
 closed = after bare (turn (call.Close 0 1) (with_rights 0) (Values []))
 
--- The closed value is the value removed last.
-closed_last : last_of closed 2 ≡ Some 7
+rows_of_close_2 :
+    -- The closed value is the value removed last.
+    (last_of closed 2 ≡ Some 7)
+    -- No handle names event 3 any more, so it is gone.
+    × (has_key closed.objects 3 ≡ false)
+    -- The next event may get the value 7.
+    × (may_choose closed closed 2 event_create (7 ∷ []) ≡ true)
+    -- It may not get the value 8.
+    × (may_choose closed closed 2 event_create (8 ∷ []) ≡ false)
 unfolding computing
-closed_last = refl
-
--- No handle names event 3 any more, so it is gone.
-closed_event : has_key closed.objects 3 ≡ false
-unfolding computing
-closed_event = refl
-
--- The next event may get the value 7.
-closed_again : may_choose closed closed 2 event_create (7 ∷ []) ≡ true
-unfolding computing
-closed_again = refl
-
--- It may not get the value 8.
-closed_another : may_choose closed closed 2 event_create (8 ∷ []) ≡ false
-unfolding computing
-closed_another = refl
+rows_of_close_2 = (refl, refl, refl, refl)
 
 -- It may get no value but 7.
 closed_only : (v : ℕ) → IsTrue (may_choose closed closed 2 event_create (v ∷ [])) → v ≡ 7
@@ -151,200 +111,97 @@ closed_only v chosen = eqb-true v 7 (and_parts (v == 7) true chosen).0
 
 -- ---- dup
 
--- The value 5 isn't live.
-dup_dead : Refuses bare (dup 5 SAME_RIGHTS) (outcome.Answered status.BadHandle)
+rows_of_dup :
+    -- The value 5 isn't live.
+    (Refuses bare (dup 5 SAME_RIGHTS) (outcome.Answered status.BadHandle))
+    -- The status goes to its register, and the register of the copy becomes 0.
+    × (told (turn (call.Dup 0 1 2 SAME_RIGHTS) bare Refused)
+        ≡ Some (item.Call 2 name.Dup (outcome.Answered status.BadHandle), 11 ∷ 5 ∷ 0 ∷ 0 ∷ 0 ∷ 0 ∷ []))
+    -- 0 is no handle, and only close takes it.
+    × (Refuses bare (dup 0 SAME_RIGHTS) (outcome.Answered status.BadHandle))
+    -- Where the policy kills for a bad handle, the process ends with -1026.
+    × (Refuses (bare_under condition.BadHandle action.Kill) (dup 5 SAME_RIGHTS) (outcome.Ended (negsuc 1025)))
+    -- The handle has no right to duplicate.
+    × (Refuses (with_rights SIGNAL) (dup 7 SAME_RIGHTS) (outcome.Answered status.AccessDenied))
+    -- The handle stays.
+    × (told (turn (call.Dup 0 1 2 SAME_RIGHTS) (with_rights SIGNAL) Refused)
+        ≡ Some (item.Call 2 name.Dup (outcome.Answered status.AccessDenied), 30 ∷ 7 ∷ 0 ∷ 0 ∷ 0 ∷ 0 ∷ []))
+    -- A copy can't have a right that the handle hasn't.
+    × (Refuses (with_rights DUPLICATE) (dup 7 SIGNAL) (outcome.Answered status.InvalidArgs))
+    -- The mark for the same rights stands alone.
+    × (Refuses (with_rights FIRST_RIGHTS) (dup 7 0x8000_0001) (outcome.Answered status.InvalidArgs))
+    -- A copy may have a part of the rights.
+    × (Passes (with_rights FIRST_RIGHTS) (dup 7 SIGNAL))
+    -- A copy may have no right.
+    × (Passes (with_rights FIRST_RIGHTS) (dup 7 0))
+    -- The table has 1,024 handles.
+    × (Refuses (with_many 1024) (dup 7 SAME_RIGHTS) (outcome.Answered status.NoResources))
+    -- There is room for one more beside 1,023 handles.
+    × (Passes (with_many 1023) (dup 7 SAME_RIGHTS))
+    -- The missing right comes before the wrong rights.
+    × (Refuses (with_rights SIGNAL) (dup 7 DUPLICATE) (outcome.Answered status.AccessDenied))
+    -- The wrong rights come before the full table.
+    × (Refuses (with_many 1024) (dup 7 0x1_0000) (outcome.Answered status.InvalidArgs))
+    -- The bad handle comes before the wrong rights and the full table.
+    × (Refuses (with_many 1024) (dup 2000 0x1_0000) (outcome.Answered status.BadHandle))
+    -- A copy gets a value that isn't used.
+    × (told (turn (call.Dup 0 1 2 SIGNAL) (with_rights FIRST_RIGHTS) (Values (65535 ∷ [])))
+        ≡ Some (item.Call 2 name.Dup (outcome.Answered status.Ok), 0 ∷ 7 ∷ 65535 ∷ 0 ∷ 0 ∷ 0 ∷ []))
+    -- The copy has the rights that were asked for, and the handle keeps its own.
+    × (table_of (after bare (turn (call.Dup 0 1 2 SIGNAL) (with_rights FIRST_RIGHTS) (Values (65535 ∷ [])))) 2
+        ≡ (7, event_with FIRST_RIGHTS) ∷ (65535, event_with SIGNAL) ∷ [])
+    -- No copy gets a value that is used.
+    × (may_choose (with_rights FIRST_RIGHTS) (with_rights FIRST_RIGHTS) 2 (dup 7 SIGNAL) (7 ∷ []) ≡ false)
+    -- No copy gets the value 0.
+    × (may_choose (with_rights FIRST_RIGHTS) (with_rights FIRST_RIGHTS) 2 (dup 7 SIGNAL) (0 ∷ []) ≡ false)
+    -- No copy gets a value above 65,535.
+    × (may_choose (with_rights FIRST_RIGHTS) (with_rights FIRST_RIGHTS) 2 (dup 7 SIGNAL) (65536 ∷ []) ≡ false)
+    -- Where memory is wanted, no handle is made.
+    × (told (turn (call.Dup 0 1 2 SIGNAL) (with_rights FIRST_RIGHTS) WantsMemory)
+        ≡ Some (item.Call 2 name.Dup (outcome.Answered status.NoMemory), 4 ∷ 7 ∷ 0 ∷ 0 ∷ 0 ∷ 0 ∷ []))
 unfolding computing
-dup_dead = refl
-
--- The status goes to its register, and the register of the copy becomes 0.
-dup_dead_told : told (turn (call.Dup 0 1 2 SAME_RIGHTS) bare Refused)
-    ≡ Some (item.Call 2 name.Dup (outcome.Answered status.BadHandle), 11 ∷ 5 ∷ 0 ∷ 0 ∷ 0 ∷ 0 ∷ [])
-unfolding computing
-dup_dead_told = refl
-
--- 0 is no handle, and only close takes it.
-dup_zero : Refuses bare (dup 0 SAME_RIGHTS) (outcome.Answered status.BadHandle)
-unfolding computing
-dup_zero = refl
-
--- Where the policy kills for a bad handle, the process ends with -1026.
-dup_kill : Refuses (bare_under condition.BadHandle action.Kill) (dup 5 SAME_RIGHTS) (outcome.Ended (negsuc 1025))
-unfolding computing
-dup_kill = refl
-
--- The handle has no right to duplicate.
-dup_denied : Refuses (with_rights SIGNAL) (dup 7 SAME_RIGHTS) (outcome.Answered status.AccessDenied)
-unfolding computing
-dup_denied = refl
-
--- The handle stays.
-dup_denied_told : told (turn (call.Dup 0 1 2 SAME_RIGHTS) (with_rights SIGNAL) Refused)
-    ≡ Some (item.Call 2 name.Dup (outcome.Answered status.AccessDenied), 30 ∷ 7 ∷ 0 ∷ 0 ∷ 0 ∷ 0 ∷ [])
-unfolding computing
-dup_denied_told = refl
-
--- A copy can't have a right that the handle hasn't.
-dup_more : Refuses (with_rights DUPLICATE) (dup 7 SIGNAL) (outcome.Answered status.InvalidArgs)
-unfolding computing
-dup_more = refl
-
--- The mark for the same rights stands alone.
-dup_same_and_more : Refuses (with_rights FIRST_RIGHTS) (dup 7 0x8000_0001) (outcome.Answered status.InvalidArgs)
-unfolding computing
-dup_same_and_more = refl
-
--- A copy may have a part of the rights.
-dup_part : Passes (with_rights FIRST_RIGHTS) (dup 7 SIGNAL)
-unfolding computing
-dup_part = refl
-
--- A copy may have no right.
-dup_none : Passes (with_rights FIRST_RIGHTS) (dup 7 0)
-unfolding computing
-dup_none = refl
-
--- The table has 1,024 handles.
-dup_full : Refuses (with_many 1024) (dup 7 SAME_RIGHTS) (outcome.Answered status.NoResources)
-unfolding computing
-dup_full = refl
-
--- There is room for one more beside 1,023 handles.
-dup_almost_full : Passes (with_many 1023) (dup 7 SAME_RIGHTS)
-unfolding computing
-dup_almost_full = refl
-
--- The missing right comes before the wrong rights.
-dup_denied_first : Refuses (with_rights SIGNAL) (dup 7 DUPLICATE) (outcome.Answered status.AccessDenied)
-unfolding computing
-dup_denied_first = refl
-
--- The wrong rights come before the full table.
-dup_rights_first : Refuses (with_many 1024) (dup 7 0x1_0000) (outcome.Answered status.InvalidArgs)
-unfolding computing
-dup_rights_first = refl
-
--- The bad handle comes before the wrong rights and the full table.
-dup_bad_first : Refuses (with_many 1024) (dup 2000 0x1_0000) (outcome.Answered status.BadHandle)
-unfolding computing
-dup_bad_first = refl
-
--- A copy gets a value that isn't used.
-dup_told : told (turn (call.Dup 0 1 2 SIGNAL) (with_rights FIRST_RIGHTS) (Values (65535 ∷ [])))
-    ≡ Some (item.Call 2 name.Dup (outcome.Answered status.Ok), 0 ∷ 7 ∷ 65535 ∷ 0 ∷ 0 ∷ 0 ∷ [])
-unfolding computing
-dup_told = refl
-
--- The copy has the rights that were asked for, and the handle keeps its own.
-dup_table : table_of (after bare (turn (call.Dup 0 1 2 SIGNAL) (with_rights FIRST_RIGHTS) (Values (65535 ∷ [])))) 2
-    ≡ (7, event_with FIRST_RIGHTS) ∷ (65535, event_with SIGNAL) ∷ []
-unfolding computing
-dup_table = refl
-
--- No copy gets a value that is used.
-dup_used : may_choose (with_rights FIRST_RIGHTS) (with_rights FIRST_RIGHTS) 2 (dup 7 SIGNAL) (7 ∷ []) ≡ false
-unfolding computing
-dup_used = refl
-
--- No copy gets the value 0.
-dup_value_0 : may_choose (with_rights FIRST_RIGHTS) (with_rights FIRST_RIGHTS) 2 (dup 7 SIGNAL) (0 ∷ []) ≡ false
-unfolding computing
-dup_value_0 = refl
-
--- No copy gets a value above 65,535.
-dup_value_above : may_choose (with_rights FIRST_RIGHTS) (with_rights FIRST_RIGHTS) 2 (dup 7 SIGNAL) (65536 ∷ []) ≡ false
-unfolding computing
-dup_value_above = refl
-
--- Where memory is wanted, no handle is made.
-dup_memory : told (turn (call.Dup 0 1 2 SIGNAL) (with_rights FIRST_RIGHTS) WantsMemory)
-    ≡ Some (item.Call 2 name.Dup (outcome.Answered status.NoMemory), 4 ∷ 7 ∷ 0 ∷ 0 ∷ 0 ∷ 0 ∷ [])
-unfolding computing
-dup_memory = refl
+rows_of_dup = (refl, refl, refl, refl, refl, refl, refl, refl, refl, refl, refl, refl, refl, refl, refl, refl, refl, refl, refl, refl, refl)
 
 -- ---- event_create
 
--- Nothing stands against it.
-create : Passes bare event_create
+rows_of_event_create :
+    -- Nothing stands against it.
+    (Passes bare event_create)
+    -- The policy denies new events.
+    × (Refuses (bare_under condition.NewEvent action.Deny) event_create (outcome.Answered status.AccessDenied))
+    -- The register of the event becomes 0.
+    × (told (turn (call.EventCreate 0 1) (bare_under condition.NewEvent action.Deny) Refused)
+        ≡ Some (item.Call 2 name.EventCreate (outcome.Answered status.AccessDenied), 30 ∷ 0 ∷ 9 ∷ 0 ∷ 0 ∷ 0 ∷ []))
+    -- The policy kills for new events.
+    × (Refuses (bare_under condition.NewEvent action.Kill) event_create (outcome.Ended (negsuc 1025)))
+    -- It has ended then.
+    × (state_of (after bare (turn (call.EventCreate 0 1) (bare_under condition.NewEvent action.Kill) Refused)) 2 ≡ Some (Ended (negsuc 1025)))
+    -- A policy that allows new events.
+    × (Passes (bare_under condition.NewEvent action.Allow) event_create)
+    -- A policy for new channels says nothing of events.
+    × (Passes (bare_under condition.NewChannel action.Kill) event_create)
+    -- The table has 1,024 handles.
+    × (Refuses (with_many 1024) event_create (outcome.Answered status.NoResources))
+    -- There is room for one more beside 1,023 handles.
+    × (Passes (with_many 1023) event_create)
+    -- All koids below 2^62 are given.
+    × (Refuses (record bare { next_koid = 2 ^ 62 }) event_create (outcome.Answered status.NoResources))
+    -- The last koid below 2^62 is left.
+    × (Passes (record bare { next_koid = 2 ^ 62 - 1 }) event_create)
+    -- The policy comes before the koids.
+    × (Refuses (record (bare_under condition.NewEvent action.Deny) { next_koid = 2 ^ 62 }) event_create (outcome.Answered status.AccessDenied))
+    -- The policy that kills comes before the koids too.
+    × (Refuses (record (bare_under condition.NewEvent action.Kill) { next_koid = 2 ^ 62 }) event_create (outcome.Ended (negsuc 1025)))
+    -- The policy comes before the full table.
+    × (Refuses (world_of ((condition_number condition.NewEvent, action.Deny) ∷ []) (process_of [] (times 1024 (event_with FIRST_RIGHTS)) None)) event_create (outcome.Answered status.AccessDenied))
+    -- The event's handle gets a value that isn't used.
+    × (told (turn (call.EventCreate 0 1) bare (Values (6 ∷ [])))
+        ≡ Some (item.Call 2 name.EventCreate (outcome.Answered status.Ok), 0 ∷ 6 ∷ 9 ∷ 0 ∷ 0 ∷ 0 ∷ []))
+    -- It names object 4, the next koid, with the rights of a first handle.
+    × (table_of (after bare (turn (call.EventCreate 0 1) bare (Values (6 ∷ [])))) 2
+        ≡ (6, record (event_with FIRST_RIGHTS) { koid = 4 }) ∷ [])
 unfolding computing
-create = refl
-
--- The policy denies new events.
-create_deny : Refuses (bare_under condition.NewEvent action.Deny) event_create (outcome.Answered status.AccessDenied)
-unfolding computing
-create_deny = refl
-
--- The register of the event becomes 0.
-create_deny_told : told (turn (call.EventCreate 0 1) (bare_under condition.NewEvent action.Deny) Refused)
-    ≡ Some (item.Call 2 name.EventCreate (outcome.Answered status.AccessDenied), 30 ∷ 0 ∷ 9 ∷ 0 ∷ 0 ∷ 0 ∷ [])
-unfolding computing
-create_deny_told = refl
-
--- The policy kills for new events.
-create_kill : Refuses (bare_under condition.NewEvent action.Kill) event_create (outcome.Ended (negsuc 1025))
-unfolding computing
-create_kill = refl
-
--- It has ended then.
-create_kill_state : state_of (after bare (turn (call.EventCreate 0 1) (bare_under condition.NewEvent action.Kill) Refused)) 2 ≡ Some (Ended (negsuc 1025))
-unfolding computing
-create_kill_state = refl
-
--- A policy that allows new events.
-create_allow : Passes (bare_under condition.NewEvent action.Allow) event_create
-unfolding computing
-create_allow = refl
-
--- A policy for new channels says nothing of events.
-create_channel : Passes (bare_under condition.NewChannel action.Kill) event_create
-unfolding computing
-create_channel = refl
-
--- The table has 1,024 handles.
-create_full : Refuses (with_many 1024) event_create (outcome.Answered status.NoResources)
-unfolding computing
-create_full = refl
-
--- There is room for one more beside 1,023 handles.
-create_almost_full : Passes (with_many 1023) event_create
-unfolding computing
-create_almost_full = refl
-
--- All koids below 2^62 are given.
-create_no_koid : Refuses (record bare { next_koid = 2 ^ 62 }) event_create (outcome.Answered status.NoResources)
-unfolding computing
-create_no_koid = refl
-
--- The last koid below 2^62 is left.
-create_last_koid : Passes (record bare { next_koid = 2 ^ 62 - 1 }) event_create
-unfolding computing
-create_last_koid = refl
-
--- The policy comes before the koids.
-create_policy_first : Refuses (record (bare_under condition.NewEvent action.Deny) { next_koid = 2 ^ 62 }) event_create (outcome.Answered status.AccessDenied)
-unfolding computing
-create_policy_first = refl
-
--- The policy that kills comes before the koids too.
-create_kill_first : Refuses (record (bare_under condition.NewEvent action.Kill) { next_koid = 2 ^ 62 }) event_create (outcome.Ended (negsuc 1025))
-unfolding computing
-create_kill_first = refl
-
--- The policy comes before the full table.
-create_policy_before_table : Refuses (world_of ((condition_number condition.NewEvent, action.Deny) ∷ []) (process_of [] (times 1024 (event_with FIRST_RIGHTS)) None)) event_create (outcome.Answered status.AccessDenied)
-unfolding computing
-create_policy_before_table = refl
-
--- The event's handle gets a value that isn't used.
-create_told : told (turn (call.EventCreate 0 1) bare (Values (6 ∷ [])))
-    ≡ Some (item.Call 2 name.EventCreate (outcome.Answered status.Ok), 0 ∷ 6 ∷ 9 ∷ 0 ∷ 0 ∷ 0 ∷ [])
-unfolding computing
-create_told = refl
-
--- It names object 4, the next koid, with the rights of a first handle.
-create_table : table_of (after bare (turn (call.EventCreate 0 1) bare (Values (6 ∷ [])))) 2
-    ≡ (6, record (event_with FIRST_RIGHTS) { koid = 4 }) ∷ []
-unfolding computing
-create_table = refl
+rows_of_event_create = (refl, refl, refl, refl, refl, refl, refl, refl, refl, refl, refl, refl, refl, refl, refl, refl)
 
 -- Where the next koid is that of an object, here of the job, the event would take its place:
 -- so the laws of koids ask that each object's koid was given.
@@ -354,109 +211,61 @@ create_at_used_koid = refl
 
 -- ---- signal
 
--- The value 5 isn't live.
-signal_dead : Refuses bare (signal 5 0 SIGNALED) (outcome.Answered status.BadHandle)
+rows_of_signal :
+    -- The value 5 isn't live.
+    (Refuses bare (signal 5 0 SIGNALED) (outcome.Answered status.BadHandle))
+    -- 0 is no handle.
+    × (Refuses bare (signal 0 0 SIGNALED) (outcome.Answered status.BadHandle))
+    -- Where the policy kills for a bad handle, the process ends with -1026.
+    × (Refuses (bare_under condition.BadHandle action.Kill) (signal 5 0 SIGNALED) (outcome.Ended (negsuc 1025)))
+    -- The handle has no right to signal.
+    × (Refuses (with_rights DUPLICATE) (signal 7 0 SIGNALED) (outcome.Answered status.AccessDenied))
+    -- No call sets READABLE.
+    × (Refuses (with_rights SIGNAL) (signal 7 0 READABLE) (outcome.Answered status.InvalidArgs))
+    -- No call clears READABLE.
+    × (Refuses (with_rights SIGNAL) (signal 7 READABLE 0) (outcome.Answered status.InvalidArgs))
+    -- There is no signal above 32 bits.
+    × (Refuses (with_rights SIGNAL) (signal 7 0 0x1_0000_0000) (outcome.Answered status.InvalidArgs))
+    -- The missing right comes before the wrong signals.
+    × (Refuses (with_rights DUPLICATE) (signal 7 0 READABLE) (outcome.Answered status.AccessDenied))
+    -- SIGNALED and the eight user signals may be set and cleared at an event.
+    × (Passes (with_rights SIGNAL) (signal 7 0xff00_0008 0xff00_0008))
 unfolding computing
-signal_dead = refl
-
--- 0 is no handle.
-signal_zero : Refuses bare (signal 0 0 SIGNALED) (outcome.Answered status.BadHandle)
-unfolding computing
-signal_zero = refl
-
--- Where the policy kills for a bad handle, the process ends with -1026.
-signal_kill : Refuses (bare_under condition.BadHandle action.Kill) (signal 5 0 SIGNALED) (outcome.Ended (negsuc 1025))
-unfolding computing
-signal_kill = refl
-
--- The handle has no right to signal.
-signal_denied : Refuses (with_rights DUPLICATE) (signal 7 0 SIGNALED) (outcome.Answered status.AccessDenied)
-unfolding computing
-signal_denied = refl
-
--- No call sets READABLE.
-signal_readable : Refuses (with_rights SIGNAL) (signal 7 0 READABLE) (outcome.Answered status.InvalidArgs)
-unfolding computing
-signal_readable = refl
-
--- No call clears READABLE.
-signal_clear_readable : Refuses (with_rights SIGNAL) (signal 7 READABLE 0) (outcome.Answered status.InvalidArgs)
-unfolding computing
-signal_clear_readable = refl
-
--- There is no signal above 32 bits.
-signal_above : Refuses (with_rights SIGNAL) (signal 7 0 0x1_0000_0000) (outcome.Answered status.InvalidArgs)
-unfolding computing
-signal_above = refl
-
--- The missing right comes before the wrong signals.
-signal_denied_first : Refuses (with_rights DUPLICATE) (signal 7 0 READABLE) (outcome.Answered status.AccessDenied)
-unfolding computing
-signal_denied_first = refl
-
--- SIGNALED and the eight user signals may be set and cleared at an event.
-signal_all : Passes (with_rights SIGNAL) (signal 7 0xff00_0008 0xff00_0008)
-unfolding computing
-signal_all = refl
+rows_of_signal = (refl, refl, refl, refl, refl, refl, refl, refl, refl)
 
 -- process 2 has a handle with all rights of a job to job 1 at the value 7
 abbrev with_job : World
 with_job = world_of [] (process_of [] ((7, job_with 0x3_d60f) ∷ []) None)
 
--- A job ends by itself alone, so no call sets that signal.
-signal_job : Refuses with_job (signal 7 0 TERMINATED) (outcome.Answered status.InvalidArgs)
+rows_of_signal_2 :
+    -- A job ends by itself alone, so no call sets that signal.
+    (Refuses with_job (signal 7 0 TERMINATED) (outcome.Answered status.InvalidArgs))
+    -- The user signals may be set at a job.
+    × (Passes with_job (signal 7 0 0x100_0000))
+    -- The answer is a status alone.
+    × (told (turn (call.Signal 0 1 3 4) (record bare { processes = (2, process_of (9 ∷ 7 ∷ 9 ∷ 0 ∷ SIGNALED ∷ []) ((7, event_with SIGNAL) ∷ []) None) ∷ [] }) (Values []))
+        ≡ Some (item.Call 2 name.Signal (outcome.Answered status.Ok), 0 ∷ 7 ∷ 9 ∷ 0 ∷ 8 ∷ 0 ∷ []))
+    -- What is cleared and set stays set, as set comes last.
+    × (active (effect [] (with_rights SIGNAL) (with_rights SIGNAL) 2 (signal 7 SIGNALED SIGNALED)) 3 ≡ SIGNALED)
 unfolding computing
-signal_job = refl
-
--- The user signals may be set at a job.
-signal_job_user : Passes with_job (signal 7 0 0x100_0000)
-unfolding computing
-signal_job_user = refl
-
--- The answer is a status alone.
-signal_told : told (turn (call.Signal 0 1 3 4) (record bare { processes = (2, process_of (9 ∷ 7 ∷ 9 ∷ 0 ∷ SIGNALED ∷ []) ((7, event_with SIGNAL) ∷ []) None) ∷ [] }) (Values []))
-    ≡ Some (item.Call 2 name.Signal (outcome.Answered status.Ok), 0 ∷ 7 ∷ 9 ∷ 0 ∷ 8 ∷ 0 ∷ [])
-unfolding computing
-signal_told = refl
-
--- What is cleared and set stays set, as set comes last.
-signal_set_last : active (effect [] (with_rights SIGNAL) (with_rights SIGNAL) 2 (signal 7 SIGNALED SIGNALED)) 3 ≡ SIGNALED
-unfolding computing
-signal_set_last = refl
+rows_of_signal_2 = (refl, refl, refl, refl)
 
 -- ---- process_exit
 
--- Nothing stands against it.
-exit : Passes bare (process_exit 5)
+rows_of_process_exit :
+    -- Nothing stands against it.
+    (Passes bare (process_exit 5))
+    -- The code 0xffff_ffff is -1.
+    × (ok_outcome bare 2 (process_exit 0xffff_ffff) ≡ outcome.Ended (negsuc 0))
+    -- Of the code 2^32 + 5 the low 32 bits count.
+    × (ok_outcome bare 2 (process_exit (2 ^ 32 + 5)) ≡ outcome.Ended (pos 5))
+    -- The least code is -2^31.
+    × (ok_outcome bare 2 (process_exit 0x8000_0000) ≡ outcome.Ended (negsuc 2147483647))
+    -- The largest code is 2^31 - 1.
+    × (ok_outcome bare 2 (process_exit 0x7fff_ffff) ≡ outcome.Ended (pos 2147483647))
+    -- The process has ended with the code of its register.
+    × (state_of (after bare (turn (call.ProcessExit 1) bare (Values []))) 2 ≡ Some (Ended (pos 5)))
+    -- Its handles are closed, so the event goes, and its job too, which nothing else keeps.
+    × ((after bare (turn (call.ProcessExit 1) (with_rights FIRST_RIGHTS) (Values []))).objects ≡ [])
 unfolding computing
-exit = refl
-
--- The code 0xffff_ffff is -1.
-exit_minus_1 : ok_outcome bare 2 (process_exit 0xffff_ffff) ≡ outcome.Ended (negsuc 0)
-unfolding computing
-exit_minus_1 = refl
-
--- Of the code 2^32 + 5 the low 32 bits count.
-exit_low_bits : ok_outcome bare 2 (process_exit (2 ^ 32 + 5)) ≡ outcome.Ended (pos 5)
-unfolding computing
-exit_low_bits = refl
-
--- The least code is -2^31.
-exit_least : ok_outcome bare 2 (process_exit 0x8000_0000) ≡ outcome.Ended (negsuc 2147483647)
-unfolding computing
-exit_least = refl
-
--- The largest code is 2^31 - 1.
-exit_largest : ok_outcome bare 2 (process_exit 0x7fff_ffff) ≡ outcome.Ended (pos 2147483647)
-unfolding computing
-exit_largest = refl
-
--- The process has ended with the code of its register.
-exit_state : state_of (after bare (turn (call.ProcessExit 1) bare (Values []))) 2 ≡ Some (Ended (pos 5))
-unfolding computing
-exit_state = refl
-
--- Its handles are closed, so the event goes, and its job too, which nothing else keeps.
-exit_objects : (after bare (turn (call.ProcessExit 1) (with_rights FIRST_RIGHTS) (Values []))).objects ≡ []
-unfolding computing
-exit_objects = refl
+rows_of_process_exit = (refl, refl, refl, refl, refl, refl, refl)

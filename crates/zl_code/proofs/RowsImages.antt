@@ -15,13 +15,12 @@ abbrev numbers_from : ℕ → ℕ → List ℕ
 numbers_from first zero = []
 numbers_from first (suc n) = first ∷ numbers_from (first + 1) n
 
--- 25 local instructions and 23 calls, in the order of their opcodes.
-all_opcodes : map (λ r. r.opcode) rows ≡ numbers_from 1 25 ++ numbers_from 64 23
-all_opcodes = refl
-
--- None uses more than seven registers.
-few_registers : list_all (λ r. nat_le (length r.fields) 7) rows ≡ true
-few_registers = refl
+rows_of_the_table :
+    -- 25 local instructions and 23 calls, in the order of their opcodes.
+    (map (λ r. r.opcode) rows ≡ numbers_from 1 25 ++ numbers_from 64 23)
+    -- None uses more than seven registers.
+    × (list_all (λ r. nat_le (length r.fields) 7) rows ≡ true)
+rows_of_the_table = (refl, refl)
 
 -- ---- an image that declares something
 
@@ -54,44 +53,31 @@ FirstIs bytes f = first_fault bytes ≡ Some f
 
 -- ---- faults of declarations
 
--- The list of start handles is shorter than the header says.
-too_short : FirstIs (slice_set declared 17 2) fault.Length
+rows_of_faults_of_declarations :
+    -- The list of start handles is shorter than the header says.
+    (FirstIs (slice_set declared 17 2) fault.Length)
+    -- No kind has number 2.
+    × (FirstIs (slice_set declared 20 2) fault.BadHeader)
+    -- An event's default rights don't have READ.
+    × (FirstIs (slice_set declared 24 4) fault.BadHeader)
+    -- A byte of a start handle that is always 0.
+    × (FirstIs (slice_set declared 22 1) fault.BadHeader)
+    -- A slot array has 1 to 256 places.
+    × (FirstIs (slice_set declared 31 0) fault.BadHeader)
 unfolding first_fault header_fault start_fault slot_fault instr_fault pieces row_of
-too_short = refl
-
--- No kind has number 2.
-no_kind : FirstIs (slice_set declared 20 2) fault.BadHeader
-unfolding first_fault header_fault start_fault slot_fault instr_fault pieces row_of
-no_kind = refl
-
--- An event's default rights don't have READ.
-foreign_right : FirstIs (slice_set declared 24 4) fault.BadHeader
-unfolding first_fault header_fault start_fault slot_fault instr_fault pieces row_of
-foreign_right = refl
-
--- A byte of a start handle that is always 0.
-set_byte : FirstIs (slice_set declared 22 1) fault.BadHeader
-unfolding first_fault header_fault start_fault slot_fault instr_fault pieces row_of
-set_byte = refl
-
--- A slot array has 1 to 256 places.
-no_places : FirstIs (slice_set declared 31 0) fault.BadHeader
-unfolding first_fault header_fault start_fault slot_fault instr_fault pieces row_of
-no_places = refl
+rows_of_faults_of_declarations = (refl, refl, refl, refl, refl)
 
 many_places : FirstIs (slice_set declared 30 1) fault.BadHeader
 unfolding first_fault header_fault start_fault slot_fault instr_fault pieces row_of
 many_places = refl
 
--- For any kind just the known rights may be declared.
-unknown_right : FirstIs (slice_set declared 34 7) fault.BadHeader
+rows_of_faults_of_declarations_2 :
+    -- For any kind just the known rights may be declared.
+    (FirstIs (slice_set declared 34 7) fault.BadHeader)
+    -- Declarations come before instructions.
+    × (FirstIs (slice_set (slice_set declared 34 7) 36 99) fault.BadHeader)
 unfolding first_fault header_fault start_fault slot_fault instr_fault pieces row_of
-unknown_right = refl
-
--- Declarations come before instructions.
-declared_first : FirstIs (slice_set (slice_set declared 34 7) 36 99) fault.BadHeader
-unfolding first_fault header_fault start_fault slot_fault instr_fault pieces row_of
-declared_first = refl
+rows_of_faults_of_declarations_2 = (refl, refl)
 
 -- ---- messages
 
@@ -111,22 +97,14 @@ messages_spelled : Spells messages (record declared_image {
 unfolding call_parts
 messages_spelled = record { same = refl; in_range = refl }
 
--- A place is a register or ff.
-no_place : FirstIs (slice_set messages 31 254) fault.BadRegister
+rows_of_messages :
+    -- A place is a register or ff.
+    (FirstIs (slice_set messages 31 254) fault.BadRegister)
+    -- No register stands behind an ff.
+    × (FirstIs (slice_set messages 31 7) fault.UnusedField)
+    -- Eight triples from register 9 on would need register 32.
+    × (FirstIs (slice_set messages 43 9) fault.BadRegister)
+    -- There is room for 8 handles at most.
+    × (FirstIs (slice_set (slice_set messages 43 0) 44 9) fault.BadRegister)
 unfolding first_fault header_fault start_fault slot_fault instr_fault pieces row_of
-no_place = refl
-
--- No register stands behind an ff.
-behind_none : FirstIs (slice_set messages 31 7) fault.UnusedField
-unfolding first_fault header_fault start_fault slot_fault instr_fault pieces row_of
-behind_none = refl
-
--- Eight triples from register 9 on would need register 32.
-no_room : FirstIs (slice_set messages 43 9) fault.BadRegister
-unfolding first_fault header_fault start_fault slot_fault instr_fault pieces row_of
-no_room = refl
-
--- There is room for 8 handles at most.
-nine_handles : FirstIs (slice_set (slice_set messages 43 0) 44 9) fault.BadRegister
-unfolding first_fault header_fault start_fault slot_fault instr_fault pieces row_of
-nine_handles = refl
+rows_of_messages = (refl, refl, refl, refl)

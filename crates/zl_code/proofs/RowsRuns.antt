@@ -82,35 +82,28 @@ in_its_table = refl
 
 -- ---- faults of boot
 
--- The library has no program 0.
-no_program : boot_fault [] origin one ≡ Some cause.Unknown
+rows_of_faults_of_boot :
+    -- The library has no program 0.
+    (boot_fault [] origin one ≡ Some cause.Unknown)
+    -- There is no job 2.
+    × (boot_fault library origin (statement.Process 2 0 0 []) ≡ Some cause.Unknown)
 unfolding computing boot_fault
-no_program = refl
-
--- There is no job 2.
-no_job : boot_fault library origin (statement.Process 2 0 0 []) ≡ Some cause.Unknown
-unfolding computing boot_fault
-no_job = refl
+rows_of_faults_of_boot = (refl, refl)
 
 -- Koid 2 is a process, and no job.
 process_is_no_job : boot_fault library (boot_effect library origin one []) (statement.Process 2 0 0 []) ≡ Some cause.Unknown
 unfolding computing boot_fault boot_effect
 process_is_no_job = refl
 
--- Koid 1,024 may still be given.
-last_koid : boot_fault library (record origin { next_koid = 1024 }) one ≡ None
+rows_of_faults_of_boot_2 :
+    -- Koid 1,024 may still be given.
+    (boot_fault library (record origin { next_koid = 1024 }) one ≡ None)
+    -- Koid 1,025 may not.
+    × (boot_fault library (record origin { next_koid = 1025 }) one ≡ Some cause.Limit)
+    -- What is unknown comes before a limit.
+    × (boot_fault [] (record origin { next_koid = 1025 }) one ≡ Some cause.Unknown)
 unfolding computing boot_fault
-last_koid = refl
-
--- Koid 1,025 may not.
-no_koid : boot_fault library (record origin { next_koid = 1025 }) one ≡ Some cause.Limit
-unfolding computing boot_fault
-no_koid = refl
-
--- What is unknown comes before a limit.
-unknown_first : boot_fault [] (record origin { next_koid = 1025 }) one ≡ Some cause.Unknown
-unfolding computing boot_fault
-unknown_first = refl
+rows_of_faults_of_boot_2 = (refl, refl, refl)
 
 -- The second statement names program 1 of a library of one.
 second_is_unknown : FirstFault library (one ∷ statement.Process 1 1 0 [] ∷ []) 100 1 cause.Unknown

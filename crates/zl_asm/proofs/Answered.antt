@@ -1,5 +1,6 @@
 -- What an answer says of its value.
-use Rattle.zl_code.proofs.Common.{◌≡◌, ◌⊎◌, inr, Option, Result, Ok, Err, Some, None, refl, option_map}
+use Rattle.zl_asm.proofs.Common.{◌≡◌, ◌⊎◌, inr, Option, Result, Ok, Err, Some, None, refl}
+use Rattle.zl_code.proofs.Common.{option_map}
 use Rattle.std.specs.Result.{IsErr, IfOk, IfErr, result_ok}
 
 -- a fault has no value

@@ -1,12 +1,8 @@
 -- One more label or instruction in the map and the vector of a draft.
-use Rattle.zl_code.proofs.Common.{◌≡◌, ℕ, true, false, List, [], ◌∷◌, ◌++◌, length, Option, Some, None, is_some, refl, sym, ap, subst, ◌∙◌, true≢false, map-append, option_map}
+use Rattle.zl_asm.proofs.Common.{◌≡◌, ℕ, true, false, List, [], ◌∷◌, ◌++◌, length, Option, Some, None, is_some, refl, sym, ap, subst, ◌∙◌, true≢false, map-append, is_none, Label, Code, Source, position_of, source_value, Held, Holds, labels_shown, sources_shown}
+use Rattle.zl_code.proofs.Common.{option_map}
 use denote.Ref.{Bor}
-use Rattle.std.specs.Option.{is_none}
 use Rattle.zl_asm.specs.declared.draft.SourceLine.{SourceLine}
-use Rattle.zl_asm.specs.Lines.{Label, Code, Source}
-use Rattle.zl_asm.specs.Listing.{position_of}
-use Rattle.zl_asm.specs.Values.{source_value}
-use Rattle.zl_asm.specs.Draft.{Held, Holds, labels_shown, sources_shown}
 use Rattle.zl_asm.proofs.DraftHolds.{label_held, code_held}
 
 pub label_added : (d : Held) (es new : List (Bor (List ℕ) × ℕ)) (name : Bor (List ℕ)) (n : ℕ) → new ≡ es ++ (name, n) ∷ [] → d.labels ≡ labels_shown es → n ≡ length d.sources → position_of d.labels name.now ≡ None

@@ -1,19 +1,13 @@
 -- From what a draft holds to the fields of an image.
-use Rattle.zl_code.proofs.Common.{◌≡◌, ℕ, ◌+◌, ◌<◌, ◌≤◌, Bool, true, false, ◌&&◌, not, cond, leb, List, [], ◌∷◌, ◌++◌, length, map, take, drop, get_or, append_assoc, length-append, Option, Some, None, is_some, refl, sym, ap, ◌∙◌, arith, option_map, flat_map, list_all, Image, needs_named, slice_index, instr_bytes, instr_fault, is_in_range, number_at, bytes_of, le-leb, and_from, length-map, map-append, take_more, take_all, at_drop_more, list_all-append, get_or-map}
+use Rattle.zl_asm.proofs.Common.{◌≡◌, ℕ, ◌+◌, ◌<◌, ◌≤◌, Bool, true, false, ◌&&◌, not, cond, leb, List, [], ◌∷◌, ◌++◌, length, map, take, drop, get_or, append_assoc, Option, Some, None, is_some, refl, sym, ap, ◌∙◌, arith, flat_map, list_all, Image, needs_named, slice_index, instr_bytes, instr_fault, is_in_range, number_at, bytes_of, le-leb, and_from, length-map, map-append, take_more, take_all, at_drop_more, list_all-append, get_or-map, registers_at, ranges, Line, Source, all_of, if_fits, Listing, mark_in, memory_in, budget_in, need_in, start_in, slots_in, source_in, given, labels_from, resolved, with_target, is_listing, listing_from, fields_of, source_value, Held, labels_shown, sources_shown, Pushes, Gives, GivesNone}
+use Rattle.zl_code.proofs.Common.{length-append, option_map}
 use denote.Ref.{Bor}
 use Rattle.std.proofs.Common.{take-add}
 use Rattle.std.specs.Map.{lookup}
-use Rattle.zl_code.specs.Spells.{registers_at}
 use Rattle.zl_code.proofs.ImageBytes.{IsBytes, bytes_of-number_at}
 use Rattle.std.proofs.lemmas.List.{take-append-drop}
-use Rattle.zl_code.proofs.ImageRanges.{ranges}
 use Rattle.zl_asm.specs.declared.draft.SourceLine.{SourceLine}
 use Rattle.zl_asm.specs.declared.line.Source.{Source as ReadSource}
-use Rattle.zl_asm.specs.Lines.{Line, Source, all_of, if_fits}
-use Rattle.zl_asm.specs.Listing.{Listing, mark_in, memory_in, budget_in, need_in, start_in, slots_in, source_in, given, labels_from, resolved, with_target, is_listing, listing_from}
-use Rattle.zl_asm.specs.Denotes.{fields_of}
-use Rattle.zl_asm.specs.Values.{source_value}
-use Rattle.zl_asm.specs.Draft.{Held, labels_shown, sources_shown, Pushes, Gives, GivesNone}
 use Rattle.zl_asm.proofs.Labels.{same, lookup_is}
 use Rattle.zl_asm.proofs.DraftHolds.{given_is}
 use Rattle.zl_asm.proofs.ListingRefused.{all_of-none, all_of-more, all_of-fault, none_by_fields, and_false-3, not_fine}

@@ -1,5 +1,5 @@
 -- What a draft holds after one line more.
-use Rattle.zl_code.proofs.Common.{append-nil, ◌≡◌, ℕ, ◌+◌, Bool, true, false, ◌&&◌, ◌||◌, not, cond, List, [], ◌∷◌, ◌++◌, length, filter, ◌==◌, Some, None, refl, sym, ap, subst, ◌∙◌, true≢false, arith, flat_map, list_any, list_all, flat_map-append, eqb-true, list_all-append, condition_number, Image, needs_named, is_among}
+use Rattle.zl_asm.proofs.Common.{append-nil, ◌≡◌, ℕ, ◌+◌, Bool, true, false, ◌&&◌, ◌||◌, not, cond, List, [], ◌∷◌, ◌++◌, length, filter, ◌==◌, Some, None, refl, sym, ap, subst, ◌∙◌, true≢false, arith, flat_map, list_any, list_all, flat_map-append, eqb-true, list_all-append, condition_number, Image, needs_named, is_among, Line, Blank, Declares, Label, Code, Source, mark_in, memory_in, budget_in, need_in, start_in, slots_in, source_in, given, declares, is_body, directives_first, labels_from, position_of, names_once, IsGiven, Held, IsHeldOf, Holds}
 use Rattle.std.proofs.lemmas.List.Folds.{list_any-append}
 use Rattle.zl_rights.specs.declared.policy.Condition.{Condition}
 use Rattle.zl_rights.specs.declared.policy.Condition.TheVariants as condition
@@ -8,9 +8,6 @@ use Rattle.zl_code.specs.declared.image.Start.{Start}
 use Rattle.zl_code.specs.declared.image.SlotArray.{SlotArray}
 use Rattle.zl_asm.specs.declared.directive.Directive.{Directive}
 use Rattle.zl_asm.specs.declared.directive.Directive.TheVariants as directive
-use Rattle.zl_asm.specs.Lines.{Line, Blank, Declares, Label, Code, Source}
-use Rattle.zl_asm.specs.Listing.{mark_in, memory_in, budget_in, need_in, start_in, slots_in, source_in, given, declares, is_body, directives_first, labels_from, position_of, names_once}
-use Rattle.zl_asm.specs.Draft.{IsGiven, Held, IsHeldOf, Holds}
 use Rattle.zl_asm.proofs.Labels.{labels_from-append, once-more}
 
 -- ---- what one line more gives

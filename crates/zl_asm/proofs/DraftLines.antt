@@ -1,14 +1,12 @@
 -- What a line says beside what a draft holds.
-use Rattle.zl_code.proofs.Common.{◌≡◌, ℕ, Bool, true, false, ◌&&◌, cond, List, [], ◌∷◌, Option, Some, None, Result, Ok, Err, refl, sym, ap, subst, ◌∙◌, true≢false, codes, OnOk, option_map, starts_with, rights_of, is_start_in_range, is_slot_in_range}
-use Rattle.std.specs.Prelude.{nat_eq}
+use Rattle.zl_asm.proofs.Common.{◌≡◌, ℕ, Bool, true, false, ◌&&◌, cond, List, [], ◌∷◌, Option, Some, None, Result, Ok, Err, refl, sym, ap, subst, ◌∙◌, true≢false, codes, OnOk, starts_with, rights_of, is_start_in_range, is_slot_in_range, nat_eq, is_ascii, words_of, is_word, Line, Declares, Code, Source, if_fits, number_within, need_of, kind_of, start_with, slot_array_with, directive_of, instruction_of, unknown_of, label_of, alone, point_line, line_of, Held, Holds, Reads, line_said, is_directive_in_range}
+use Rattle.zl_code.proofs.Common.{option_map}
 use Rattle.zl_rights.specs.declared.kind.Kind.{Kind}
 use Rattle.zl_code.specs.declared.image.Start.{Start}
 use Rattle.zl_code.specs.declared.image.SlotArray.{SlotArray}
 use Rattle.zl_asm.specs.declared.directive.Directive.{Directive}
 use Rattle.zl_asm.specs.declared.directive.Directive.TheVariants as directive
-use Rattle.zl_asm.specs.Words.{is_ascii, words_of, is_word, number_of}
-use Rattle.zl_asm.specs.Lines.{Line, Declares, Code, Source, if_fits, number_within, need_of, kind_of, start_with, slot_array_with, directive_of, instruction_of, unknown_of, label_of, alone, point_line, line_of}
-use Rattle.zl_asm.specs.Draft.{Held, Holds, Reads, line_said, is_directive_in_range}
+use Rattle.zl_asm.specs.Words.{number_of}
 
 -- ---- reading on
 

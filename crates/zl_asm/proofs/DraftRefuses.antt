@@ -1,14 +1,10 @@
 -- Which lines a draft refuses.
-use Rattle.zl_code.proofs.Common.{◌≡◌, ℕ, ◌≤◌, Bool, true, false, List, [], ◌∷◌, length, Option, Some, None, is_some, Result, Ok, Err, refl, sym, ap, subst, ◌∙◌, true≢false, instr_fault}
-use Rattle.std.specs.Option.{is_none}
+use Rattle.zl_asm.proofs.Common.{◌≡◌, ℕ, ◌≤◌, Bool, true, false, List, [], ◌∷◌, length, Option, Some, None, is_some, Result, Ok, Err, refl, sym, ap, subst, ◌∙◌, true≢false, instr_fault, is_none, Declares, Label, Code, Source, position_of, Held, Refuses}
 use Rattle.std.specs.Result.{is_err, result_err}
 use Rattle.zl_code.specs.declared.image.Start.{Start}
 use Rattle.zl_code.specs.declared.image.SlotArray.{SlotArray}
 use Rattle.zl_asm.specs.declared.directive.Directive.{Directive}
 use Rattle.zl_asm.specs.declared.directive.Directive.TheVariants as directive
-use Rattle.zl_asm.specs.Lines.{Declares, Label, Code, Source}
-use Rattle.zl_asm.specs.Listing.{position_of}
-use Rattle.zl_asm.specs.Draft.{Held, Refuses}
 use Rattle.zl_asm.proofs.DraftHolds.{one_given, given_is}
 use Rattle.zl_asm.proofs.ListingRefused.{refused_behind, refused_mark, refused_memory, refused_budget, refused_start, refused_slots, refused_label, refused_count, refused_fault}
 

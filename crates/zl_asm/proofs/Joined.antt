@@ -1,8 +1,6 @@
 -- Words with a text between any two, one word after the other.
-use Rattle.zl_code.proofs.Common.{◌≡◌, ℕ, ◌+◌, ◌<◌, Bool, true, false, not, eqb, cond, inl, inr, List, [], ◌∷◌, ◌++◌, codes, length, map, filter, take, get_or, refl, sym, ap, ◌∙◌, arith, append_assoc, append-nil, flat_map, flat_map-append, map-append, take_more, length-map, length-take-le, nat_tests, cases_Bool}
+use Rattle.zl_asm.proofs.Common.{◌≡◌, ℕ, ◌+◌, ◌<◌, Bool, true, false, not, eqb, cond, inl, inr, List, [], ◌∷◌, ◌++◌, codes, length, map, filter, take, get_or, refl, sym, ap, ◌∙◌, arith, append_assoc, append-nil, flat_map, flat_map-append, map-append, take_more, length-map, length-take-le, nat_tests, cases_Bool, joined, register_text, behind}
 use Rattle.std.proofs.lemmas.List.Elements.{filter_more}
-use Rattle.zl_asm.specs.Canonical.{joined, register_text}
-use Rattle.zl_asm.specs.Pieces.{behind}
 
 -- each word with the text before it
 abbrev each_behind : List ℕ → List (List ℕ) → List ℕ

@@ -1,3 +1,4 @@
+pub mod Common
 mod RowsText
 pub mod ListingBytes
 mod Answered

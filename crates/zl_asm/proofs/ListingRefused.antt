@@ -1,10 +1,8 @@
 -- Lines that give no fields of an image, whatever lines follow.
-use Rattle.zl_code.proofs.Common.{append-nil, ◌≡◌, ℕ, ◌+◌, ◌≤◌, ◌<◌, Bool, true, false, ◌&&◌, ◌||◌, not, cond, leb, List, [], ◌∷◌, ◌++◌, length, Option, Some, None, is_some, refl, sym, ap, ◌∙◌, true≢false, arith, length-append, flat_map, list_any, list_all, flat_map-append, list_all-append, needs_named, instr_fault}
-use Rattle.std.proofs.lemmas.Bool.{lt-leb}
+use Rattle.zl_asm.proofs.Common.{append-nil, ◌≡◌, ℕ, ◌+◌, ◌≤◌, ◌<◌, Bool, true, false, ◌&&◌, ◌||◌, not, cond, leb, List, [], ◌∷◌, ◌++◌, length, Option, Some, None, is_some, refl, sym, ap, ◌∙◌, true≢false, arith, flat_map, list_any, list_all, flat_map-append, list_all-append, needs_named, instr_fault, lt-leb, Line, Blank, Declares, Label, Code, Source, all_of, onto_all, if_fits, Listing, mark_in, memory_in, budget_in, need_in, start_in, slots_in, source_in, given, declares, is_body, directives_first, labels_from, position_of, names_once, resolved, is_listing, listing_with, listing_from}
+use Rattle.zl_code.proofs.Common.{length-append}
 use Rattle.zl_asm.specs.declared.directive.Directive.{Directive}
 use Rattle.zl_asm.specs.declared.directive.Directive.TheVariants as directive
-use Rattle.zl_asm.specs.Lines.{Line, Blank, Declares, Label, Code, Source, all_of, onto_all, if_fits}
-use Rattle.zl_asm.specs.Listing.{Listing, mark_in, memory_in, budget_in, need_in, start_in, slots_in, source_in, given, declares, is_body, directives_first, labels_from, position_of, names_once, resolved, is_listing, listing_with, listing_from}
 use Rattle.zl_asm.proofs.Labels.{labels_from-append, not-once}
 
 -- ---- a value for each

@@ -1,10 +1,7 @@
 -- The fields that a text gives are those of one image at most.
-use Rattle.zl_code.proofs.Common.{◌≡◌, Bool, true, List, [], ◌∷◌, map, Option, Some, None, refl, sym, ap, ◌∙◌, list_all, and_parts, Image, instr_bytes, is_instr_in_range}
+use Rattle.zl_asm.proofs.Common.{◌≡◌, Bool, true, List, [], ◌∷◌, map, Option, Some, None, refl, sym, ap, ◌∙◌, list_all, and_parts, Image, instr_bytes, is_instr_in_range, ranges, Listing, fields_of, NoTextDenotesTwo}
 use Rattle.zl_code.specs.declared.instr.Instr.{Instr}
-use Rattle.zl_code.proofs.ImageRanges.{ranges}
 use Rattle.zl_code.proofs.ImageTable.{instr_fits, read_instr}
-use Rattle.zl_asm.specs.Listing.{Listing}
-use Rattle.zl_asm.specs.Denotes.{fields_of, NoTextDenotesTwo}
 
 -- instructions in range are read again from their bytes
 code_again : (raw : Bool) (code : List Instr) → list_all (is_instr_in_range raw) code ≡ true → map read_instr (map instr_bytes code) ≡ code

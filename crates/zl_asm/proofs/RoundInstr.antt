@@ -1,16 +1,10 @@
 -- The line of an instruction is read as its bytes.
-use Rattle.zl_code.proofs.Common.{◌≡◌, ℕ, zero, suc, ◌+◌, ◌^◌, ◌<◌, Bool, true, false, ◌==◌, List, [], ◌∷◌, ◌++◌, length, take, drop, codes, Option, Some, None, refl, ap, ◌∙◌, arith, slice_index, list_all, starts_with, and_parts, length-take, length-drop, get_or-drop, Row, layout_of, row_of, row_named, reading_of, number_of, row_bytes, instr_fault}
+use Rattle.zl_asm.proofs.Common.{◌≡◌, ℕ, zero, suc, ◌+◌, ◌^◌, ◌<◌, Bool, true, false, ◌==◌, List, [], ◌∷◌, ◌++◌, length, take, drop, codes, Option, Some, None, refl, ap, ◌∙◌, arith, slice_index, list_all, starts_with, and_parts, length-take, length-drop, get_or-drop, Row, layout_of, row_of, row_named, reading_of, row_bytes, instr_fault, eq-eqb, layout, is_ending_clear, is_word, words_of, Code, Source, line_of, source_of, unknown_of, resolved, joined, operand_texts, row_text, instr_text, hex_text, aims}
+use Rattle.zl_code.proofs.Common.{number_of}
 use Rattle.std.specs.Prelude.{option_map}
 use Rattle.std.proofs.Math.Nat.{pow-suc}
-use Rattle.std.proofs.lemmas.Bool.{eq-eqb}
-use Rattle.zl_code.specs.Instructions.{layout}
-use Rattle.zl_code.specs.Spells.{is_ending_clear}
 use Rattle.zl_code.proofs.ImageBytes.{IsBytes, list_all-from_IsBytes}
 use Rattle.zl_code.proofs.InstrFacts.{no_fault-row, row_bytes-again}
-use Rattle.zl_asm.specs.Words.{is_word, words_of}
-use Rattle.zl_asm.specs.Lines.{Code, Source, line_of, source_of, unknown_of}
-use Rattle.zl_asm.specs.Listing.{resolved}
-use Rattle.zl_asm.specs.Canonical.{joined, operand_texts, row_text, instr_text, hex_text, aims}
 use Rattle.zl_asm.proofs.RoundWords.{is_plain_word, with_commas, words_of-operands, operands_of-commas, words_of-space, words_of-alone}
 use Rattle.zl_asm.proofs.RoundHex.{hex_again, plain_word-hex}
 use Rattle.zl_asm.proofs.RoundRows.{row_fits}

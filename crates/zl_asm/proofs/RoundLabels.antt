@@ -1,10 +1,6 @@
 -- Labels stand once for the number of their instruction.
-use Rattle.zl_code.proofs.Common.{◌≡◌, ◌≢◌, ℕ, suc, ◌+◌, ◌^◌, ◌<◌, ◌≤◌, Bool, true, false, ◌==◌, List, [], ◌∷◌, ◌++◌, length, map, Some, None, refl, ap, ◌∙◌, arith, inl, inr, if◌then◌else◌, slice_index, list_any, and_from, cases_Bool, or_left, or_right, ltb-true, row_of, reading_of}
+use Rattle.zl_asm.proofs.Common.{◌≡◌, ◌≢◌, ℕ, suc, ◌+◌, ◌^◌, ◌<◌, ◌≤◌, Bool, true, false, ◌==◌, List, [], ◌∷◌, ◌++◌, length, map, Some, None, refl, ap, ◌∙◌, arith, inl, inr, if◌then◌else◌, slice_index, list_any, and_from, cases_Bool, or_left, or_right, ltb-true, row_of, reading_of, cases_eq, eq-eqb, Line, Blank, Label, Code, all_of, onto_all, labels_from, position_of, names_once, resolved, label_text, is_target, aims, aims_at}
 use Rattle.std.specs.Cmp.Lexicographic.{pointwise, bytes_decides}
-use Rattle.std.proofs.lemmas.Bool.{cases_eq, eq-eqb}
-use Rattle.zl_asm.specs.Lines.{Line, Blank, Label, Code, all_of, onto_all}
-use Rattle.zl_asm.specs.Listing.{labels_from, position_of, names_once, resolved}
-use Rattle.zl_asm.specs.Canonical.{label_text, is_target, aims, aims_at}
 use Rattle.zl_asm.proofs.RoundNumbers.{label_text-injective}
 use Rattle.zl_asm.proofs.RoundSource.{IsPlaced}
 use Rattle.zl_asm.proofs.RoundInstr.{IsInstr, source_said, instr_resolved}

@@ -1,10 +1,6 @@
 -- Lines of printed bytes, each ended by a line feed, are found again in the text.
-use Rattle.zl_code.proofs.Common.{◌≡◌, ℕ, ◌<◌, Bool, true, false, ◌&&◌, ◌==◌, not, List, [], ◌∷◌, ◌++◌, codes, Option, Some, None, refl, ap, ◌∙◌, nat_lt, arith, append_assoc, list_all, flat_map, and_parts, and_from, ltb-true, lt-ltb, ne_eqb, list_all-append}
+use Rattle.zl_asm.proofs.Common.{◌≡◌, ℕ, ◌<◌, Bool, true, false, ◌&&◌, ◌==◌, not, List, [], ◌∷◌, ◌++◌, codes, Option, Some, None, refl, ap, ◌∙◌, nat_lt, arith, append_assoc, list_all, flat_map, and_parts, and_from, ltb-true, lt-ltb, ne_eqb, list_all-append, lines_of, is_ascii, words_from, words_of, Line, Blank, line_of, all_of, onto_all, Listing, listing_from, listing_of, joined}
 use Rattle.std.proofs.lemmas.List.Splits.{slice_split-cons_yes, slice_split-cons_no}
-use Rattle.zl_asm.specs.Words.{lines_of, is_ascii, words_from, words_of}
-use Rattle.zl_asm.specs.Lines.{Line, Blank, line_of, all_of, onto_all}
-use Rattle.zl_asm.specs.Listing.{Listing, listing_from, listing_of}
-use Rattle.zl_asm.specs.Canonical.{joined}
 use Rattle.zl_asm.proofs.RoundWords.{is_plain, is_plain_word, plain_all}
 use Rattle.zl_asm.proofs.RoundNumbers.{all_of_kind}
 

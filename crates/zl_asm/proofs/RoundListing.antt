@@ -1,9 +1,6 @@
 -- The fields that lines give, where directives stand before labels and instructions.
-use Rattle.zl_code.proofs.Common.{◌≡◌, ℕ, suc, Bool, true, false, ◌&&◌, not, List, [], ◌∷◌, ◌++◌, length, map, Some, None, refl, ap, ◌∙◌, if◌then◌else◌, list_all, flat_map, needs_named}
+use Rattle.zl_asm.proofs.Common.{◌≡◌, ℕ, suc, Bool, true, false, ◌&&◌, not, List, [], ◌∷◌, ◌++◌, length, map, Some, None, refl, ap, ◌∙◌, if◌then◌else◌, list_all, flat_map, needs_named, Line, Blank, Declares, Label, Code, Source, all_of, if_fits, Listing, mark_in, memory_in, budget_in, need_in, start_in, slots_in, source_in, given, declares, directives_first, labels_from, names_once, resolved, is_listing, listing_with, listing_from, is_target, label_text}
 use Rattle.zl_asm.specs.declared.directive.Directive.{Directive}
-use Rattle.zl_asm.specs.Lines.{Line, Blank, Declares, Label, Code, Source, all_of, if_fits}
-use Rattle.zl_asm.specs.Listing.{Listing, mark_in, memory_in, budget_in, need_in, start_in, slots_in, source_in, given, declares, directives_first, labels_from, names_once, resolved, is_listing, listing_with, listing_from}
-use Rattle.zl_asm.specs.Canonical.{is_target, label_text}
 use Rattle.zl_asm.proofs.RoundInstr.{source_said}
 use Rattle.zl_asm.proofs.RoundLabels.{code_said_from}
 

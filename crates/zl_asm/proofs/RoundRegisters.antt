@@ -1,11 +1,7 @@
 -- Registers, and the handles behind them, are read as they are written.
-use Rattle.zl_code.proofs.Common.{◌≡◌, ℕ, zero, suc, ◌-◌, ◌<◌, ◌≤◌, Bool, true, false, ◌||◌, ◌==◌, not, List, [], ◌∷◌, ◌++◌, length, map, take, replicate, filter, Option, Some, None, refl, sym, ap, ◌∙◌, nat_lt, nat_le, arith, if◌then◌else◌, list_all, and_parts, and_from, eqb-true, ltb-true, le-leb, are_registers}
+use Rattle.zl_asm.proofs.Common.{◌≡◌, ℕ, zero, suc, ◌-◌, ◌<◌, ◌≤◌, Bool, true, false, ◌||◌, ◌==◌, not, List, [], ◌∷◌, ◌++◌, length, map, take, replicate, filter, Option, Some, None, refl, sym, ap, ◌∙◌, nat_lt, nat_le, arith, if◌then◌else◌, list_all, and_parts, and_from, eqb-true, ltb-true, le-leb, are_registers, are_places, is_packed, register_of, all_of, places_of, register_text}
 use Rattle.std.specs.Fmt.{digits}
-use Rattle.zl_code.specs.Spells.{are_places, is_packed}
 use Rattle.zl_code.proofs.Below.{all_below, below}
-use Rattle.zl_asm.specs.Words.{register_of}
-use Rattle.zl_asm.specs.Lines.{all_of, places_of}
-use Rattle.zl_asm.specs.Canonical.{register_text}
 use Rattle.zl_asm.proofs.RoundWords.{is_plain_word}
 
 -- the value is there, and is n

@@ -1,8 +1,6 @@
 -- What holds of each row of the table of instructions.
-use Rattle.zl_code.proofs.Common.{◌≡◌, ℕ, ◌≤◌, Bool, true, false, ◌&&◌, ◌||◌, ◌==◌, not, List, [], ◌∷◌, length, codes, Some, refl, subst, nat_lt, nat_le, if◌then◌else◌, list_all, starts_with, and_parts, eqb-true, leb-true, Row, row_of, row_named}
-use Rattle.std.proofs.lemmas.Bool.{not-true}
+use Rattle.zl_asm.proofs.Common.{◌≡◌, ℕ, ◌≤◌, Bool, true, false, ◌&&◌, ◌||◌, ◌==◌, not, List, [], ◌∷◌, length, codes, Some, refl, subst, nat_lt, nat_le, if◌then◌else◌, list_all, starts_with, and_parts, eqb-true, leb-true, Row, row_of, row_named, not-true, rows, row_among}
 use Rattle.zl_code.specs.declared.layout.Ending.TheVariants as ending
-use Rattle.zl_code.specs.Instructions.{rows, row_among}
 use Rattle.zl_code.proofs.InstrTable.{row_named-of}
 use Rattle.zl_asm.proofs.RoundWords.{is_plain_word}
 

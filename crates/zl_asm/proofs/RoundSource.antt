@@ -1,14 +1,8 @@
 -- The operands of an instruction as they are written give its bytes again.
-use Rattle.zl_code.proofs.Common.{◌≡◌, ℕ, zero, suc, ◌+◌, ◌^◌, ◌<◌, ◌≤◌, Bool, true, false, ◌||◌, ◌==◌, List, ◌∷◌, ◌++◌, length, map, take, drop, replicate, filter, decimal, Some, None, refl, sym, ap, ◌∙◌, nat_lt, arith, append_assoc, if◌then◌else◌, list_all, and_from, length-map, length-take, take_at, drop_at, length-take-le, list_all-append, Row, Reading, seven, bytes_of, row_bytes, are_registers}
-use Rattle.std.proofs.lemmas.Bool.{eq-eqb}
-use Rattle.std.proofs.lemmas.List.{length-append, length-replicate}
+use Rattle.zl_asm.proofs.Common.{◌≡◌, ℕ, zero, suc, ◌+◌, ◌^◌, ◌<◌, ◌≤◌, Bool, true, false, ◌||◌, ◌==◌, List, ◌∷◌, ◌++◌, length, map, take, drop, replicate, filter, decimal, Some, None, refl, sym, ap, ◌∙◌, nat_lt, arith, append_assoc, if◌then◌else◌, list_all, and_from, length-map, length-take, take_at, drop_at, length-take-le, list_all-append, Row, Reading, seven, bytes_of, row_bytes, are_registers, eq-eqb, length-replicate, layout, names_registers, is_ending_clear, Source, Tail, tail, tail_to, tail_of, registers_of, source_of, source_with, with_target, resolved, position_of, register_text, label_text, tail_texts, operand_texts}
+use Rattle.std.proofs.lemmas.List.{length-append}
 use Rattle.zl_code.specs.declared.layout.Ending.{Ending}
 use Rattle.zl_code.specs.declared.layout.Ending.TheVariants as ending
-use Rattle.zl_code.specs.Instructions.{layout}
-use Rattle.zl_code.specs.Spells.{names_registers, is_ending_clear}
-use Rattle.zl_asm.specs.Lines.{Source, Tail, tail, tail_to, tail_of, registers_of, source_of, source_with}
-use Rattle.zl_asm.specs.Listing.{with_target, resolved, position_of}
-use Rattle.zl_asm.specs.Canonical.{register_text, label_text, tail_texts, operand_texts}
 use Rattle.zl_asm.proofs.RoundWords.{is_plain_word}
 use Rattle.zl_asm.proofs.RoundNumbers.{number_of-decimal, no_name-decimal, is_name-label, plain-decimal, plain-label}
 use Rattle.zl_asm.proofs.RoundRegisters.{is_taken, registers_again, plain-registers, are_registers-take, are_registers-taken, places_of-taken}

@@ -1,9 +1,5 @@
 -- The words of a line that was written with spaces and commas between plain words.
-use Rattle.zl_code.proofs.Common.{◌≡◌, ℕ, Bool, true, false, ◌&&◌, ◌==◌, not, List, [], ◌∷◌, ◌++◌, codes, Some, refl, sym, ap, ◌∙◌, nat_lt, append_assoc, append-nil, list_all, and_parts}
-use Rattle.std.proofs.lemmas.Bool.{not-true}
-use Rattle.zl_asm.specs.Words.{is_word, comma, word_before, words_from, words_of}
-use Rattle.zl_asm.specs.Lines.{operands_after, operands_of}
-use Rattle.zl_asm.specs.Canonical.{joined}
+use Rattle.zl_asm.proofs.Common.{◌≡◌, ℕ, Bool, true, false, ◌&&◌, ◌==◌, not, List, [], ◌∷◌, ◌++◌, codes, Some, refl, sym, ap, ◌∙◌, nat_lt, append_assoc, append-nil, list_all, and_parts, not-true, is_word, comma, word_before, words_from, words_of, operands_after, operands_of, joined}
 
 -- a printed byte that is no space, comma or semicolon
 abbrev pub is_plain : ℕ → Bool

@@ -1,15 +1,11 @@
 -- Worked examples of the assembler's text, by computation.
-use Rattle.zl_code.proofs.Common.{◌≡◌, ℕ, List, [], ◌∷◌, refl, codes, true, false, Some, None, row_of, row_named, instr_fault, local_parts, call_parts, rights_of}
+use Rattle.zl_asm.proofs.Common.{◌≡◌, ℕ, List, [], ◌∷◌, refl, codes, true, false, Some, None, row_of, row_named, instr_fault, local_parts, call_parts, rights_of, is_word, words_from, digit_of, register_of, is_name, hex_bytes, kind_of, directive_of, operands_after, operands_of, all_of, tail_of, source_of, unknown_of, label_of, line_of, directives_first, labels_from, names_once, listing_from, listing_of, Denotes, joined, tail_texts, code_lines_from, text_of}
 use Rattle.std.specs.Fmt.{digits}
 use Rattle.zl_rights.specs.declared.kind.Kind.TheVariants as kind
 use Rattle.zl_rights.specs.declared.policy.Condition.TheVariants as condition
 use Rattle.zl_rights.specs.Names.{kind_named, condition_named}
 use Rattle.zl_code.proofs.Stored.{image}
-use Rattle.zl_asm.specs.Words.{is_word, words_from, digit_of, number_of, register_of, is_name, hex_bytes}
-use Rattle.zl_asm.specs.Lines.{kind_of, directive_of, operands_after, operands_of, all_of, tail_of, source_of, unknown_of, label_of, line_of}
-use Rattle.zl_asm.specs.Listing.{directives_first, labels_from, names_once, listing_from, listing_of}
-use Rattle.zl_asm.specs.Denotes.{Denotes}
-use Rattle.zl_asm.specs.Canonical.{joined, tail_texts, code_lines_from, text_of}
+use Rattle.zl_asm.specs.Words.{number_of}
 
 -- all that the reading of a text unfolds
 unfoldable pub reading : Unit {0}
@@ -54,18 +50,18 @@ a_loop_says = refl
 
 -- The lists of chan_write and the room of chan_read_etc.
 lists_say : listing_of (codes "chan_write r2, r3, r0, r0, r6, r7\nchan_read_etc r2, r0, r10, r10, r11, r12, r13, 1\nchan_write r2, r3, r0, r0") ≡ Some (record {
-  raw = false;
-  memory = 0;
-  budget = 1;
-  needs = [];
-  starts = [];
-  slots = [];
-  code =
-      (68 ∷ 2 ∷ 3 ∷ 0 ∷ 0 ∷ 0 ∷ 0 ∷ 0 ∷ 6 ∷ 7 ∷ 255 ∷ 255 ∷ 255 ∷ 255 ∷ 255 ∷ 255 ∷ [])
-      ∷ (69 ∷ 2 ∷ 0 ∷ 10 ∷ 10 ∷ 11 ∷ 12 ∷ 13 ∷ 1 ∷ 0 ∷ 0 ∷ 0 ∷ 0 ∷ 0 ∷ 0 ∷ 0 ∷ [])
-      ∷ (68 ∷ 2 ∷ 3 ∷ 0 ∷ 0 ∷ 0 ∷ 0 ∷ 0 ∷ 255 ∷ 255 ∷ 255 ∷ 255 ∷ 255 ∷ 255 ∷ 255 ∷ 255 ∷ [])
-      ∷ [];
-})
+    raw = false;
+    memory = 0;
+    budget = 1;
+    needs = [];
+    starts = [];
+    slots = [];
+    code =
+    (68 ∷ 2 ∷ 3 ∷ 0 ∷ 0 ∷ 0 ∷ 0 ∷ 0 ∷ 6 ∷ 7 ∷ 255 ∷ 255 ∷ 255 ∷ 255 ∷ 255 ∷ 255 ∷ [])
+    ∷ (69 ∷ 2 ∷ 0 ∷ 10 ∷ 10 ∷ 11 ∷ 12 ∷ 13 ∷ 1 ∷ 0 ∷ 0 ∷ 0 ∷ 0 ∷ 0 ∷ 0 ∷ 0 ∷ [])
+    ∷ (68 ∷ 2 ∷ 3 ∷ 0 ∷ 0 ∷ 0 ∷ 0 ∷ 0 ∷ 255 ∷ 255 ∷ 255 ∷ 255 ∷ 255 ∷ 255 ∷ 255 ∷ 255 ∷ [])
+    ∷ [];
+    })
 unfolding reading
 lists_say = refl
 

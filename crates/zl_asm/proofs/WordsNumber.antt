@@ -1,11 +1,9 @@
 -- When digits spell a number.
-use Rattle.zl_code.proofs.Common.{◌≡◌, ℕ, ◌+◌, ◌*◌, ◌^◌, ◌<◌, ◌≤◌, Bool, true, false, ◌&&◌, not, eqb, ltb, cond, List, [], ◌∷◌, length, take, drop, get_or, fold, Option, Some, None, is_some, refl, sym, ap, ◌∙◌, subst, arith, take-append-drop, nat_lt, list_all, and_from, lt-ltb, ltb-true, nat_tests}
-use Rattle.std.specs.Option.{unwrap_or}
+use Rattle.zl_asm.proofs.Common.{◌≡◌, ℕ, ◌+◌, ◌*◌, ◌^◌, ◌<◌, ◌≤◌, Bool, true, false, ◌&&◌, not, eqb, ltb, cond, List, [], ◌∷◌, length, take, drop, get_or, fold, Option, Some, None, is_some, refl, sym, ap, ◌∙◌, subst, arith, nat_lt, list_all, and_from, lt-ltb, ltb-true, nat_tests, unwrap_or, and_left, and_right, le-ltb, ltb-false, digit_of, digit_value, is_digit, value_of, is_number, number_in}
+use Rattle.zl_code.proofs.Common.{take-append-drop}
 use Rattle.std.proofs.Math.Nat.{le-mul_of_pos_right}
-use Rattle.std.proofs.lemmas.Bool.{and_left, and_right, le-ltb, ltb-false}
 use Rattle.std.proofs.lemmas.List.Folds.{list_all_at, list_all_more}
 use Rattle.std.proofs.lemmas.List.Sums.{fold-append, fold_more}
-use Rattle.zl_asm.specs.Words.{digit_of, digit_value, is_digit, value_of, is_number, number_in}
 
 abbrev with : ℕ → ℕ → ℕ → ℕ
 with base value byte = value * base + digit_value byte

@@ -1,6 +1,6 @@
 -- Which fault a statement of a boot has, from what the code tests.
-use Rattle.zl_code.proofs.Common.{◌≡◌, ◌<◌, ◌≤◌, ◌&&◌, ◌||◌, ◌⊎◌, ℕ, Bool, true, false, not, List, [], ◌∷◌, ◌++◌, length, map, refl, sym, ap, ◌∙◌, false≢true, Option, Some, None, inl, inr, IsTrue, arith, or_left, or_right, and_parts, length-map, is_some, slice_get, nat_lt, nat_le, option_map, nat_tests, then_some, first_some, Map, get, has_key, World, Object as ObjectValue, Library, Program, body_in, boot_fault, is_job_body, has_default_rights, within, default_rights_of, rights_of, kind_of, ◌^◌, ◌==◌, bit_and, cases_Bool, eqb-true}
-use Rattle.std.specs.List.{list_all}
+use Rattle.zl_calls.proofs.Common.{◌≡◌, ◌<◌, ◌≤◌, ◌&&◌, ◌||◌, ◌⊎◌, ℕ, Bool, true, false, not, List, [], ◌∷◌, ◌++◌, length, map, refl, sym, ap, ◌∙◌, false≢true, Option, Some, None, inl, inr, IsTrue, arith, or_left, or_right, and_parts, length-map, is_some, slice_get, nat_lt, nat_le, option_map, nat_tests, then_some, first_some, Map, get, has_key, Library, Program, body_in, boot_fault, has_default_rights, within, default_rights_of, rights_of, kind_of, ◌^◌, ◌==◌, bit_and, cases_Bool, eqb-true, list_all, Objects, body_value, object_entry, object_value, world_value, kind_in, kind_at, allowed, if_default, rights_if}
+use Rattle.zl_code.proofs.Common.{World, Object as ObjectValue, is_job_body}
 use Rattle.std.specs.Option.{option_to_list}
 use Rattle.std.proofs.lemmas.Option.{slice_get_past}
 use Rattle.std.proofs.lemmas.Nat.{and_le_l}
@@ -16,11 +16,7 @@ use Rattle.zl_calls.specs.declared.objects.Body.{Body}
 use Rattle.zl_calls.specs.declared.objects.Body.TheVariants as body
 use Rattle.zl_calls.specs.declared.objects.Object.{Object}
 use Rattle.zl_calls.specs.declared.process.Process.{Process}
-use Rattle.zl_calls.specs.Objects.{Objects}
-use Rattle.zl_calls.specs.World.{body_value, object_entry, object_value, world_value}
 use Rattle.zl_calls.specs.Objects.{is_job_in as is_job_object, is_job_body as is_job_here}
-use Rattle.zl_calls.specs.Objects.{kind_in, kind_at}
-use Rattle.zl_calls.specs.Gives.{allowed, if_default, rights_if}
 use Rattle.zl_calls.proofs.Labs.{get_seen}
 
 -- ---- jobs

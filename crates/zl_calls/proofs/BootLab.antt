@@ -1,11 +1,7 @@
 -- What a boot has made meets the invariant of the world, once what isn't held is gone.
-use Rattle.zl_code.proofs.Common.{◌≡◌, ◌<◌, ◌+◌, ℕ, Bool, true, false, not, ◌&&◌, ◌==◌, List, [], refl, IsTrue, arith, nat_tests, nat_lt, false≢true, get, has_key, Some, Settles}
+use Rattle.zl_calls.proofs.Common.{◌≡◌, ◌<◌, ◌+◌, ℕ, Bool, true, false, not, ◌&&◌, ◌==◌, List, [], refl, IsTrue, arith, nat_tests, nat_lt, false≢true, get, has_key, Some, Settles, Objects, without_unheld, world_value, IsConsistent, IsSound, IsMaking}
 use Rattle.zl_calls.specs.declared.objects.Object.{Object}
 use Rattle.zl_calls.specs.declared.process.Process.{Process}
-use Rattle.zl_calls.specs.Objects.{Objects, without_unheld}
-use Rattle.zl_calls.specs.World.{world_value}
-use Rattle.zl_calls.specs.Consistent.{IsConsistent}
-use Rattle.zl_calls.specs.Making.{IsSound, IsMaking}
 use Rattle.zl_calls.proofs.Closing.{KeepsBut, Leads, IsCleared, cleared}
 use Rattle.zl_calls.proofs.Closed.{lab_of, settles_to}
 

@@ -1,11 +1,7 @@
 -- A table's handles close, and a process ends: the invariant holds afterwards, and the worlds are settled.
-use Rattle.zl_code.proofs.Common.{◌≡◌, ℕ, Bool, true, false, not, ◌&&◌, ◌==◌, List, [], map, refl, Some, IsTrue, arith, nat_cmp, is_sorted, Map, get, without, Settles}
+use Rattle.zl_calls.proofs.Common.{◌≡◌, ℕ, Bool, true, false, not, ◌&&◌, ◌==◌, List, [], map, refl, Some, IsTrue, arith, nat_cmp, is_sorted, Map, get, without, Settles, sorted_without, Objects, letting_go, released, Closes, none_left, one_more, process_entry, object_entry, world_value, IsConsistent}
 use Rattle.zl_rights.specs.declared.entry.Entry.{Entry}
-use Rattle.zl_table.proofs.MapEdits.{sorted_without}
 use Rattle.zl_calls.specs.declared.process.Process.{Process}
-use Rattle.zl_calls.specs.Objects.{Objects, letting_go, released, Closes, none_left, one_more}
-use Rattle.zl_calls.specs.World.{process_entry, object_entry, world_value}
-use Rattle.zl_calls.specs.Consistent.{IsConsistent}
 use Rattle.zl_calls.proofs.Labs.{all_held, started}
 use Rattle.zl_calls.proofs.Quiet.{settles_itself}
 use Rattle.zl_calls.proofs.Unheld.{IsSound}

@@ -1,14 +1,12 @@
 -- Handles close one after another: what isn't held any more goes, and the invariant is kept.
-use Rattle.zl_code.proofs.Common.{◌≡◌, ◌+◌, ℕ, Bool, true, false, not, ◌&&◌, ◌||◌, ◌==◌, List, map, refl, sym, ap, ◌∙◌, subst, cond, Option, Some, None, inl, inr, ◌⊎◌, IsTrue, arith, eq-eqb, nat_lt, is_some, if◌then◌else◌, count_by, nat_cmp, is_sorted, cases_Bool, eqb-true, false≢true, none-some, same_Some, Map, get, has_key, without, World, Object as ObjectValue, is_process, runs, Settles, in_table, handles_to}
+use Rattle.zl_calls.proofs.Common.{◌≡◌, ◌+◌, ℕ, Bool, true, false, not, ◌&&◌, ◌||◌, ◌==◌, List, map, refl, sym, ap, ◌∙◌, subst, cond, Option, Some, None, inl, inr, ◌⊎◌, IsTrue, arith, eq-eqb, nat_lt, is_some, if◌then◌else◌, count_by, nat_cmp, is_sorted, cases_Bool, eqb-true, false≢true, none-some, same_Some, Map, get, has_key, without, is_process, runs, Settles, in_table, handles_to, get-without, sorted_without, is_sorted-update, has_key-update, Objects, held_once_less, letting_go, without_unheld, without_unkept, is_kept, stays_alone, lives_below, is_job_at, process_entry, object_entry, object_value, world_value, IsNamed, AgreesOn, is_in_job}
+use Rattle.zl_code.proofs.Common.{World, Object as ObjectValue}
 use Rattle.zl_rights.specs.declared.entry.Entry.{Entry}
-use Rattle.zl_table.proofs.MapEdits.{get-without, sorted_without, is_sorted-update, has_key-update}
 use Rattle.zl_calls.specs.declared.objects.Body.{Body}
 use Rattle.zl_calls.specs.declared.objects.Body.TheVariants as body
 use Rattle.zl_calls.specs.declared.objects.Object.{Object}
 use Rattle.zl_calls.specs.declared.process.Process.{Process}
-use Rattle.zl_calls.specs.Objects.{Objects, held_once_less, letting_go, without_unheld, without_unkept, is_kept, stays_alone, has_living_child, lives_below, is_job_at}
-use Rattle.zl_calls.specs.World.{process_entry, object_entry, object_value, world_value}
-use Rattle.zl_calls.specs.Consistent.{IsNamed, AgreesOn, is_in_job}
+use Rattle.zl_calls.specs.Objects.{has_living_child}
 use Rattle.zl_calls.proofs.Updates.{update_unseen}
 use Rattle.zl_calls.proofs.MapsWithout.{any_without_at, count_without, without_seen}
 use Rattle.zl_calls.proofs.Quiet.{settles_without}

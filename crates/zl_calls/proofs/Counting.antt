@@ -1,12 +1,10 @@
 -- How many handles name an object, after a change of one table.
-use Rattle.zl_code.proofs.Common.{◌≡◌, ◌+◌, ◌<◌, ℕ, zero, suc, Bool, true, false, ◌||◌, ◌==◌, List, [], ◌∷◌, map, refl, sym, ◌∙◌, cond, Some, None, inl, inr, IsTrue, arith, nat_lt, sum_by, count_by, list_any, sum_by-cons, cases_Bool, eqb-true, or_left, or_right, none-some, same_Some, Map, get, put, update, Process as ProcessValue, in_table, handles_to}
-use Rattle.zl_code.specs.Tests.{queued_to}
+use Rattle.zl_calls.proofs.Common.{◌≡◌, ◌+◌, ◌<◌, ℕ, zero, suc, Bool, true, false, ◌||◌, ◌==◌, List, [], ◌∷◌, map, refl, sym, ◌∙◌, cond, Some, None, inl, inr, IsTrue, arith, nat_lt, sum_by, count_by, list_any, sum_by-cons, cases_Bool, eqb-true, or_left, or_right, none-some, same_Some, Map, get, put, update, in_table, handles_to, queued_to, Objects, process_entry, process_value, object_entry, body_value, world_value}
+use Rattle.zl_code.proofs.Common.{Process as ProcessValue}
 use Rattle.zl_calls.specs.declared.objects.Body.{Body}
 use Rattle.zl_calls.specs.declared.objects.Body.TheVariants as body
 use Rattle.zl_calls.specs.declared.objects.Object.{Object}
 use Rattle.zl_calls.specs.declared.process.Process.{Process}
-use Rattle.zl_calls.specs.Objects.{Objects}
-use Rattle.zl_calls.specs.World.{process_entry, process_value, object_entry, body_value, world_value}
 use Rattle.zl_calls.proofs.Answered.{IsWrite}
 
 none_queued : (k : ℕ) (b : Body) → queued_to k (body_value b) ≡ 0

@@ -1,17 +1,13 @@
 -- That a call is done: it is a step, and the invariant holds afterwards.
-use Rattle.zl_code.proofs.Common.{◌≡◌, ℕ, Bool, List, [], map, ap, sym, ◌∙◌, subst, Option, Result, Ok, Err, World, Ready, Library, Site, refusal, Step, AtCall, next_for, Calls, grows, replied, taken}
+use Rattle.zl_calls.proofs.Common.{◌≡◌, ℕ, Bool, List, [], map, ap, sym, ◌∙◌, subst, Option, Result, Ok, Err, Ready, Library, Site, refusal, Step, AtCall, next_for, Calls, grows, replied, taken, Handles, Objects, Does, Replies, status_of, values_of, process_entry, process_value, object_entry, state_value, world_value, IsConsistent}
+use Rattle.zl_code.proofs.Common.{World}
 use Rattle.zl_rights.specs.declared.status.Status.{Status}
 use Rattle.zl_rights.specs.declared.status.Status.TheVariants as status
 use Rattle.zl_code.specs.declared.history.CallName.{CallName}
 use Rattle.zl_code.specs.declared.history.Outcome.{Outcome}
 use Rattle.zl_code.specs.declared.history.Outcome.TheVariants as outcome
 use Rattle.zl_code.specs.declared.history.TraceItem.TheVariants as item
-use Rattle.zl_table.specs.Table.{Handles}
 use Rattle.zl_calls.specs.declared.process.Process.{Process}
-use Rattle.zl_calls.specs.Objects.{Objects}
-use Rattle.zl_calls.specs.calls.Answer.{Does, Replies, status_of, values_of}
-use Rattle.zl_calls.specs.World.{process_entry, process_value, object_entry, state_value, world_value}
-use Rattle.zl_calls.specs.Consistent.{IsConsistent}
 use Rattle.zl_calls.proofs.Answered.{IsWrite, same_world}
 use Rattle.zl_calls.proofs.Labs.{all_held, call_settles, started}
 use Rattle.zl_calls.proofs.Quiet.{settles_itself}

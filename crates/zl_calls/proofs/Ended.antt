@@ -1,15 +1,13 @@
 -- A process ends: what is left of the objects, once its object and its job were looked at.
-use Rattle.zl_code.proofs.Common.{◌≡◌, ◌+◌, ℕ, ℤ, Bool, true, false, not, ◌&&◌, ◌||◌, ◌==◌, List, [], ◌∷◌, refl, sym, ap, ◌∙◌, subst, Option, Some, None, inl, inr, IsTrue, count_by, list_any, cases_Bool, eqb-true, false≢true, same_Some, Map, get, update, World, Settles}
+use Rattle.zl_calls.proofs.Common.{◌≡◌, ◌+◌, ℕ, ℤ, Bool, true, false, not, ◌&&◌, ◌||◌, ◌==◌, List, [], ◌∷◌, refl, sym, ap, ◌∙◌, subst, Option, Some, None, inl, inr, IsTrue, count_by, list_any, cases_Bool, eqb-true, false≢true, same_Some, Map, get, update, Settles, IsTable, update_missing, Objects, stopped, stopped_body, stopping, process_ended, ended_in, without_unheld, job_in, job_of, is_kept, stays_alone, lives_below, IsConsistent, IsNamed}
+use Rattle.zl_code.proofs.Common.{World}
 use Rattle.zl_rights.specs.declared.entry.Entry.{Entry}
-use Rattle.zl_table.specs.Table.{IsTable}
-use Rattle.zl_table.proofs.MapEdits.{update_missing}
 use Rattle.zl_calls.specs.declared.objects.Body.{Body}
 use Rattle.zl_calls.specs.declared.objects.Body.TheVariants as body
 use Rattle.zl_calls.specs.declared.objects.Object.{Object}
 use Rattle.zl_calls.specs.declared.process.State.TheVariants as state
 use Rattle.zl_calls.specs.declared.process.Process.{Process}
-use Rattle.zl_calls.specs.Objects.{Objects, stopped, stopped_body, stopping, process_ended, ended_in, without_unheld, job_in, job_of, is_kept, stays_alone, has_living_child, lives_below}
-use Rattle.zl_calls.specs.Consistent.{IsConsistent, IsNamed}
+use Rattle.zl_calls.specs.Objects.{has_living_child}
 use Rattle.zl_calls.proofs.Answered.{IsWrite}
 use Rattle.zl_calls.proofs.SameBodies.{found_updated}
 use Rattle.zl_calls.proofs.Unheld.{IsSound}

@@ -1,5 +1,6 @@
 -- The calls on events, event_create and signal, each from its table and objects to a step.
-use Rattle.zl_code.proofs.Common.{◌≡◌, ◌+◌, ◌^◌, ℕ, Bool, true, false, not, ◌&&◌, ◌==◌, List, [], ◌∷◌, map, refl, sym, ap, ◌∙◌, cond, Option, Some, None, IsTrue, nat_le, if◌then◌else◌, map-append, then_some, first_some, Map, get, put, World, Object as ObjectValue, Ready, EventBody, Library, Site, site, event_create, examined, has_room, has_koids, handles_to, table_of, answer_if, row_of, refusal, handle_operands, listed, may_choose, new_handles, insert_all, remove_all, taken_handles, effect, with_effect, with_object, gives_ok, AtCall, next_for, Values, replied, taken, Ok, Err, ⊤, option_or, bits, within, SIGNAL, kind_of, signal, body_of, body_in, operand_of, by_look_up, operand, any, cpu_answered}
+use Rattle.zl_calls.proofs.Common.{◌≡◌, ◌+◌, ◌^◌, ℕ, Bool, true, false, not, ◌&&◌, ◌==◌, List, [], ◌∷◌, map, refl, sym, ap, ◌∙◌, cond, Option, Some, None, IsTrue, nat_le, if◌then◌else◌, map-append, then_some, first_some, Map, get, put, Ready, EventBody, Library, Site, site, event_create, examined, has_room, has_koids, handles_to, table_of, answer_if, row_of, refusal, handle_operands, listed, may_choose, new_handles, insert_all, remove_all, taken_handles, effect, with_effect, with_object, gives_ok, AtCall, next_for, Values, replied, taken, Ok, Err, ⊤, option_or, bits, within, SIGNAL, kind_of, signal, body_of, body_in, operand_of, by_look_up, operand, any, cpu_answered, new_entry, on_object, object_changed, Objects, new_object, with_new, raised_changed, changing, IsAnswered, one_value, Replies, has_room_in, no_value, process_entry, process_value, object_entry, state_value, world_value, object_value, body_value, IsConsistent, IsNamed, koid_in, settable_of, may_change}
+use Rattle.zl_code.proofs.Common.{World, Object as ObjectValue}
 use Rattle.zl_rights.specs.declared.kind.Kind.TheVariants as kind
 use Rattle.zl_rights.specs.declared.status.Status.TheVariants as status
 use Rattle.zl_rights.specs.declared.entry.Entry.{Entry}
@@ -7,16 +8,11 @@ use Rattle.zl_rights.specs.declared.policy.Condition.TheVariants as condition
 use Rattle.zl_code.specs.declared.history.CallName.{CallName}
 use Rattle.zl_code.specs.declared.history.Outcome.{Outcome}
 use Rattle.zl_code.specs.declared.history.Outcome.TheVariants as outcome
-use Rattle.zl_code.specs.Effects.{new_entry, on_object, object_changed}
 use Rattle.zl_calls.specs.declared.objects.Body.{Body}
 use Rattle.zl_calls.specs.declared.objects.Body.TheVariants as body
 use Rattle.zl_calls.specs.declared.objects.Object.{Object}
 use Rattle.zl_calls.specs.declared.process.Process.{Process}
-use Rattle.zl_calls.specs.Objects.{Objects, new_object, with_new, raised_changed, changing}
-use Rattle.zl_calls.specs.calls.Answer.{IsAnswered, one_value, Replies, has_room_in, no_value}
 use Rattle.zl_calls.specs.calls.Event.{CreatesEvent, EventCreateDoes, event_refusal, SignalsObject, SignalDoes, signal_refusal, signal_refusal_of, settable_at, may_change_at}
-use Rattle.zl_calls.specs.World.{process_entry, process_value, object_entry, state_value, world_value, object_value, body_value}
-use Rattle.zl_calls.specs.Consistent.{IsConsistent, IsNamed}
 use Rattle.zl_calls.proofs.Answered.{IsWrite, table_is, may_get_inserted, replied_inserted, replied_with}
 use Rattle.zl_calls.proofs.Done.{IsDone, IsCalled, answered_done}
 use Rattle.zl_calls.proofs.Grown.{grown_next, there_grown}
@@ -24,7 +20,6 @@ use Rattle.zl_calls.proofs.Labs.{no_policy, given, get_seen}
 use Rattle.zl_calls.proofs.Refused.{NoPolicy, answers, may_create, fault_answers}
 use Rattle.zl_calls.proofs.Updates.{put_last, update_seen, update_itself}
 use Rattle.zl_calls.proofs.Written.{IsNext, keeps_inserted, inserted_counts, keeps_table, same_counts, updated_next}
-use Rattle.zl_code.specs.Tests.{koid_in, settable_of, may_change}
 use Rattle.zl_calls.proofs.SameBodies.{alone_updated}
 
 -- ---- the answer of event_create

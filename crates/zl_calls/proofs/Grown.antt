@@ -1,16 +1,12 @@
 -- One object more, with one handle: what the invariant says of the objects.
-use Rattle.zl_code.proofs.Common.{◌≡◌, ◌<◌, ◌+◌, ◌^◌, ℕ, zero, suc, Bool, true, false, ◌||◌, ◌==◌, List, [], ◌∷◌, ◌++◌, map, refl, sym, ap, ◌∙◌, subst, cond, Option, Some, None, inl, inr, IsTrue, arith, eq-eqb, if◌then◌else◌, is_some, list_any, cases_Bool, eqb-true, false≢true, same_Some, Map, get, put, Process as ProcessValue, is_process, runs, state_passes, in_table, handles_to, has_key, nat_cmp, is_sorted}
+use Rattle.zl_calls.proofs.Common.{◌≡◌, ◌<◌, ◌+◌, ◌^◌, ℕ, zero, suc, Bool, true, false, ◌||◌, ◌==◌, List, [], ◌∷◌, ◌++◌, map, refl, sym, ap, ◌∙◌, subst, cond, Option, Some, None, inl, inr, IsTrue, arith, eq-eqb, if◌then◌else◌, is_some, list_any, cases_Bool, eqb-true, false≢true, same_Some, Map, get, put, is_process, runs, state_passes, in_table, handles_to, has_key, nat_cmp, is_sorted, get-put, IsTable, sorted_put, put_key, Objects, new_object, with_new, is_kept, stays_alone, lives_below, is_job_at, is_job_in, process_entry, world_value, IsConsistent, IsNamed, AgreesOn, is_in_job}
+use Rattle.zl_code.proofs.Common.{Process as ProcessValue}
 use Rattle.zl_rights.specs.declared.entry.Entry.{Entry}
-use Rattle.zl_rights.proofs.MapLaws.{get-put}
-use Rattle.zl_table.specs.Table.{IsTable}
-use Rattle.zl_table.proofs.MapEdits.{sorted_put, put_key}
 use Rattle.zl_calls.specs.declared.objects.Body.{Body}
 use Rattle.zl_calls.specs.declared.objects.Body.TheVariants as body
 use Rattle.zl_calls.specs.declared.objects.Object.{Object}
 use Rattle.zl_calls.specs.declared.process.Process.{Process}
-use Rattle.zl_calls.specs.Objects.{Objects, new_object, with_new, is_kept, stays_alone, lives_below, has_living_child, is_job_at, is_job_in}
-use Rattle.zl_calls.specs.World.{process_entry, world_value}
-use Rattle.zl_calls.specs.Consistent.{IsConsistent, IsNamed, AgreesOn, is_in_job}
+use Rattle.zl_calls.specs.Objects.{has_living_child}
 use Rattle.zl_calls.proofs.Counting.{counted_in_table}
 use Rattle.zl_calls.proofs.Labs.{Found, any_found}
 use Rattle.zl_calls.proofs.Updates.{put_last}

@@ -1,22 +1,16 @@
 -- The calls on handles, close and dup, each from its table and objects to a step.
-use Rattle.zl_code.proofs.Common.{◌≡◌, ◌+◌, ℕ, Bool, true, false, ◌==◌, List, [], ◌∷◌, refl, sym, ap, ◌∙◌, subst, cond, Option, Some, None, inl, inr, ◌⊎◌, IsTrue, arith, eq-eqb, bit_and, ◌||◌, if◌then◌else◌, is_some, count_by, sum_by-cons, cases_Bool, false≢true, none-some, first_some, bits, within, Map, get, has_key, without, World, Ready, Settles, Library, Site, site, close, table_of, operand_of, operand, examined, any, row_of, refusal, handle_operands, listed, on_process, process_without, may_choose, new_handles, remove_all, taken_handles, insert_all, effect, gives_ok, AtCall, next_for, Calls, Values, Refused, replied, taken, cpu_answered, ◌^◌, not, map, Ok, Err, nat_le, nat_lt, eqb-true, or_left, nat_tests, then_some, option_or, narrowed, default_rights_of, DUPLICATE, is_empty, Object as ObjectValue, dup, by_look_up, has_room, handles_to, entry_at, copy_of, with_rights, answer_if, with_effect}
+use Rattle.zl_calls.proofs.Common.{◌≡◌, ◌+◌, ℕ, Bool, true, false, ◌==◌, List, [], ◌∷◌, refl, sym, ap, ◌∙◌, subst, cond, Option, Some, None, inl, inr, ◌⊎◌, IsTrue, arith, eq-eqb, bit_and, ◌||◌, if◌then◌else◌, is_some, count_by, sum_by-cons, cases_Bool, false≢true, none-some, first_some, bits, within, Map, get, has_key, without, Ready, Settles, Library, Site, site, close, table_of, operand_of, operand, examined, any, row_of, refusal, handle_operands, listed, on_process, process_without, may_choose, new_handles, remove_all, taken_handles, insert_all, effect, gives_ok, AtCall, next_for, Calls, Values, Refused, replied, taken, cpu_answered, ◌^◌, not, map, Ok, Err, nat_le, nat_lt, eqb-true, or_left, nat_tests, then_some, option_or, narrowed, default_rights_of, DUPLICATE, is_empty, dup, by_look_up, has_room, handles_to, entry_at, copy_of, with_rights, answer_if, with_effect, get-update, Handles, IsTable, get-without, sorted_without, length-without, Objects, released, has_place, held_once_more, holding, IsAnswered, no_value, Replies, status_of, one_value, has_room_in, process_value, state_value, world_value, process_entry, object_value, IsConsistent, IsNamed, koid_in}
+use Rattle.zl_code.proofs.Common.{World, Object as ObjectValue}
 use Rattle.std.proofs.lemmas.Nat.{and_le_r}
 use Rattle.zl_rights.specs.declared.status.Status.{Status}
 use Rattle.zl_rights.specs.declared.status.Status.TheVariants as status
 use Rattle.zl_rights.specs.declared.entry.Entry.{Entry}
 use Rattle.zl_rights.specs.declared.policy.Condition.TheVariants as condition
-use Rattle.zl_rights.proofs.MapLaws.{get-update}
 use Rattle.zl_code.specs.declared.history.CallName.{CallName}
 use Rattle.zl_code.specs.declared.history.Outcome.{Outcome}
 use Rattle.zl_code.specs.declared.history.Outcome.TheVariants as outcome
-use Rattle.zl_table.specs.Table.{Handles, IsTable}
-use Rattle.zl_table.proofs.MapEdits.{get-without, sorted_without, length-without}
 use Rattle.zl_calls.specs.declared.process.Process.{Process}
-use Rattle.zl_calls.specs.Objects.{Objects, released, has_place, held_once_more, holding}
-use Rattle.zl_calls.specs.calls.Answer.{IsAnswered, no_value, Replies, status_of, one_value, has_room_in}
 use Rattle.zl_calls.specs.calls.Handle.{CloseDoes, close_answer, without_handle, closing, Dups, DupDoes, dup_refusal, dup_refusal_of}
-use Rattle.zl_calls.specs.World.{process_value, state_value, world_value, process_entry, object_value}
-use Rattle.zl_calls.specs.Consistent.{IsConsistent, IsNamed}
 use Rattle.zl_calls.proofs.Answered.{IsWrite, table_is, replies_none, replied_with, may_get_inserted, replied_inserted}
 use Rattle.zl_calls.proofs.Closed.{IsClosed, one_closed, lab_of, settles_to}
 use Rattle.zl_calls.proofs.Done.{IsDone, IsCalled, answered_done}
@@ -27,7 +21,6 @@ use Rattle.zl_calls.proofs.Stopped.{sound_after}
 use Rattle.zl_calls.proofs.Unheld.{IsSound}
 use Rattle.zl_calls.proofs.Written.{refusal_keeps, IsNext, keeps_inserted, inserted_counts, updated_next}
 use Rattle.zl_rights.proofs.Narrowed.{narrowed_within}
-use Rattle.zl_code.specs.Tests.{koid_in}
 use Rattle.zl_calls.specs.declared.objects.Object.{Object}
 use Rattle.zl_calls.proofs.Updates.{update_unseen}
 

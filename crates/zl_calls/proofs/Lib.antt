@@ -1,3 +1,4 @@
+pub mod Common
 pub mod Slots
 pub mod Tables
 pub mod Places

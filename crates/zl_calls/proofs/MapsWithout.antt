@@ -1,6 +1,5 @@
 -- Maps that an entry has left: tests, counts, and what is seen.
-use Rattle.zl_code.proofs.Common.{◌≡◌, ◌+◌, ℕ, Bool, true, false, ◌||◌, ◌==◌, [], ◌∷◌, map, refl, sym, ap, ◌∙◌, cond, Some, inl, inr, IsTrue, arith, list_any, count_by, nat_cmp, is_sorted, sum_by-cons, cases_Bool, eqb-true, false≢true, none-some, same_Some, Map, get, without}
-use Rattle.zl_table.proofs.MapEdits.{sorted_parts, without_lower}
+use Rattle.zl_calls.proofs.Common.{◌≡◌, ◌+◌, ℕ, Bool, true, false, ◌||◌, ◌==◌, [], ◌∷◌, map, refl, sym, ap, ◌∙◌, cond, Some, inl, inr, IsTrue, arith, list_any, count_by, nat_cmp, is_sorted, sum_by-cons, cases_Bool, eqb-true, false≢true, none-some, same_Some, Map, get, without, sorted_parts, without_lower}
 
 module _ {X : Type 0} where
   -- a test that the entry fails is passed as often without it

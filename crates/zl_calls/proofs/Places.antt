@@ -1,5 +1,6 @@
 -- Where a process stands in the list, and what stands next for it.
-use Rattle.zl_code.proofs.Common.{◌≡◌, ◌<◌, ℕ, List, length, map, get_or, Option, Some, None, refl, sym, slice_get, IfSome, IfNone, none-some, IsTrue, false≢true, get, World, Cpu, Process as ProcessValue, is_process, is_ready, Library, Program, local_effect, Site, site_of, name_of, IsStuck, calls_at, next_for}
+use Rattle.zl_calls.proofs.Common.{◌≡◌, ◌<◌, ℕ, List, length, map, get_or, Option, Some, None, refl, sym, slice_get, IfSome, IfNone, none-some, IsTrue, false≢true, get, Cpu, is_process, is_ready, Library, Program, local_effect, Site, site_of, name_of, IsStuck, calls_at, next_for, process_entry, call_in}
+use Rattle.zl_code.proofs.Common.{World, Process as ProcessValue}
 use Rattle.std.proofs.lemmas.Option.{slice_get-map, slice_get_read}
 use Rattle.zl_code.specs.declared.instr.Instr.{Instr}
 use Rattle.zl_code.specs.declared.instr.Instr.TheVariants as instr
@@ -7,7 +8,6 @@ use Rattle.zl_code.specs.declared.history.CallName.{CallName}
 use Rattle.zl_code.specs.Image.{instr_at, call_at, call_in as call_found, local_at, local_in as local_found}
 use Rattle.zl_code.specs.Steps.{moves, next_at, next_of}
 use Rattle.zl_calls.specs.declared.process.Process.{Process}
-use Rattle.zl_calls.specs.World.{process_entry, call_in}
 
 -- ---- reads of the list
 

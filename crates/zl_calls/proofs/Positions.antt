@@ -1,6 +1,5 @@
 -- The first element with a key: what it reads and writes, in the map by keys.
-use Rattle.zl_code.proofs.Common.{◌≡◌, ◌<◌, ℕ, zero, suc, Bool, true, false, ◌==◌, List, [], ◌∷◌, length, map, get_or, set, refl, sym, ap, ◌∙◌, Some, None, inl, inr, arith, ◌≤◌, nat_lt, position, cases_Bool, eqb-true, nat_tests, none-some, Map, get, update}
-use Rattle.std.specs.List.{position_or_len}
+use Rattle.zl_calls.proofs.Common.{◌≡◌, ◌<◌, ℕ, zero, suc, Bool, true, false, ◌==◌, List, [], ◌∷◌, length, map, get_or, set, refl, sym, ap, ◌∙◌, Some, None, inl, inr, arith, ◌≤◌, nat_lt, position, cases_Bool, eqb-true, nat_tests, none-some, Map, get, update, position_or_len}
 use Rattle.std.proofs.lemmas.List.Quantifiers.{position-Some}
 
 -- the element at place i is the first with the key k

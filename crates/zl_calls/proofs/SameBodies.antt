@@ -1,12 +1,10 @@
 -- A change of one object that leaves its body as it is: what the invariant says of bodies stays.
-use Rattle.zl_code.proofs.Common.{◌≡◌, ℕ, false, ◌||◌, ◌==◌, [], ◌∷◌, refl, sym, ap, ◌∙◌, Option, Some, None, inl, inr, IsTrue, if◌then◌else◌, list_any, option_map, cases_Bool, none-some, same_Some, Map, get, update}
+use Rattle.zl_calls.proofs.Common.{◌≡◌, ℕ, false, ◌||◌, ◌==◌, [], ◌∷◌, refl, sym, ap, ◌∙◌, Option, Some, None, inl, inr, IsTrue, if◌then◌else◌, list_any, option_map, cases_Bool, none-some, same_Some, Map, get, update, get-update, is_job_at, is_job_in, lives_below, stays_alone, IsNamed, is_in_job}
 use Rattle.zl_rights.specs.declared.entry.Entry.{Entry}
-use Rattle.zl_rights.proofs.MapLaws.{get-update}
 use Rattle.zl_calls.specs.declared.objects.Body.{Body}
 use Rattle.zl_calls.specs.declared.objects.Body.TheVariants as body
 use Rattle.zl_calls.specs.declared.objects.Object.{Object}
-use Rattle.zl_calls.specs.Objects.{is_job_at, is_job_in, has_living_child, lives_below, stays_alone}
-use Rattle.zl_calls.specs.Consistent.{IsNamed, is_in_job}
+use Rattle.zl_calls.specs.Objects.{has_living_child}
 
 -- an object afterwards is one that was there before, perhaps changed
 pub found_updated : (f : Object → Object) (os : Map Object) (k : ℕ) (A : Type 0) (j : ℕ) (q : Object) → get (update os k f) j ≡ Some q

@@ -1,11 +1,9 @@
 -- A binary search among elements whose keys rise ends at the first with the key.
-use Rattle.zl_code.proofs.Common.{◌≡◌, ◌≢◌, ℕ, zero, suc, ◌<◌, ◌≤◌, Bool, ◌==◌, List, [], ◌∷◌, length, map, get_or, refl, sym, ap, ◌∙◌, cond, Option, Some, None, Result, Ok, Err, inl, inr, arith, IsTrue, eq-eqb, nat_lt, position, nat_cmp, is_sorted, cases_lt, ne_eqb, lt-ltb, nat_tests, length-map, get_or-map}
+use Rattle.zl_calls.proofs.Common.{◌≡◌, ◌≢◌, ℕ, zero, suc, ◌<◌, ◌≤◌, Bool, ◌==◌, List, [], ◌∷◌, length, map, get_or, refl, sym, ap, ◌∙◌, cond, Option, Some, None, Result, Ok, Err, inl, inr, arith, IsTrue, eq-eqb, nat_lt, position, nat_cmp, is_sorted, cases_lt, ne_eqb, lt-ltb, nat_tests, length-map, get_or-map, position_or_len, sorted_parts}
 use Rattle.std.specs.Result.{result_ok}
-use Rattle.std.specs.List.{position_or_len}
 use Rattle.std.specs.List.Sorted.{IsSearchInRange, IsBinarySearchResult, IsNonDecreasingBy}
 use Rattle.std.specs.Ordering.{ordering_index}
 use Rattle.std.proofs.lemmas.Cmp.{ranked}
-use Rattle.zl_table.proofs.MapEdits.{sorted_parts}
 use Rattle.zl_table.proofs.Search.{first_below, keys_rise}
 use Rattle.zl_calls.proofs.Positions.{entry}
 

@@ -1,17 +1,13 @@
 -- A process loses handles, or ends: the invariant but for what keeps the objects.
-use Rattle.zl_code.proofs.Common.{◌≡◌, ℤ, ◌+◌, ◌<◌, ℕ, Bool, true, false, ◌==◌, List, map, refl, sym, ap, ◌∙◌, subst, Option, Some, None, inl, inr, IsTrue, eq-eqb, if◌then◌else◌, count_by, option_map, cases_Bool, eqb-true, Map, get, has_key, Process as ProcessValue, Object as ObjectValue, kind_of, is_process, runs, handles_to}
+use Rattle.zl_calls.proofs.Common.{◌≡◌, ℤ, ◌+◌, ◌<◌, ℕ, Bool, true, false, ◌==◌, List, map, refl, sym, ap, ◌∙◌, subst, Option, Some, None, inl, inr, IsTrue, eq-eqb, if◌then◌else◌, count_by, option_map, cases_Bool, eqb-true, Map, get, has_key, kind_of, is_process, runs, handles_to, get-update, IsTable, is_sorted-update, has_key-update, Objects, stopped, stopped_body, stopping, is_job_at, is_job_in, process_entry, process_value, object_value, body_value, world_value, IsConsistent, IsNamed, AgreesOn, is_in_job}
+use Rattle.zl_code.proofs.Common.{Process as ProcessValue, Object as ObjectValue}
 use Rattle.zl_rights.specs.declared.entry.Entry.{Entry}
-use Rattle.zl_rights.proofs.MapLaws.{get-update}
-use Rattle.zl_table.specs.Table.{IsTable}
-use Rattle.zl_table.proofs.MapEdits.{is_sorted-update, has_key-update}
 use Rattle.zl_calls.specs.declared.objects.Body.{Body}
 use Rattle.zl_calls.specs.declared.objects.Body.TheVariants as body
 use Rattle.zl_calls.specs.declared.objects.Object.{Object}
 use Rattle.zl_calls.specs.declared.process.State.TheVariants as state
 use Rattle.zl_calls.specs.declared.process.Process.{Process}
-use Rattle.zl_calls.specs.Objects.{Objects, stopped, stopped_body, stopping, is_job_at, is_job_in, is_job_body}
-use Rattle.zl_calls.specs.World.{process_entry, process_value, object_value, body_value, world_value}
-use Rattle.zl_calls.specs.Consistent.{IsConsistent, IsNamed, AgreesOn, is_in_job}
+use Rattle.zl_calls.specs.Objects.{is_job_body}
 use Rattle.zl_calls.proofs.Answered.{IsWrite}
 use Rattle.zl_calls.proofs.Updates.{update_unseen}
 use Rattle.zl_calls.proofs.Counting.{counts_fewer}

@@ -1,5 +1,5 @@
 -- Tables that handles enter and leave, and empty ones.
-use Rattle.zl_code.proofs.Common.{false, ◌^◌, bit_and, ◌≡◌, ◌<◌, ◌≤◌, ℕ, [], ◌∷◌, length, Some, None, Result, Err, refl, sym, ap, ◌∙◌, arith, inl, inr, ◌==◌, if◌then◌else◌, cases_Bool, eqb-true, same_Some, Map, get, without, within}
+use Rattle.zl_calls.proofs.Common.{false, ◌^◌, bit_and, ◌≡◌, ◌<◌, ◌≤◌, ℕ, [], ◌∷◌, length, Some, None, Result, Err, refl, sym, ap, ◌∙◌, arith, inl, inr, ◌==◌, if◌then◌else◌, cases_Bool, eqb-true, same_Some, Map, get, without, within, get-put, Handles, IsTable, Inserts, Drains, sorted_put, length-put_new, put_key, Objects, Closes, none_left, one_more, released}
 use Rattle.std.proofs.lemmas.Nat.{and_le_l}
 use Rattle.zl_rights.specs.declared.entry.Entry.{Entry}
 use Rattle.zl_rights.specs.declared.kind.Kind.{Kind}
@@ -7,10 +7,6 @@ use Rattle.zl_rights.specs.declared.kind.Kind.TheVariants as kind
 use Rattle.zl_rights.specs.declared.status.Status.{Status}
 use Rattle.zl_rights.specs.declared.status.Status.TheVariants as status
 use Rattle.zl_rights.specs.LookUp.{looked_up}
-use Rattle.zl_rights.proofs.MapLaws.{get-put}
-use Rattle.zl_table.specs.Table.{Handles, IsTable, Inserts, Drains}
-use Rattle.zl_table.proofs.MapEdits.{sorted_put, length-put_new, put_key}
-use Rattle.zl_calls.specs.Objects.{Objects, Closes, none_left, one_more, released}
 use Rattle.zl_calls.specs.calls.Handle.{without_handle}
 use Rattle.zl_calls.specs.calls.Event.{settable_at}
 

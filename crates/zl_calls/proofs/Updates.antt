@@ -1,5 +1,5 @@
 -- Changes of one value of a map: two after another, none, at the end, and as they are seen from outside.
-use Rattle.zl_code.proofs.Common.{◌≡◌, ◌<◌, ℕ, true, false, ◌==◌, [], ◌∷◌, ◌++◌, refl, sym, ap, ◌∙◌, cond, Some, inl, inr, IsTrue, map, eq-eqb, arith, is_some, cases_Bool, eqb-true, nat_tests, Map, get, put, update, has_key}
+use Rattle.zl_calls.proofs.Common.{◌≡◌, ◌<◌, ℕ, true, false, ◌==◌, [], ◌∷◌, ◌++◌, refl, sym, ap, ◌∙◌, cond, Some, inl, inr, IsTrue, map, eq-eqb, arith, is_some, cases_Bool, eqb-true, nat_tests, Map, get, put, update, has_key}
 
 pub update_twice : {X : Type 0} (m : Map X) (k : ℕ) (f g : X → X) → update (update m k f) k g ≡ update m k (λ x. g (f x))
 unfolding update

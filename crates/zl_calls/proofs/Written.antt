@@ -1,15 +1,10 @@
 -- A process of the list is written: the map by pids, and what the invariant says of processes.
-use Rattle.zl_code.proofs.Common.{Option, None, ◌≡◌, ◌<◌, ◌≤◌, ◌+◌, ℕ, false, ◌==◌, List, map, length, get_or, set, refl, sym, ap, ◌∙◌, cond, Some, inl, inr, ◌⊎◌, ◌^◌, subst, IsTrue, arith, [], ◌∷◌, position, count_by, option_map, nat_cmp, is_sorted, cases_Bool, eqb-true, none-some, same_Some, slice_get-get_or, Map, get, update, has_key, Process as ProcessValue, is_process, runs, state_passes, handles_to}
+use Rattle.zl_calls.proofs.Common.{Option, None, ◌≡◌, ◌<◌, ◌≤◌, ◌+◌, ℕ, false, ◌==◌, List, map, length, get_or, set, refl, sym, ap, ◌∙◌, cond, Some, inl, inr, ◌⊎◌, ◌^◌, subst, IsTrue, arith, [], ◌∷◌, position, count_by, option_map, nat_cmp, is_sorted, cases_Bool, eqb-true, none-some, same_Some, slice_get-get_or, Map, get, update, has_key, is_process, runs, state_passes, handles_to, get-update, IsTable, Inserts, is_sorted-update, has_key-update, Objects, is_kept, process_entry, process_value, world_value, IsPlaceOf, IsConsistent, IsNamed, AgreesOn, is_in_job}
+use Rattle.zl_code.proofs.Common.{Process as ProcessValue}
 use Rattle.std.specs.Prelude.{MatchOption}
 use Rattle.zl_rights.specs.declared.entry.Entry.{Entry}
-use Rattle.zl_rights.proofs.MapLaws.{get-update}
-use Rattle.zl_table.specs.Table.{IsTable, Inserts}
-use Rattle.zl_table.proofs.MapEdits.{is_sorted-update, has_key-update}
 use Rattle.zl_calls.specs.declared.objects.Object.{Object}
 use Rattle.zl_calls.specs.declared.process.Process.{Process}
-use Rattle.zl_calls.specs.Objects.{Objects, is_kept}
-use Rattle.zl_calls.specs.World.{process_entry, process_value, world_value, IsPlaceOf}
-use Rattle.zl_calls.specs.Consistent.{IsConsistent, IsNamed, AgreesOn, is_in_job}
 use Rattle.zl_calls.proofs.Answered.{IsWrite}
 use Rattle.zl_calls.proofs.Counting.{count_put, counts_written}
 use Rattle.zl_calls.proofs.Positions.{IsFirst, first_at, get_first, get_missing, update_first}

@@ -71,15 +71,13 @@ unknown_words : reading_of none_refused (codes "limit 1\nprocess 1 0\nlimit 2") 
 unfolding reading_from line_said statement_said body_named limit_said process_said is_word number_of
 unknown_words = refl
 
--- tabs and carriage returns are parts of words
-other_blanks : reading_of none_refused (codes "limit 1\r\n") ≡ fails nothing 1 cause.Syntax
+rows_of_first_faults :
+    -- tabs and carriage returns are parts of words
+    (reading_of none_refused (codes "limit 1\r\n") ≡ fails nothing 1 cause.Syntax)
+    -- `#` counts as the first byte of a line only
+    × (reading_of none_refused (codes "\n #") ≡ fails nothing 2 cause.Syntax)
 unfolding reading_from line_said statement_said body_named limit_said process_said is_word number_of
-other_blanks = refl
-
--- `#` counts as the first byte of a line only
-late_comment : reading_of none_refused (codes "\n #") ≡ fails nothing 2 cause.Syntax
-unfolding reading_from line_said statement_said body_named limit_said process_said is_word number_of
-late_comment = refl
+rows_of_first_faults = (refl, refl)
 
 outside_ascii : reading_of none_refused (codes "\n# " ++ (195 ∷ 169 ∷ [])) ≡ fails nothing 2 cause.Syntax
 unfolding reading_from line_said statement_said body_named limit_said process_said is_word number_of

@@ -1,4 +1,4 @@
-use Rattle.zl_asm.specs.Draft.{held_by}
+use Rattle.zl_asm.proofs.Common.{held_by}
 use Rattle.zl_asm.proofs.ListingText.{found_by, none_by, only_by}
 use Rattle.zl_asm.proofs.assembling.assemble_bytes.Goals as goal
 

@@ -1,8 +1,6 @@
-use Rattle.zl_code.proofs.Common.{ℕ, List, length, eqb, rules, sym, subst, inl, inr, ◌∷◌, [], map-append}
+use Rattle.zl_asm.proofs.Common.{ℕ, List, length, eqb, rules, sym, subst, inl, inr, ◌∷◌, [], map-append, lines_of, held_by}
 use Rattle.std.proofs.lemmas.Iterator.Consumers.{YieldsList-so_far, YieldsList-turn, YieldsList-end, YieldsList-from_enumerate}
 use Rattle.std.proofs.lemmas.Iterator.Splits.{YieldsList-from_slice_split}
-use Rattle.zl_asm.specs.Words.{lines_of}
-use Rattle.zl_asm.specs.Draft.{held_by}
 use Rattle.zl_asm.proofs.Numbered.{lines_so_far, lines_all}
 use Rattle.zl_asm.proofs.ListingText.{SoFar, so_far-none, so_far-more, so_far-all, stops_at, cut_at}
 use Rattle.zl_asm.proofs.assembling.read_lines.Goals as goal

@@ -1,5 +1,4 @@
-use Rattle.zl_code.proofs.Common.{◌≡◌, ◌++◌, take, string_bytes}
-use Rattle.zl_asm.specs.Canonical.{hex_text}
+use Rattle.zl_asm.proofs.Common.{◌≡◌, ◌++◌, take, string_bytes, hex_text}
 use Rattle.zl_asm.proofs.disassembling.push_bytes.Given as goal
 
 abbrev pub invariant-loop-byte : goal.invariant-loop-byte

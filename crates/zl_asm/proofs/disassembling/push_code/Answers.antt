@@ -1,7 +1,4 @@
-use Rattle.zl_code.proofs.Common.{◌≡◌, ◌<◌, ◌≤◌, ◌++◌, ℕ, List, false, map, get_or, length, string_bytes, append-nil, sym, ap, ◌∙◌, arith, length-map, get_or-map, instr_bytes}
-use Rattle.std.proofs.lemmas.List.{drop_all}
-use Rattle.zl_asm.specs.Canonical.{is_target, code_lines_from}
-use Rattle.zl_asm.specs.Pieces.{ended, line_text}
+use Rattle.zl_asm.proofs.Common.{◌≡◌, ◌<◌, ◌≤◌, ◌++◌, ℕ, List, false, map, get_or, length, string_bytes, append-nil, sym, ap, ◌∙◌, arith, length-map, get_or-map, instr_bytes, drop_all, is_target, code_lines_from, ended, line_text}
 use Rattle.zl_asm.proofs.Laid.{line_written}
 use Rattle.zl_asm.proofs.disassembling.push_code.Goals as goal
 

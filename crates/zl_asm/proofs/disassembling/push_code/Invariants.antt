@@ -1,6 +1,4 @@
-use Rattle.zl_code.proofs.Common.{◌≡◌, ◌++◌, map, drop, string_bytes, instr_bytes}
-use Rattle.zl_asm.specs.Canonical.{code_lines_from, code_lines}
-use Rattle.zl_asm.specs.Pieces.{ended}
+use Rattle.zl_asm.proofs.Common.{◌≡◌, ◌++◌, map, drop, string_bytes, instr_bytes, code_lines_from, code_lines, ended}
 use Rattle.zl_asm.proofs.disassembling.push_code.Given as goal
 
 abbrev pub invariant-loop-n : goal.invariant-loop-n

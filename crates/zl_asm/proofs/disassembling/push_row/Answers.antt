@@ -1,5 +1,4 @@
-use Rattle.zl_code.proofs.Common.{◌≡◌, length, take, string_bytes, arith, length-take-le, reading_of}
-use Rattle.zl_asm.specs.Canonical.{tail_texts}
+use Rattle.zl_asm.proofs.Common.{◌≡◌, length, take, string_bytes, arith, length-take-le, reading_of, tail_texts}
 use Rattle.zl_asm.proofs.Joined.{row_written}
 use Rattle.zl_asm.proofs.disassembling.push_row.Goals as goal
 

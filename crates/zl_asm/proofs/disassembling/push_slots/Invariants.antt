@@ -1,5 +1,4 @@
-use Rattle.zl_code.proofs.Common.{◌≡◌, ◌++◌, take, string_bytes, flat_map}
-use Rattle.zl_asm.specs.Pieces.{slot_array_text}
+use Rattle.zl_asm.proofs.Common.{◌≡◌, ◌++◌, take, string_bytes, flat_map, slot_array_text}
 use Rattle.zl_asm.proofs.disassembling.push_slots.Given as goal
 
 abbrev pub invariant-loop-array : goal.invariant-loop-array

@@ -1,5 +1,4 @@
-use Rattle.zl_code.proofs.Common.{◌≡◌, ◌++◌, take, string_bytes, flat_map}
-use Rattle.zl_asm.specs.Pieces.{start_text}
+use Rattle.zl_asm.proofs.Common.{◌≡◌, ◌++◌, take, string_bytes, flat_map, start_text}
 use Rattle.zl_asm.proofs.disassembling.push_starts.Given as goal
 
 abbrev pub invariant-loop-start : goal.invariant-loop-start

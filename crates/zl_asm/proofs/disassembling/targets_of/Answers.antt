@@ -1,5 +1,4 @@
-use Rattle.zl_code.proofs.Common.{◌≡◌, ◌<◌, ◌||◌, ℕ, List, false, map, get_or, length, sym, ap, ◌∙◌, arith, length-map, get_or-map, instr_bytes}
-use Rattle.zl_asm.specs.Canonical.{aims_at}
+use Rattle.zl_asm.proofs.Common.{◌≡◌, ◌<◌, ◌||◌, ℕ, List, false, map, get_or, length, sym, ap, ◌∙◌, arith, length-map, get_or-map, instr_bytes, aims_at}
 use Rattle.zl_asm.proofs.Laid.{targets_more}
 use Rattle.zl_asm.proofs.disassembling.targets_of.Goals as goal
 

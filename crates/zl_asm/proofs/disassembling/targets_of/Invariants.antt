@@ -1,5 +1,4 @@
-use Rattle.zl_code.proofs.Common.{length, map, take, instr_bytes}
-use Rattle.zl_asm.specs.Pieces.{TargetsAre}
+use Rattle.zl_asm.proofs.Common.{length, map, take, instr_bytes, TargetsAre}
 use Rattle.zl_asm.proofs.disassembling.targets_of.Given as goal
 
 abbrev pub invariant-loop-instr : goal.invariant-loop-instr

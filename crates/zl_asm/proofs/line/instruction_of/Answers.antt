@@ -1,12 +1,10 @@
-use Rattle.zl_code.proofs.Common.{◌≡◌, take, drop, Option, List, ℕ, ap, sym, ◌∙◌, option_map, row_named}
+use Rattle.zl_asm.proofs.Common.{◌≡◌, take, drop, Option, List, ℕ, ap, sym, ◌∙◌, row_named, operands_of, instruction_of, then_with, registers_of, tail_of, source_with, source_value, texts}
+use Rattle.zl_code.proofs.Common.{option_map}
 use Rattle.std.specs.Result.{result_ok}
 use Rattle.zl_asm.specs.declared.fault.AsmCause.TheVariants.{NoMemory}
-use Rattle.zl_asm.specs.Lines.{operands_of, instruction_of, then_with, registers_of, tail_of, source_with}
-use Rattle.zl_asm.specs.Values.{source_value}
 use Rattle.zl_asm.proofs.Answered.{value_if_ok, none_if_err}
 use Rattle.zl_asm.proofs.LineNames.{by_row}
 use Rattle.zl_asm.proofs.LineOperands.{Text}
-use Rattle.zl_asm.specs.Values.{texts}
 use Rattle.zl_asm.proofs.line.instruction_of.Goals as goal
 
 whole : (c : goal.After-source_of) → instruction_of c.args.name.now (texts c.args.words.now) ≡ option_map source_value (result_ok c.source_of.result)

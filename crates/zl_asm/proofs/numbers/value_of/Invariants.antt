@@ -1,5 +1,4 @@
-use Rattle.zl_code.proofs.Common.{◌≡◌, ◌^◌, ◌<◌, true, take, list_all}
-use Rattle.zl_asm.specs.Words.{value_of, is_digit}
+use Rattle.zl_asm.proofs.Common.{◌≡◌, ◌^◌, ◌<◌, true, take, list_all, value_of, is_digit}
 use Rattle.zl_asm.proofs.numbers.value_of.Given as goal
 
 abbrev pub invariant-loop-byte : goal.invariant-loop-byte

@@ -1,4 +1,4 @@
-use Rattle.zl_asm.specs.Values.{tail_value}
+use Rattle.zl_asm.proofs.Common.{tail_value}
 use Rattle.zl_asm.proofs.LineOperands.{assembled}
 use Rattle.zl_asm.proofs.operands.source_of.Goals as goal
 

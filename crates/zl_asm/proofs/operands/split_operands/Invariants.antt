@@ -1,5 +1,5 @@
-use Rattle.zl_code.proofs.Common.{◌≡◌, ◌++◌, length, map, option_map}
-use Rattle.zl_asm.specs.Lines.{operands_of, operands_after}
+use Rattle.zl_asm.proofs.Common.{◌≡◌, ◌++◌, length, map, operands_of, operands_after}
+use Rattle.zl_code.proofs.Common.{option_map}
 use Rattle.zl_asm.proofs.operands.split_operands.Given as goal
 
 abbrev pub invariant-loop-rest : goal.invariant-loop-rest

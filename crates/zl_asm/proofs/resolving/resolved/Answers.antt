@@ -1,5 +1,4 @@
-use Rattle.zl_code.proofs.Common.{Some, sym, ap, ◌∙◌}
-use Rattle.std.specs.Option.{option_copied}
+use Rattle.zl_asm.proofs.Common.{Some, sym, ap, ◌∙◌, option_copied}
 use Rattle.zl_asm.proofs.DraftGives.{resolved_by}
 use Rattle.zl_asm.proofs.resolving.resolved.Goals as goal
 

@@ -1,6 +1,5 @@
-use Rattle.zl_code.proofs.Common.{◌<◌, ◌≢◌, get_or, map, length, arith, map-append}
+use Rattle.zl_asm.proofs.Common.{◌<◌, ◌≢◌, get_or, map, length, arith, map-append, words_of}
 use Rattle.std.proofs.lemmas.Result.{IfOk-equal}
-use Rattle.zl_asm.specs.Words.{words_of}
 use Rattle.zl_asm.proofs.WordsSplit.{after_semicolon, after_space, after_comma, after_letter, at_line_end}
 use Rattle.zl_asm.proofs.words.split_words.Goals as goal
 use Rattle.zl_asm.proofs.words.split_words.Goals.{in-32+in_ok-push_word-in-32, in-44+in_ok-push_word-in-44+in_ok-push-in-44, in_default}

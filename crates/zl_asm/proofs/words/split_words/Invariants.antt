@@ -1,5 +1,4 @@
-use Rattle.zl_code.proofs.Common.{◌≡◌, ◌-◌, ◌≤◌, ◌++◌, map, take, drop}
-use Rattle.zl_asm.specs.Words.{words_from, words_of}
+use Rattle.zl_asm.proofs.Common.{◌≡◌, ◌-◌, ◌≤◌, ◌++◌, map, take, drop, words_from, words_of}
 use Rattle.zl_asm.proofs.words.split_words.Given as goal
 
 abbrev pub invariant-loop-i : goal.invariant-loop-i

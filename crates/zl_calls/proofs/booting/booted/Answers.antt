@@ -1,6 +1,5 @@
-use Rattle.zl_code.proofs.Common.{◌∙◌, ap, subst, get_or, List, boot_fault}
+use Rattle.zl_calls.proofs.Common.{◌∙◌, ap, subst, get_or, List, boot_fault, Makes, IsCauseOf, seen}
 use Rattle.zl_code.specs.declared.boot.Statement.{Statement}
-use Rattle.zl_calls.specs.Makes.{Makes, IsCauseOf, seen}
 use Rattle.zl_calls.proofs.BootRun.{none_made, one_more, first_fault, limit_fault, none_reached, some_reached}
 use Rattle.zl_calls.proofs.booting.booted.Goals as goal
 

@@ -1,4 +1,4 @@
-use Rattle.zl_code.proofs.Common.{take}
+use Rattle.zl_calls.proofs.Common.{take}
 use Rattle.zl_calls.proofs.BootRun.{IsMadeBy}
 use Rattle.zl_calls.proofs.booting.booted.Given as goal
 

@@ -1,4 +1,4 @@
-use Rattle.zl_code.proofs.Common.{refl}
+use Rattle.zl_calls.proofs.Common.{refl}
 use Rattle.zl_calls.proofs.BootFaults.{past_default}
 use Rattle.zl_calls.proofs.booting.rights_given.Goals as goal
 

@@ -1,4 +1,4 @@
-use Rattle.zl_code.proofs.Common.{bits}
+use Rattle.zl_calls.proofs.Common.{bits}
 use Rattle.zl_calls.proofs.Tables.{empty_refuses}
 use Rattle.zl_calls.proofs.calls.look_up.Goals as goal
 

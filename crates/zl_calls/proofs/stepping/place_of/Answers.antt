@@ -1,7 +1,6 @@
-use Rattle.zl_code.proofs.Common.{rules, ◌∙◌}
+use Rattle.zl_calls.proofs.Common.{rules, ◌∙◌, process_value}
 use Rattle.std.proofs.lemmas.List.Sorted.{answers_always}
 use Rattle.zl_calls.specs.declared.process.Process.{Process}
-use Rattle.zl_calls.specs.World.{process_value}
 use Rattle.zl_calls.proofs.Searching.{searched}
 use Rattle.zl_calls.proofs.Written.{place_is}
 use Rattle.zl_calls.proofs.stepping.place_of.Goals as goal

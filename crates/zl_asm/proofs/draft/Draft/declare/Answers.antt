@@ -1,7 +1,5 @@
-use Rattle.zl_code.proofs.Common.{inr, sym, subst}
+use Rattle.zl_asm.proofs.Common.{inr, sym, subst, Declares, held_by, Holds}
 use Rattle.zl_asm.specs.declared.directive.Directive.{Directive}
-use Rattle.zl_asm.specs.Lines.{Declares}
-use Rattle.zl_asm.specs.Draft.{held_by, Holds}
 use Rattle.zl_asm.proofs.DraftHolds.{need_held}
 use Rattle.zl_asm.proofs.DraftRefuses.{behind_refused}
 use Rattle.zl_asm.proofs.draft.Draft.declare.Goals as goal

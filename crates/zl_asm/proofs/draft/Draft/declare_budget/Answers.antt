@@ -1,4 +1,4 @@
-use Rattle.zl_asm.specs.Draft.{held_by}
+use Rattle.zl_asm.proofs.Common.{held_by}
 use Rattle.zl_asm.proofs.DraftHolds.{budget_held}
 use Rattle.zl_asm.proofs.DraftRefuses.{budget_refused}
 use Rattle.zl_asm.proofs.draft.Draft.declare_budget.Goals as goal

@@ -1,5 +1,4 @@
-use Rattle.zl_code.proofs.Common.{sym}
-use Rattle.zl_asm.specs.Draft.{held_by}
+use Rattle.zl_asm.proofs.Common.{sym, held_by}
 use Rattle.zl_asm.proofs.DraftHolds.{mark_held}
 use Rattle.zl_asm.proofs.DraftRefuses.{mark_refused}
 use Rattle.zl_asm.proofs.draft.Draft.declare_mark.Goals as goal

@@ -1,4 +1,4 @@
-use Rattle.zl_asm.specs.Draft.{held_by}
+use Rattle.zl_asm.proofs.Common.{held_by}
 use Rattle.zl_asm.proofs.DraftHolds.{memory_held}
 use Rattle.zl_asm.proofs.DraftRefuses.{memory_refused}
 use Rattle.zl_asm.proofs.draft.Draft.declare_memory.Goals as goal

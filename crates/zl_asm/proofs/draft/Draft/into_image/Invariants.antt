@@ -1,5 +1,4 @@
-use Rattle.zl_code.proofs.Common.{◌-◌, length}
-use Rattle.zl_asm.specs.Draft.{held_by}
+use Rattle.zl_asm.proofs.Common.{◌-◌, length, held_by}
 use Rattle.zl_asm.proofs.DraftGives.{Resolves}
 use Rattle.zl_asm.proofs.draft.Draft.into_image.Given as goal
 

@@ -1,6 +1,5 @@
-use Rattle.zl_code.proofs.Common.{ap, map}
+use Rattle.zl_asm.proofs.Common.{ap, map, source_value}
 use Rattle.zl_asm.specs.declared.draft.SourceLine.{SourceLine}
-use Rattle.zl_asm.specs.Values.{source_value}
 use Rattle.zl_asm.proofs.DraftHolds.{nothing_held}
 use Rattle.zl_asm.proofs.draft.Draft.new.Goals as goal
 

@@ -1,8 +1,6 @@
-use Rattle.zl_code.proofs.Common.{arith, inr, sym, ap, ◌∙◌, is_some, refl, length-map}
-use Rattle.zl_asm.specs.Draft.{held_by}
+use Rattle.zl_asm.proofs.Common.{arith, inr, sym, ap, ◌∙◌, is_some, refl, length-map, held_by, source_value}
 use Rattle.zl_asm.proofs.Labels.{lookup_is}
 use Rattle.zl_asm.specs.declared.draft.SourceLine.{SourceLine}
-use Rattle.zl_asm.specs.Values.{source_value}
 use Rattle.zl_asm.proofs.DraftAdds.{label_added, none_by}
 use Rattle.zl_asm.proofs.DraftRefuses.{label_refused}
 use Rattle.indexmap.proofs.CallerLemmas.{insert_entry-new}

@@ -1,7 +1,4 @@
-use Rattle.zl_code.proofs.Common.{◌≡◌, true, not, inr, sym, ap, ◌∙◌, arith, refl, length-map}
-use Rattle.zl_asm.specs.Draft.{held_by}
-use Rattle.std.specs.Option.{is_none}
-use Rattle.zl_asm.specs.Values.{source_value}
+use Rattle.zl_asm.proofs.Common.{◌≡◌, true, not, inr, sym, ap, ◌∙◌, arith, refl, length-map, held_by, is_none, source_value}
 use Rattle.zl_asm.specs.declared.draft.SourceLine.{SourceLine}
 use Rattle.zl_asm.proofs.DraftAdds.{source_added, none_shown}
 use Rattle.zl_asm.proofs.DraftRefuses.{count_refused, fault_refused, fault_found}

@@ -1,8 +1,5 @@
-use Rattle.zl_code.proofs.Common.{◌≡◌, true, ap, ◌∙◌, map, Some}
-use Rattle.zl_asm.specs.Words.{is_ascii}
-use Rattle.zl_asm.specs.Values.{line_value}
+use Rattle.zl_asm.proofs.Common.{◌≡◌, true, ap, ◌∙◌, map, Some, is_ascii, line_value, held_by}
 use Rattle.zl_asm.specs.declared.line.Line.{Line}
-use Rattle.zl_asm.specs.Draft.{held_by}
 use Rattle.zl_asm.proofs.DraftHolds.{blank_held}
 use Rattle.zl_asm.proofs.DraftLines.{said_by, read_by, said_in_range}
 use Rattle.zl_asm.proofs.draft.Draft.read_line.Goals as goal

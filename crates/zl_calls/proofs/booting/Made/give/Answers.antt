@@ -1,7 +1,6 @@
-use Rattle.zl_code.proofs.Common.{◌≡◌, ◌∙◌, ◌<◌, ap, sym, arith, None, length, take, take_more, take_all, get_or, World}
+use Rattle.zl_calls.proofs.Common.{◌≡◌, ◌∙◌, ◌<◌, ap, sym, arith, None, length, take, take_more, take_all, get_or, seen, allowed}
+use Rattle.zl_code.proofs.Common.{World}
 use Rattle.zl_code.specs.declared.boot.Grant.{Grant}
-use Rattle.zl_calls.specs.Makes.{seen}
-use Rattle.zl_calls.specs.Gives.{allowed}
 use Rattle.zl_calls.proofs.BootGiving.{none_given, turn_given, all_given, one_allowed}
 use Rattle.zl_calls.proofs.booting.Made.give.Goals as goal
 

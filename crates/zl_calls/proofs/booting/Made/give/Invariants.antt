@@ -1,5 +1,4 @@
-use Rattle.zl_code.proofs.Common.{take}
-use Rattle.zl_calls.specs.Gives.{Gives}
+use Rattle.zl_calls.proofs.Common.{take, Gives}
 use Rattle.zl_calls.proofs.booting.Made.give.Given as goal
 
 abbrev pub invariant-loop-number : goal.invariant-loop-number

@@ -1,4 +1,4 @@
-use Rattle.zl_code.proofs.Common.{◌≡◌, ◌+◌, ◌-◌, ℕ, refl, arith}
+use Rattle.zl_calls.proofs.Common.{◌≡◌, ◌+◌, ◌-◌, ℕ, refl, arith}
 use Rattle.zl_calls.proofs.BootLab.{none_swept, one_swept, swept_lab, swept_settles}
 use Rattle.zl_calls.proofs.booting.Made.settle.Goals as goal
 

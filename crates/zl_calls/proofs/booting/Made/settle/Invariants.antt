@@ -1,4 +1,4 @@
-use Rattle.zl_code.proofs.Common.{◌≡◌}
+use Rattle.zl_calls.proofs.Common.{◌≡◌}
 use Rattle.zl_calls.proofs.BootLab.{IsSwept}
 use Rattle.zl_calls.proofs.booting.Made.settle.Given as goal
 

@@ -1,4 +1,4 @@
-use Rattle.zl_code.proofs.Common.{refl}
+use Rattle.zl_calls.proofs.Common.{refl}
 use Rattle.zl_calls.proofs.Tables.{too_large}
 use Rattle.zl_calls.proofs.calls.event.signals_within.Goals as goal
 

@@ -1,6 +1,5 @@
-use Rattle.zl_code.proofs.Common.{◌≡◌, ap, ◌∙◌, rules}
+use Rattle.zl_calls.proofs.Common.{◌≡◌, ap, ◌∙◌, rules, process_ended, Closes}
 use Rattle.zl_calls.specs.declared.process.Process.{Process}
-use Rattle.zl_calls.specs.Objects.{process_ended, Closes}
 use Rattle.zl_calls.proofs.Tables.{drained_is_shorter, drained_closes, all_closed}
 use Rattle.zl_calls.proofs.calls.process.end.Goals as goal
 

@@ -1,5 +1,4 @@
-use Rattle.zl_code.proofs.Common.{length}
-use Rattle.zl_calls.specs.Objects.{Objects, Closes}
+use Rattle.zl_calls.proofs.Common.{length, Objects, Closes}
 use Rattle.zl_calls.proofs.calls.process.end.Given as goal
 
 abbrev pub invariant-loop-entry : goal.invariant-loop-entry

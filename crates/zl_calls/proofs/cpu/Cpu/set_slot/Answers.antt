@@ -1,4 +1,4 @@
-use Rattle.zl_code.proofs.Common.{ℕ, List, ap, slice_set}
+use Rattle.zl_calls.proofs.Common.{ℕ, List, ap, slice_set}
 use Rattle.std.specs.Vec.{with_item}
 use Rattle.zl_calls.proofs.Slots.{slot_written}
 use Rattle.zl_calls.proofs.cpu.Cpu.set_slot.Goals as goal

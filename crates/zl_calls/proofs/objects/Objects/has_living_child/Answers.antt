@@ -1,8 +1,7 @@
-use Rattle.zl_code.proofs.Common.{rules, ◌∙◌}
+use Rattle.zl_calls.proofs.Common.{rules, ◌∙◌, lives_below}
 use Rattle.std.proofs.lemmas.Iterator.Consumers.{YieldsList-from_rest}
 use Rattle.std.proofs.lemmas.Iterator.Search.{any_from_yields_List}
 use Rattle.std.specs.BTreeMap.{values}
-use Rattle.zl_calls.specs.Objects.{lives_below}
 use Rattle.zl_calls.proofs.ByKoid.{living_child}
 use Rattle.zl_calls.proofs.objects.Objects.has_living_child.Goals as goal
 

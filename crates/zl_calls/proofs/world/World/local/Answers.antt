@@ -1,6 +1,6 @@
 use Rattle.zl_calls.proofs.Places.{absent_is_not_ready}
 use Rattle.zl_calls.proofs.Performing.{moves_on, is_stuck}
-use Rattle.zl_calls.specs.World.{world_value}
+use Rattle.zl_calls.proofs.Common.{world_value}
 use Rattle.zl_calls.proofs.world.World.local.Goals as goal
 
 pub unreachable-requires : goal.unreachable-requires

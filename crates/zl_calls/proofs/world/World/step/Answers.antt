@@ -1,4 +1,4 @@
-use Rattle.zl_code.proofs.Common.{sym, ◌∙◌}
+use Rattle.zl_calls.proofs.Common.{sym, ◌∙◌}
 use Rattle.zl_calls.proofs.Performing.{lab_value}
 use Rattle.zl_calls.proofs.Turns.{absent, not_ready, takes_call, takes_local, takes_end}
 use Rattle.zl_calls.proofs.world.World.step.Goals as goal

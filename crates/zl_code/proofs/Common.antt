@@ -3,3 +3,17 @@ pub use Rattle.zl_rights.proofs.Common.{All, All-nil, Blocked, Body, Bool, Chann
 unfoldable pub use Rattle.zl_rights.proofs.Common.{answered, each, fired, get, has_living_child, in_queue, in_table, is_held, is_process, put, update, wakes, where_key, without, without_others}
 pub use Rattle.zl_code.specs.Common.{Acts, AtCall, Boots, Calls, Choice, FirstFault, HandlesAreNamed, HandlesAreSound, HasGivenKoids, Image, IsBoot, IsLegalHistory, IsSound, IsStuck, Layout, Library, MOST_ITEMS, Moves, Next, Program, Reading, Refused, Request, Row, Site, Spells, Step, Values, WantsMemory, answer_if, any, are_needs, are_registers, at_limit, at_statement, body_in, body_of, by_look_up, bytes_of, call_name, calls_at, close, copy_of, cpu_answered, dup, entry_at, event_create, first_some, grows, has_default_rights, in_order, instr_bytes, is_among, is_in_range, is_instr_in_range, is_job_body, is_slot_in_range, is_start_in_range, layout_of, may_boot, may_get, name_of, names_its_object, needs_byte, needs_named, needs_value, next_for, number_at, number_of, object_at, ok_outcome, operand_of, origin, pid_of, process_exit, process_with, process_without, raisable, reading_of, row_bytes, seven, signal, single, site, slot_bytes, spelling, start_bytes, table_of, taken, with_effect, with_rights}
 unfoldable pub use Rattle.zl_code.specs.Common.{boot_effect, boot_fault, call_parts, effect, ended, examined, first_fault, gives_ok, gives_refused, handle_operands, handles_to, has_koids, has_room, header_fault, insert_all, instr_fault, listed, local_effect, local_parts, may_choose, new_handles, on_process, operand, pieces, refusal, remove_all, replied, row_named, row_of, site_of, slot_fault, start_fault, taken_handles, with_object}
+pub use Rattle.std.proofs.Common.{MatchResult, T, add-zero, max, min, slice_index_or}
+pub use Rattle.std.proofs.lemmas.Bool.{le-ltb, ltb-false, not-false, or_parts}
+pub use Rattle.std.proofs.lemmas.List.{drop-drop, drop_all, get_or-take, get_or_past, map_more, take_rest}
+pub use Rattle.zl_code.specs.Boot.{IsBooted, MOST_GRANTS, MOST_KOIDS, MOST_PROCESSES, all_known, gives_no_handle, handle_given, handles_given, is_job, may_start_with, process_with_all, started_process, values_given, with_process}
+pub use Rattle.zl_code.specs.Effects.{gets_all, may_get_after, may_get_all, new_entry, object_changed, process_ended}
+unfoldable pub use Rattle.zl_code.specs.Effects.{on_object}
+pub use Rattle.zl_code.specs.Sound.{HasItsObject, IsSoundTable, KeepsProcesses, is_blocked, is_value}
+pub use Rattle.zl_code.specs.Spells.{Last, Numbers, Parts, Places, Room, allows, are_parts_in_range, are_places, ascend_from, code_pieces, count_at, ending_bytes, fault_by, has_length, has_rights, header, is_32_bits, is_call_in_range, is_ending_clear, is_header_in_range, is_last_in_range, is_local_in_range, is_needs_byte, is_packed, is_raw_at, is_room, is_unused_zero, kind_at, kind_byte, last_bytes, length_at, magic, names_registers, parts_bytes, registers_at, rights_allowed, slot_pieces, slots_at, start_pieces, starts_at}
+pub use Rattle.zl_code.specs.Tests.{Operand, action_of, by_policy, contains, ends_if_kill, faults, handles_in, operand_after, parent_of, seen_after, settable_of, unless_allowed}
+unfoldable pub use Rattle.zl_code.specs.Tests.{creates}
+pub use Rattle.zl_rights.proofs.MapLaws.{get-each, get-put, get-update, get-where_key-in, get-where_key-out}
+pub use Rattle.zl_rights.proofs.Settling.{Settles-by, Settles-exists, Settles-unique, is_held-larger, keys_of, settled_in, shrunk, stays}
+pub use Rattle.zl_rights.specs.Numbers.{READ, READABLE, SAME_RIGHTS, TERMINATED, USER_SIGNALS, kind_number, meets, takes}
+pub use Rattle.zl_rights.specs.World.{Awaited, Message, Packet, PacketAt, SignalOf}

@@ -1,6 +1,5 @@
 -- The pieces of an image, one after the other.
-use Rattle.zl_code.proofs.Common.{◌≡◌, ℕ, zero, suc, ◌+◌, ◌<◌, Bool, true, List, [], ◌∷◌, ◌++◌, length, get_or, take, map, Option, Some, None, refl, sym, ap, ◌∙◌, arith, list_all, and_from, map-append, take_more, list_all-append, first_some}
-use Rattle.std.proofs.lemmas.List.{map_more}
+use Rattle.zl_code.proofs.Common.{◌≡◌, ℕ, zero, suc, ◌+◌, ◌<◌, Bool, true, List, [], ◌∷◌, ◌++◌, length, get_or, take, map, Option, Some, None, refl, sym, ap, ◌∙◌, arith, list_all, and_from, map-append, take_more, list_all-append, first_some, map_more}
 use Rattle.zl_code.specs.declared.image.DecodeFault.{DecodeFault}
 
 first_of-none : (fault : Option DecodeFault) (rest : List (Option DecodeFault)) → first_some (fault ∷ rest) ≡ None → (fault ≡ None) × (first_some rest ≡ None)

@@ -1,13 +1,11 @@
 -- The eight bytes of a declaration.
-use Rattle.zl_code.proofs.Common.{◌≡◌, ◌≢◌, ℕ, ◌<◌, ◌≤◌, Bool, true, false, List, [], ◌∷◌, ◌++◌, length, take, drop, Option, Some, None, ◌==◌, ◌&&◌, not, refl, sym, ap, ◌∙◌, arith, slice_index, nat_lt, nat_le, bit_and, list_all, and_parts, and_from, eqb-true, ne_eqb, leb-true, length-drop, take_all, then_some, bits, rights_of, within, number_of, number_at, bytes_of, start_bytes, slot_bytes, is_start_in_range, is_slot_in_range, start_fault, slot_fault}
+use Rattle.zl_code.proofs.Common.{◌≡◌, ◌≢◌, ℕ, ◌<◌, ◌≤◌, Bool, true, false, List, [], ◌∷◌, ◌++◌, length, take, drop, Option, Some, None, ◌==◌, ◌&&◌, not, refl, sym, ap, ◌∙◌, arith, slice_index, nat_lt, nat_le, bit_and, list_all, and_parts, and_from, eqb-true, ne_eqb, leb-true, length-drop, take_all, then_some, bits, rights_of, within, number_of, number_at, bytes_of, start_bytes, slot_bytes, is_start_in_range, is_slot_in_range, start_fault, slot_fault, kind_number, kind_byte, kind_at, rights_allowed, allows, has_rights, has_length}
 use Rattle.std.proofs.lemmas.Nat.{and_le_l}
 use Rattle.zl_rights.specs.declared.kind.Kind.{Kind}
 use Rattle.zl_rights.specs.declared.kind.Kind.TheVariants as kind
-use Rattle.zl_rights.specs.Numbers.{kind_number}
 use Rattle.zl_code.specs.declared.image.DecodeFault.TheVariants as faults
 use Rattle.zl_code.specs.declared.image.Start.{Start}
 use Rattle.zl_code.specs.declared.image.SlotArray.{SlotArray}
-use Rattle.zl_code.specs.Spells.{kind_byte, kind_at, rights_allowed, allows, has_rights, has_length}
 use Rattle.zl_code.proofs.ImageBytes.{IsBytes, bytes_of-number_at, number_of-bytes_of, parts_at}
 
 pub has_rights_allowed : (bytes : List ℕ) (k : Option Kind) (b : Bool) → kind_at (slice_index bytes 0) ≡ Some k → within (number_at bytes 4 4) (rights_allowed k) ≡ b → has_rights bytes ≡ b

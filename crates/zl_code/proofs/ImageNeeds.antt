@@ -1,10 +1,9 @@
 -- The byte of the needs.
-use Rattle.zl_code.proofs.Common.{◌≡◌, ℕ, ◌<◌, ◌/◌, ◌%◌, Bool, true, false, ◌==◌, ◌||◌, not, if◌then◌else◌, List, [], ◌∷◌, refl, ap, ◌∙◌, nat_lt, map, and_parts, eqb-true, ltb-true, condition_number, is_among, needs_named, needs_value, needs_byte, are_needs}
+use Rattle.zl_code.proofs.Common.{◌≡◌, ℕ, ◌<◌, ◌/◌, ◌%◌, Bool, true, false, ◌==◌, ◌||◌, not, if◌then◌else◌, List, [], ◌∷◌, refl, ap, ◌∙◌, nat_lt, map, and_parts, eqb-true, ltb-true, condition_number, is_among, needs_named, needs_value, needs_byte, are_needs, is_needs_byte, ascend_from}
 use Rattle.zl_rights.specs.declared.policy.Condition.{Condition}
 use Rattle.zl_rights.specs.declared.policy.Condition.TheVariants as condition
 use Rattle.zl_code.specs.declared.image.Needs.{Needs}
 use Rattle.zl_code.specs.Image.{need_if}
-use Rattle.zl_code.specs.Spells.{is_needs_byte, ascend_from}
 use Rattle.zl_code.proofs.Below.{all_below, below}
 
 -- the needs whose bits are in the byte

@@ -1,12 +1,11 @@
 -- Each instruction in turn: its 16 bytes have no fault, and it is read from them again.
-use Rattle.zl_code.proofs.Common.{◌≡◌, ℕ, ◌+◌, ◌*◌, ◌≤◌, Bool, true, List, [], ◌∷◌, length, Option, Some, None, ◌==◌, ◌&&◌, not, refl, ap, ◌∙◌, arith, is_some, slice_index, nat_lt, nat_le, drop, if◌then◌else◌, list_all, and_parts, ltb-true, leb-true, eqb-true, Layout, layout_of, row_of, local_parts, call_parts, instr_fault, instr_bytes, bytes_of, number_of, number_at, is_instr_in_range, are_registers}
+use Rattle.zl_code.proofs.Common.{◌≡◌, ℕ, ◌+◌, ◌*◌, ◌≤◌, Bool, true, List, [], ◌∷◌, length, Option, Some, None, ◌==◌, ◌&&◌, not, refl, ap, ◌∙◌, arith, is_some, slice_index, nat_lt, nat_le, drop, if◌then◌else◌, list_all, and_parts, ltb-true, leb-true, eqb-true, Layout, layout_of, row_of, local_parts, call_parts, instr_fault, instr_bytes, bytes_of, number_of, number_at, is_instr_in_range, are_registers, is_local_in_range, is_call_in_range, is_room, are_places, is_packed, is_32_bits}
 use Rattle.zl_code.specs.declared.instr.Instr.{Instr}
 use Rattle.zl_code.specs.declared.instr.Instr.TheVariants as instr
 use Rattle.zl_code.specs.declared.instr.LocalInstr.{LocalInstr}
 use Rattle.zl_code.specs.declared.instr.LocalInstr.TheVariants as local
 use Rattle.zl_code.specs.declared.instr.CallInstr.{CallInstr}
 use Rattle.zl_code.specs.declared.instr.CallInstr.TheVariants as call
-use Rattle.zl_code.specs.Spells.{is_local_in_range, is_call_in_range, is_room, are_places, is_packed, is_32_bits}
 use Rattle.zl_code.proofs.ImageBytes.{number_of-bytes_of}
 use Rattle.zl_code.proofs.ImageInstr.{instr_fault-unknown}
 

@@ -1,5 +1,5 @@
 -- What holds of the 16 bytes of an instruction in range, and of 16 bytes without a fault.
-use Rattle.zl_code.proofs.Common.{◌≡◌, ℕ, zero, suc, ◌<◌, ◌%◌, Bool, true, false, List, [], ◌∷◌, ◌++◌, length, replicate, Some, None, ◌==◌, ◌&&◌, ◌||◌, not, nat_lt, refl, sym, ap, ◌∙◌, inl, inr, arith, slice_index, is_some, list_all, and_parts, eqb-true, ltb-true, cases_Bool, then_some, first_some, Layout, layout_of, local_parts, call_parts, seven, bytes_of, are_registers, is_instr_in_range, instr_bytes, instr_fault, reading_of, row_bytes}
+use Rattle.zl_code.proofs.Common.{◌≡◌, ℕ, zero, suc, ◌<◌, ◌%◌, Bool, true, false, List, [], ◌∷◌, ◌++◌, length, replicate, Some, None, ◌==◌, ◌&&◌, ◌||◌, not, nat_lt, refl, sym, ap, ◌∙◌, inl, inr, arith, slice_index, is_some, list_all, and_parts, eqb-true, ltb-true, cases_Bool, then_some, first_some, Layout, layout_of, local_parts, call_parts, seven, bytes_of, are_registers, is_instr_in_range, instr_bytes, instr_fault, reading_of, row_bytes, Parts, Last, Numbers, Room, Places, parts_bytes, last_bytes, are_places, is_packed, is_last_in_range, are_parts_in_range, fault_by, names_registers, is_unused_zero}
 use Rattle.zl_code.specs.declared.instr.Instr.{Instr}
 use Rattle.zl_code.specs.declared.instr.Instr.TheVariants as instr
 use Rattle.zl_code.specs.declared.instr.LocalInstr.{LocalInstr}
@@ -7,7 +7,6 @@ use Rattle.zl_code.specs.declared.instr.LocalInstr.TheVariants as local
 use Rattle.zl_code.specs.declared.instr.CallInstr.{CallInstr}
 use Rattle.zl_code.specs.declared.instr.CallInstr.TheVariants as call
 use Rattle.zl_code.specs.declared.image.DecodeFault.TheVariants as faults
-use Rattle.zl_code.specs.Spells.{Parts, Last, Numbers, Room, Places, parts_bytes, last_bytes, are_places, is_packed, is_last_in_range, are_parts_in_range, fault_by, names_registers, is_unused_zero}
 use Rattle.zl_code.proofs.ImageBytes.{IsBytes, IsBytes-take}
 use Rattle.zl_code.proofs.ImageTable.{instr_fits}
 use Rattle.zl_code.proofs.ImageInstr.{row_bytes-read}

@@ -1,9 +1,7 @@
 -- What each value of a map has, and the order of its keys, after a change.
-use Rattle.zl_code.proofs.Common.{◌≡◌, ℕ, inl, inr, Bool, true, false, ◌==◌, [], ◌∷◌, refl, ap, sym, subst, ◌∙◌, Option, Some, None, arith, eq-eqb, IsTrue, option_map, nat_cmp, below_all, cases_Bool, eqb-true, nat_tests, none-some, same_Some, Map, get, put, where_key, each, update, in_order}
-use Rattle.std.proofs.Common.{T}
+use Rattle.zl_code.proofs.Common.{◌≡◌, ℕ, inl, inr, Bool, true, false, ◌==◌, [], ◌∷◌, refl, ap, sym, subst, ◌∙◌, Option, Some, None, arith, eq-eqb, IsTrue, option_map, nat_cmp, below_all, cases_Bool, eqb-true, nat_tests, none-some, same_Some, Map, get, put, where_key, each, update, in_order, T, get-put, get-update, get-each, get-where_key-in, get-where_key-out}
 use Rattle.std.specs.Cmp.{nat_cmp_total}
 use Rattle.std.specs.FinMap.Entries.{is_sorted-put, is_sorted-where_key}
-use Rattle.zl_rights.proofs.MapLaws.{get-put, get-update, get-each, get-where_key-in, get-where_key-out}
 use Rattle.zl_rights.proofs.Canonical.{put-std}
 
 IsTrue-from_T : (b : Bool) → T b → IsTrue b

@@ -1,7 +1,6 @@
 -- Boot, its faults, and the run of a program that ends stuck, by computation.
-use Rattle.zl_code.proofs.Common.{◌≡◌, ℕ, arith, Bool, true, ◌&&◌, IsTrue, List, [], ◌∷◌, refl, replicate, map, take, Option, Some, None, not, is_some, and_parts, World, Ready, Ended, Library, Choice, Refused, IsLegalHistory, IsBoot, Boots, FirstFault, at_statement, at_limit, boot_fault, boot_effect, may_boot, origin}
+use Rattle.zl_code.proofs.Common.{◌≡◌, ℕ, arith, Bool, true, ◌&&◌, IsTrue, List, [], ◌∷◌, refl, replicate, map, take, Option, Some, None, not, is_some, and_parts, World, Ready, Ended, Library, Choice, Refused, IsLegalHistory, IsBoot, Boots, FirstFault, at_statement, at_limit, boot_fault, boot_effect, may_boot, origin, settled_in, Settles-by, started_process}
 use Rattle.std.specs.Prelude.{negsuc}
-use Rattle.zl_rights.proofs.Settling.{settled_in, Settles-by}
 use Rattle.zl_code.specs.declared.boot.BootCause.TheVariants as cause
 use Rattle.zl_code.specs.declared.boot.Statement.{Statement}
 use Rattle.zl_code.specs.declared.boot.Statement.TheVariants as statement
@@ -9,7 +8,6 @@ use Rattle.zl_code.specs.declared.instr.Instr.TheVariants as instr
 use Rattle.zl_code.specs.declared.instr.LocalInstr.TheVariants as local
 use Rattle.zl_code.specs.declared.history.TraceItem.{TraceItem}
 use Rattle.zl_code.specs.declared.history.TraceItem.TheVariants as item
-use Rattle.zl_code.specs.Boot.{started_process}
 use Rattle.zl_code.proofs.Running.{run_by, IsLegalHistory-by, computing, world_after}
 use Rattle.zl_code.proofs.RowsWords.{program_of, state_of, registers_of, event_with, FIRST_RIGHTS}
 

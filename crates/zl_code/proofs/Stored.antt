@@ -1,7 +1,6 @@
 -- The stored run: its bytes, its boot world and its history, by computation.
-use Rattle.zl_code.proofs.Common.{◌≡◌, ℕ, List, [], ◌∷◌, refl, Some, true, false, pos, World, Ended, Image, Library, Spells, local_parts, call_parts, Choice, Refused, Values, IsLegalHistory, IsBoot, boot_fault, boot_effect, origin}
+use Rattle.zl_code.proofs.Common.{◌≡◌, ℕ, List, [], ◌∷◌, refl, Some, true, false, pos, World, Ended, Image, Library, Spells, local_parts, call_parts, Choice, Refused, Values, IsLegalHistory, IsBoot, boot_fault, boot_effect, origin, settled_in, Settles-by}
 use Rattle.zl_rights.specs.declared.status.Status.TheVariants as status
-use Rattle.zl_rights.proofs.Settling.{settled_in, Settles-by}
 use Rattle.zl_code.specs.declared.boot.Statement.{Statement}
 use Rattle.zl_code.specs.declared.boot.Statement.TheVariants as statement
 use Rattle.zl_code.specs.declared.instr.Instr.TheVariants as instr

@@ -1,5 +1,4 @@
-use Rattle.zl_code.proofs.Common.{◌≡◌, ◌++◌, take, flat_map, start_bytes, slot_bytes, instr_bytes}
-use Rattle.zl_code.specs.Spells.{header}
+use Rattle.zl_code.proofs.Common.{◌≡◌, ◌++◌, take, flat_map, start_bytes, slot_bytes, instr_bytes, header}
 use Rattle.zl_code.proofs.encoding.encode.Given as goal
 
 abbrev pub invariant-loop-instr : goal.invariant-loop-instr

@@ -26,6 +26,9 @@ fn push_words<S: AsStr>(hint: &mut String, alloc: Global, words: &[S]) -> Result
     if LATER.contains(&word) {
         return write!(hint, "{word} isn't built yet");
     }
+    if word == "help" {
+        return hint.push_str("help knows the word asm alone");
+    }
     let shown = Word(word.as_bytes());
     if word.starts_with('-') {
         write!(hint, "no option is called {shown}")?;
@@ -49,24 +52,30 @@ fn push_words<S: AsStr>(hint: &mut String, alloc: Global, words: &[S]) -> Result
     Ok(())
 }
 
-/// Adds what is wrong with the words behind `asm`.
+/// Adds what is wrong with the words behind `asm`: those behind a word `--` are files.
 fn push_asm<S: AsStr>(hint: &mut String, words: &[S]) -> Result<(), AllocError> {
+    let mut are_files = false;
+    let mut count = 0usize;
     for word in words {
         let word = word.as_str();
-        if word.len() > 1 && word.starts_with('-') && word != "--" {
+        if word == "--" && !are_files {
+            are_files = true;
+            continue;
+        }
+        if word.len() > 1 && word.starts_with('-') && !are_files {
             return write!(hint, "asm has no option {}", Word(word.as_bytes()));
         }
-    }
-    match words {
-        [] => hint.push_str("asm takes two files, IN and OUT, and has none"),
-        [_] => hint.push_str("asm takes two files, IN and OUT, and has one"),
-        [_, _, third, ..] => {
-            write!(
+        count = count.saturating_add(1);
+        if count == 3 {
+            let third = Word(word.as_bytes());
+            return write!(
                 hint,
-                "asm takes two files, IN and OUT, and {} is a third word",
-                Word(third.as_str().as_bytes())
-            )
+                "asm takes two files, IN and OUT, and {third} is a third word"
+            );
         }
-        _ => Ok(()),
+    }
+    match count {
+        0 => hint.push_str("asm takes two files, IN and OUT, and has none"),
+        _ => hint.push_str("asm takes two files, IN and OUT, and has one"),
     }
 }

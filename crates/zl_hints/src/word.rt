@@ -13,7 +13,7 @@ pub struct Word<'a>(pub &'a [u8]);
 impl fmt::Display for Word<'_> {
     fn fmt<W: fmt::Write>(&self, f: &mut fmt::Formatter<W>) -> fmt::Result {
         for byte in self.0.iter().take(MOST_SHOWN) {
-            if byte.is_ascii_graphic() {
+            if byte.is_ascii_graphic() || *byte == b' ' {
                 f.write_char(char::from(*byte))?;
             } else {
                 write!(f, "\\x{byte:02x}")?;

@@ -1,7 +1,5 @@
 -- What an answer says of its value.
-use Rattle.zl_asm.proofs.Common.{◌≡◌, ◌⊎◌, inr, Option, Result, Ok, Err, Some, None, refl}
-use Rattle.zl_code.proofs.Common.{option_map}
-use Rattle.std.specs.Result.{IsErr, IfOk, IfErr, result_ok}
+use Rattle.zl_asm.proofs.Common.{◌≡◌, ◌⊎◌, inr, Option, Result, Ok, Err, Some, None, refl, option_map, IsErr, result_ok, IfOk, IfErr}
 
 -- a fault has no value
 pub no_answer : {T E : Type 0} (r : Result T E) → IsErr r → result_ok r ≡ None

@@ -20,3 +20,10 @@ unfoldable pub use Rattle.zl_asm.specs.Words.{digit_of, hex_bytes, is_name, is_w
 pub use Rattle.zl_code.proofs.ImageRanges.{Ranges, ranges}
 pub use Rattle.zl_code.specs.Instructions.{layout, row_among, rows}
 pub use Rattle.zl_code.specs.Spells.{are_places, is_ending_clear, is_packed, names_registers, registers_at, rights_allowed}
+pub use Rattle.std.proofs.Common.{take-add}
+pub use Rattle.std.proofs.Math.Seq.{take-suc, take-suc-set}
+pub use Rattle.std.specs.List.{concat, enumerate_from, onto_first}
+pub use Rattle.std.specs.Result.{IsErr, is_err, result_err, result_ok}
+pub use Rattle.zl_code.proofs.Common.{option_map}
+pub use Rattle.zl_code.proofs.ImageBytes.{IsBytes, bytes_of-number_at, list_all-from_IsBytes}
+pub use Rattle.zl_code.proofs.ImageNeeds.{needs_fit, needs_named-needs}

@@ -1,6 +1,5 @@
 -- One more label or instruction in the map and the vector of a draft.
-use Rattle.zl_asm.proofs.Common.{◌≡◌, ℕ, true, false, List, [], ◌∷◌, ◌++◌, length, Option, Some, None, is_some, refl, sym, ap, subst, ◌∙◌, true≢false, map-append, is_none, Label, Code, Source, position_of, source_value, Held, Holds, labels_shown, sources_shown}
-use Rattle.zl_code.proofs.Common.{option_map}
+use Rattle.zl_asm.proofs.Common.{◌≡◌, ℕ, true, false, List, [], ◌∷◌, ◌++◌, length, Option, Some, None, is_some, refl, sym, ap, subst, ◌∙◌, true≢false, map-append, is_none, Label, Code, Source, position_of, source_value, Held, Holds, labels_shown, sources_shown, option_map}
 use denote.Ref.{Bor}
 use Rattle.zl_asm.specs.declared.draft.SourceLine.{SourceLine}
 use Rattle.zl_asm.proofs.DraftHolds.{label_held, code_held}

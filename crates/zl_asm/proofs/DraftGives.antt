@@ -1,10 +1,8 @@
 -- From what a draft holds to the fields of an image.
-use Rattle.zl_asm.proofs.Common.{◌≡◌, ℕ, ◌+◌, ◌<◌, ◌≤◌, Bool, true, false, ◌&&◌, not, cond, leb, List, [], ◌∷◌, ◌++◌, length, map, take, drop, get_or, append_assoc, Option, Some, None, is_some, refl, sym, ap, ◌∙◌, arith, flat_map, list_all, Image, needs_named, slice_index, instr_bytes, instr_fault, is_in_range, number_at, bytes_of, le-leb, and_from, length-map, map-append, take_more, take_all, at_drop_more, list_all-append, get_or-map, registers_at, ranges, Line, Source, all_of, if_fits, Listing, mark_in, memory_in, budget_in, need_in, start_in, slots_in, source_in, given, labels_from, resolved, with_target, is_listing, listing_from, fields_of, source_value, Held, labels_shown, sources_shown, Pushes, Gives, GivesNone}
-use Rattle.zl_code.proofs.Common.{length-append, option_map}
+use Rattle.zl_asm.proofs.Common.{◌≡◌, ℕ, ◌+◌, ◌<◌, ◌≤◌, Bool, true, false, ◌&&◌, not, cond, leb, List, [], ◌∷◌, ◌++◌, length, map, take, drop, get_or, append_assoc, Option, Some, None, is_some, refl, sym, ap, ◌∙◌, arith, flat_map, list_all, Image, needs_named, slice_index, instr_bytes, instr_fault, is_in_range, number_at, bytes_of, le-leb, and_from, length-map, map-append, take_more, take_all, at_drop_more, list_all-append, get_or-map, registers_at, ranges, Line, Source, all_of, if_fits, Listing, mark_in, memory_in, budget_in, need_in, start_in, slots_in, source_in, given, labels_from, resolved, with_target, is_listing, listing_from, fields_of, source_value, Held, labels_shown, sources_shown, Pushes, Gives, GivesNone, option_map, take-add, IsBytes, bytes_of-number_at}
+use Rattle.zl_code.proofs.Common.{length-append}
 use denote.Ref.{Bor}
-use Rattle.std.proofs.Common.{take-add}
 use Rattle.std.specs.Map.{lookup}
-use Rattle.zl_code.proofs.ImageBytes.{IsBytes, bytes_of-number_at}
 use Rattle.std.proofs.lemmas.List.{take-append-drop}
 use Rattle.zl_asm.specs.declared.draft.SourceLine.{SourceLine}
 use Rattle.zl_asm.specs.declared.line.Source.{Source as ReadSource}

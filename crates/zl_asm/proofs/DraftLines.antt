@@ -1,6 +1,5 @@
 -- What a line says beside what a draft holds.
-use Rattle.zl_asm.proofs.Common.{◌≡◌, ℕ, Bool, true, false, ◌&&◌, cond, List, [], ◌∷◌, Option, Some, None, Result, Ok, Err, refl, sym, ap, subst, ◌∙◌, true≢false, codes, OnOk, starts_with, rights_of, is_start_in_range, is_slot_in_range, nat_eq, is_ascii, words_of, is_word, Line, Declares, Code, Source, if_fits, number_within, need_of, kind_of, start_with, slot_array_with, directive_of, instruction_of, unknown_of, label_of, alone, point_line, line_of, Held, Holds, Reads, line_said, is_directive_in_range}
-use Rattle.zl_code.proofs.Common.{option_map}
+use Rattle.zl_asm.proofs.Common.{◌≡◌, ℕ, Bool, true, false, ◌&&◌, cond, List, [], ◌∷◌, Option, Some, None, Result, Ok, Err, refl, sym, ap, subst, ◌∙◌, true≢false, codes, OnOk, starts_with, rights_of, is_start_in_range, is_slot_in_range, nat_eq, is_ascii, words_of, is_word, Line, Declares, Code, Source, if_fits, number_within, need_of, kind_of, start_with, slot_array_with, directive_of, instruction_of, unknown_of, label_of, alone, point_line, line_of, Held, Holds, Reads, line_said, is_directive_in_range, option_map}
 use Rattle.zl_rights.specs.declared.kind.Kind.{Kind}
 use Rattle.zl_code.specs.declared.image.Start.{Start}
 use Rattle.zl_code.specs.declared.image.SlotArray.{SlotArray}

@@ -1,6 +1,5 @@
 -- Which lines a draft refuses.
-use Rattle.zl_asm.proofs.Common.{◌≡◌, ℕ, ◌≤◌, Bool, true, false, List, [], ◌∷◌, length, Option, Some, None, is_some, Result, Ok, Err, refl, sym, ap, subst, ◌∙◌, true≢false, instr_fault, is_none, Declares, Label, Code, Source, position_of, Held, Refuses}
-use Rattle.std.specs.Result.{is_err, result_err}
+use Rattle.zl_asm.proofs.Common.{◌≡◌, ℕ, ◌≤◌, Bool, true, false, List, [], ◌∷◌, length, Option, Some, None, is_some, Result, Ok, Err, refl, sym, ap, subst, ◌∙◌, true≢false, instr_fault, is_none, Declares, Label, Code, Source, position_of, Held, Refuses, is_err, result_err}
 use Rattle.zl_code.specs.declared.image.Start.{Start}
 use Rattle.zl_code.specs.declared.image.SlotArray.{SlotArray}
 use Rattle.zl_asm.specs.declared.directive.Directive.{Directive}

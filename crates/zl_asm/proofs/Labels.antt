@@ -1,6 +1,5 @@
 -- The labels of a text: where they stand, and that no name stands twice.
-use Rattle.zl_asm.proofs.Common.{◌≡◌, ℕ, suc, ◌+◌, Bool, true, false, ◌&&◌, not, cond, List, [], ◌∷◌, ◌++◌, length, map, Option, Some, None, is_some, refl, sym, ap, ◌∙◌, true≢false, arith, flat_map, find, nat_eq, Line, Blank, Declares, Label, Code, source_in, labels_from, position_of, names_once}
-use Rattle.zl_code.proofs.Common.{option_map}
+use Rattle.zl_asm.proofs.Common.{◌≡◌, ℕ, suc, ◌+◌, Bool, true, false, ◌&&◌, not, cond, List, [], ◌∷◌, ◌++◌, length, map, Option, Some, None, is_some, refl, sym, ap, ◌∙◌, true≢false, arith, flat_map, find, nat_eq, Line, Blank, Declares, Label, Code, source_in, labels_from, position_of, names_once, option_map}
 use denote.Ref.{Bor}
 use Rattle.std.specs.Map.{lookup}
 use Rattle.std.specs.Cmp.Lexicographic.{pointwise, nat_list_eq_equiv}

@@ -1,11 +1,9 @@
 -- The text of an image, piece by piece.
-use Rattle.zl_asm.proofs.Common.{◌≡◌, ℕ, suc, ◌+◌, ◌<◌, Bool, true, false, ◌||◌, cond, List, [], ◌∷◌, ◌++◌, codes, length, map, take, drop, get_or, refl, sym, ap, ◌∙◌, arith, IsTrue, append_assoc, append-nil, flat_map, list_any, flat_map-append, take_more, at_drop_more, condition_name, bits, Image, is_among, needs_named, instr_bytes, is_in_range, ranges, kind_text, label_text, directive_lines, is_target, aims_at, label_lines, instr_text, code_lines_from, code_lines, text_of, ended, fields_text, need_text, needs_text, start_text, slot_array_text, directives_text, line_text, TargetsAre}
-use Rattle.std.specs.Fmt.{decimal}
+use Rattle.zl_asm.proofs.Common.{◌≡◌, ℕ, suc, ◌+◌, ◌<◌, Bool, true, false, ◌||◌, cond, List, [], ◌∷◌, ◌++◌, codes, length, map, take, drop, get_or, refl, sym, ap, ◌∙◌, arith, IsTrue, append_assoc, append-nil, flat_map, list_any, flat_map-append, take_more, at_drop_more, condition_name, bits, Image, is_among, needs_named, instr_bytes, is_in_range, ranges, kind_text, label_text, directive_lines, is_target, aims_at, label_lines, instr_text, code_lines_from, code_lines, text_of, ended, fields_text, need_text, needs_text, start_text, slot_array_text, directives_text, line_text, TargetsAre, needs_named-needs, decimal}
 use Rattle.zl_rights.specs.declared.policy.Condition.{Condition}
 use Rattle.zl_rights.specs.declared.policy.Condition.TheVariants as condition
 use Rattle.zl_code.specs.declared.image.Start.{Start}
 use Rattle.zl_code.specs.declared.image.SlotArray.{SlotArray}
-use Rattle.zl_code.proofs.ImageNeeds.{needs_named-needs}
 
 -- ---- instructions
 

@@ -1,6 +1,6 @@
 -- The name of a label, and the row of a mnemonic.
-use Rattle.zl_asm.proofs.Common.{◌≡◌, ◌≢◌, ℕ, ◌-◌, true, false, eqb, List, [], ◌∷◌, ◌++◌, length, take, drop, Option, Some, None, refl, sym, ap, ◌∙◌, arith, drop_at, take_at, nat_tests, Row, layout, is_word, is_name, if_fits, then_with, label_of, registers_of, tail_of, source_with, source_of}
-use Rattle.zl_code.proofs.Common.{length-append, option_map}
+use Rattle.zl_asm.proofs.Common.{◌≡◌, ◌≢◌, ℕ, ◌-◌, true, false, eqb, List, [], ◌∷◌, ◌++◌, length, take, drop, Option, Some, None, refl, sym, ap, ◌∙◌, arith, drop_at, take_at, nat_tests, Row, layout, is_word, is_name, if_fits, then_with, label_of, registers_of, tail_of, source_with, source_of, option_map}
+use Rattle.zl_code.proofs.Common.{length-append}
 use Rattle.zl_code.specs.declared.layout.Ending.{Ending}
 
 -- ---- labels

@@ -1,8 +1,7 @@
 -- The operands between the commas, and their registers, one word after the other.
-use Rattle.zl_asm.proofs.Common.{◌≡◌, ℕ, suc, ◌+◌, ◌-◌, ◌<◌, ◌≤◌, true, false, leb, eqb, List, [], ◌∷◌, ◌++◌, length, take, drop, get_or, set, replicate, Option, Some, None, refl, sym, ap, ◌∙◌, arith, append_assoc, append-nil, at_drop_more, at_drop_all, take_all, length-take, length-drop, length-map, nat_tests, seven, drop-replicate, take-map, drop-map, is_word, comma, register_of, texts, onto_all, operands_of, operands_after, all_of, registers_of, Tail, tail_of, places_of, source_with, then_with}
-use Rattle.zl_code.proofs.Common.{take-append-drop, option_map}
+use Rattle.zl_asm.proofs.Common.{◌≡◌, ℕ, suc, ◌+◌, ◌-◌, ◌<◌, ◌≤◌, true, false, leb, eqb, List, [], ◌∷◌, ◌++◌, length, take, drop, get_or, set, replicate, Option, Some, None, refl, sym, ap, ◌∙◌, arith, append_assoc, append-nil, at_drop_more, at_drop_all, take_all, length-take, length-drop, length-map, nat_tests, seven, drop-replicate, take-map, drop-map, is_word, comma, register_of, texts, onto_all, operands_of, operands_after, all_of, registers_of, Tail, tail_of, places_of, source_with, then_with, option_map, take-suc-set}
+use Rattle.zl_code.proofs.Common.{take-append-drop}
 use Rattle.std.proofs.Common.{Bor}
-use Rattle.std.proofs.Math.Seq.{take-suc-set}
 use Rattle.zl_code.specs.declared.layout.Ending.{Ending}
 use Rattle.zl_code.specs.declared.layout.Ending.TheVariants as ending
 use Rattle.zl_code.proofs.ImageCells.{seven_places}

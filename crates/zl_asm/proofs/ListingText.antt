@@ -1,7 +1,6 @@
 -- The lines of a whole text.
-use Rattle.zl_asm.proofs.Common.{◌≡◌, ℕ, ◌+◌, ◌<◌, Bool, true, false, ◌&&◌, cond, ltb, eqb, List, [], ◌∷◌, ◌++◌, length, take, drop, get_or, Option, Some, None, Result, Ok, Err, ◌⊎◌, refl, sym, ap, ◌∙◌, arith, inl, inr, IsTrue, IfOk, IfErr, list_all, eqb-true, at_drop_more, Image, is_in_range, MatchResult, lines_of, words_of, is_ascii, Line, line_of, all_of, onto_all, then_with, listing_from, lines_said, listing_of, Denotes, fields_of, Held, IsHeldOf, Reads, Stops, ReadsAll, Gives, GivesNone, line_said}
+use Rattle.zl_asm.proofs.Common.{◌≡◌, ℕ, ◌+◌, ◌<◌, Bool, true, false, ◌&&◌, cond, ltb, eqb, List, [], ◌∷◌, ◌++◌, length, take, drop, get_or, Option, Some, None, Result, Ok, Err, ◌⊎◌, refl, sym, ap, ◌∙◌, arith, inl, inr, IsTrue, IfOk, IfErr, list_all, eqb-true, at_drop_more, Image, is_in_range, MatchResult, lines_of, words_of, is_ascii, Line, line_of, all_of, onto_all, then_with, listing_from, lines_said, listing_of, Denotes, fields_of, Held, IsHeldOf, Reads, Stops, ReadsAll, Gives, GivesNone, line_said, enumerate_from, onto_first}
 use Rattle.zl_code.proofs.Common.{take-append-drop}
-use Rattle.std.specs.List.{enumerate_from, onto_first}
 use Rattle.std.proofs.lemmas.List.FromFn.{length-enumerate_from, get_or-enumerate_from}
 use Rattle.zl_asm.specs.declared.fault.AsmFault.{AsmFault}
 use Rattle.zl_asm.specs.declared.fault.AsmCause.TheVariants.{NoMemory}

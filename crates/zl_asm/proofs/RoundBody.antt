@@ -1,7 +1,6 @@
 -- The lines of labels and instructions say those labels and instructions.
-use Rattle.zl_asm.proofs.Common.{◌≡◌, ℕ, suc, ◌+◌, ◌-◌, ◌^◌, ◌<◌, ◌≤◌, Bool, true, false, List, [], ◌∷◌, ◌++◌, length, codes, Option, Some, None, refl, ap, ◌∙◌, arith, if◌then◌else◌, slice_index, list_all, and_from, take_at, drop_at, list_all-append, Row, row_of, reading_of, is_word, words_of, is_name, Label, Code, label_of, line_of, label_text, is_target, hex_text, row_text, instr_text, operand_texts, code_lines_from}
+use Rattle.zl_asm.proofs.Common.{◌≡◌, ℕ, suc, ◌+◌, ◌-◌, ◌^◌, ◌<◌, ◌≤◌, Bool, true, false, List, [], ◌∷◌, ◌++◌, length, codes, Option, Some, None, refl, ap, ◌∙◌, arith, if◌then◌else◌, slice_index, list_all, and_from, take_at, drop_at, list_all-append, Row, row_of, reading_of, is_word, words_of, is_name, Label, Code, label_of, line_of, label_text, is_target, hex_text, row_text, instr_text, operand_texts, code_lines_from, list_all-from_IsBytes}
 use Rattle.std.proofs.lemmas.List.{length-append}
-use Rattle.zl_code.proofs.ImageBytes.{list_all-from_IsBytes}
 use Rattle.zl_asm.proofs.RoundWords.{is_plain, is_plain_word, words_of-alone}
 use Rattle.zl_asm.proofs.RoundNumbers.{plain-label, is_name-label}
 use Rattle.zl_asm.proofs.RoundHex.{plain_word-hex}

@@ -1,5 +1,5 @@
 -- The lines of the directives of an image are read as its fields.
-use Rattle.zl_asm.proofs.Common.{◌≡◌, ℕ, ◌/◌, ◌%◌, ◌^◌, ◌<◌, ◌≤◌, Bool, true, false, ◌&&◌, ◌==◌, List, [], ◌∷◌, ◌++◌, map, codes, decimal, Option, Some, None, refl, ap, subst, ◌∙◌, nat_lt, nat_le, arith, bit_and, list_all, and_parts, leb-true, ltb-true, le-leb, eqb-true, condition_name, bits, within, is_start_in_range, is_slot_in_range, are_needs, needs_byte, rights_allowed, is_word, words_from, words_of, Declares, kind_of, directive_of, line_of, kind_text}
+use Rattle.zl_asm.proofs.Common.{◌≡◌, ℕ, ◌/◌, ◌%◌, ◌^◌, ◌<◌, ◌≤◌, Bool, true, false, ◌&&◌, ◌==◌, List, [], ◌∷◌, ◌++◌, map, codes, decimal, Option, Some, None, refl, ap, subst, ◌∙◌, nat_lt, nat_le, arith, bit_and, list_all, and_parts, leb-true, ltb-true, le-leb, eqb-true, condition_name, bits, within, is_start_in_range, is_slot_in_range, are_needs, needs_byte, rights_allowed, is_word, words_from, words_of, Declares, kind_of, directive_of, line_of, kind_text, needs_fit}
 use Rattle.std.proofs.lemmas.Nat.{and_le_l}
 use Rattle.zl_rights.specs.declared.kind.Kind.{Kind}
 use Rattle.zl_rights.specs.declared.kind.Kind.TheVariants as kind
@@ -9,7 +9,6 @@ use Rattle.zl_rights.specs.Names.{kind_named, condition_named}
 use Rattle.zl_code.specs.declared.image.Start.{Start}
 use Rattle.zl_code.specs.declared.image.SlotArray.{SlotArray}
 use Rattle.zl_code.specs.Image.{need_if}
-use Rattle.zl_code.proofs.ImageNeeds.{needs_fit}
 use Rattle.zl_asm.specs.declared.directive.Directive.TheVariants as directive
 use Rattle.zl_asm.proofs.RoundWords.{is_plain_word, words_of-space, words_of-alone}
 use Rattle.zl_asm.proofs.RoundNumbers.{number_of-decimal, plain-decimal}

@@ -1,9 +1,7 @@
 -- The line of an instruction is read as its bytes.
-use Rattle.zl_asm.proofs.Common.{◌≡◌, ℕ, zero, suc, ◌+◌, ◌^◌, ◌<◌, Bool, true, false, ◌==◌, List, [], ◌∷◌, ◌++◌, length, take, drop, codes, Option, Some, None, refl, ap, ◌∙◌, arith, slice_index, list_all, starts_with, and_parts, length-take, length-drop, get_or-drop, Row, layout_of, row_of, row_named, reading_of, row_bytes, instr_fault, eq-eqb, layout, is_ending_clear, is_word, words_of, Code, Source, line_of, source_of, unknown_of, resolved, joined, operand_texts, row_text, instr_text, hex_text, aims}
+use Rattle.zl_asm.proofs.Common.{◌≡◌, ℕ, zero, suc, ◌+◌, ◌^◌, ◌<◌, Bool, true, false, ◌==◌, List, [], ◌∷◌, ◌++◌, length, take, drop, codes, Option, Some, None, refl, ap, ◌∙◌, arith, slice_index, list_all, starts_with, and_parts, length-take, length-drop, get_or-drop, Row, layout_of, row_of, row_named, reading_of, row_bytes, instr_fault, eq-eqb, layout, is_ending_clear, is_word, words_of, Code, Source, line_of, source_of, unknown_of, resolved, joined, operand_texts, row_text, instr_text, hex_text, aims, IsBytes, list_all-from_IsBytes, option_map}
 use Rattle.zl_code.proofs.Common.{number_of}
-use Rattle.std.specs.Prelude.{option_map}
 use Rattle.std.proofs.Math.Nat.{pow-suc}
-use Rattle.zl_code.proofs.ImageBytes.{IsBytes, list_all-from_IsBytes}
 use Rattle.zl_code.proofs.InstrFacts.{no_fault-row, row_bytes-again}
 use Rattle.zl_asm.proofs.RoundWords.{is_plain_word, with_commas, words_of-operands, operands_of-commas, words_of-space, words_of-alone}
 use Rattle.zl_asm.proofs.RoundHex.{hex_again, plain_word-hex}

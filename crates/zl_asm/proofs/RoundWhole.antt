@@ -1,7 +1,6 @@
 -- The text of an image denotes it.
-use Rattle.zl_asm.proofs.Common.{◌≡◌, ℕ, ◌≤◌, Bool, true, false, not, List, [], ◌∷◌, ◌++◌, length, map, codes, decimal, Some, refl, ap, ◌∙◌, arith, append-nil, append_assoc, if◌then◌else◌, is_some, list_all, flat_map, and_parts, and_from, le-leb, length-map, list_all-append, flat_map-append, Image, needs_named, instr_bytes, instr_fault, is_instr_in_range, Ranges, ranges, Line, Blank, Declares, all_of, mark_in, memory_in, budget_in, need_in, start_in, slots_in, source_in, given, declares, labels_from, names_once, resolved, listing_from, listing_of, fields_of, directive_lines, code_lines, text_of, EachTextDenotes}
+use Rattle.zl_asm.proofs.Common.{◌≡◌, ℕ, ◌≤◌, Bool, true, false, not, List, [], ◌∷◌, ◌++◌, length, map, codes, decimal, Some, refl, ap, ◌∙◌, arith, append-nil, append_assoc, if◌then◌else◌, is_some, list_all, flat_map, and_parts, and_from, le-leb, length-map, list_all-append, flat_map-append, Image, needs_named, instr_bytes, instr_fault, is_instr_in_range, Ranges, ranges, Line, Blank, Declares, all_of, mark_in, memory_in, budget_in, need_in, start_in, slots_in, source_in, given, declares, labels_from, names_once, resolved, listing_from, listing_of, fields_of, directive_lines, code_lines, text_of, EachTextDenotes, needs_named-needs}
 use Rattle.zl_code.specs.declared.instr.Instr.{Instr}
-use Rattle.zl_code.proofs.ImageNeeds.{needs_named-needs}
 use Rattle.zl_code.proofs.InstrFacts.{instr_bytes-no_fault, length-instr_bytes, IsBytes-instr_bytes}
 use Rattle.zl_asm.specs.declared.directive.Directive.TheVariants as directive
 use Rattle.zl_asm.proofs.RoundLines.{Say, says_nothing, says_line, says_both, listing_of-lines}

@@ -1,7 +1,5 @@
 -- The bytes of hexadecimal digits, two digits after the other.
-use Rattle.zl_asm.proofs.Common.{◌≡◌, ◌≢◌, ℕ, suc, ◌+◌, ◌*◌, ◌<◌, ◌≤◌, true, false, eqb, List, [], ◌∷◌, ◌++◌, length, take, drop, get_or, set, Option, Some, None, refl, sym, ap, ◌∙◌, arith, append_assoc, append-nil, at_drop_more, at_drop_all, take_all, nat_tests, digit_of, byte_before, hex_bytes, if_fits}
-use Rattle.zl_code.proofs.Common.{option_map}
-use Rattle.std.proofs.Math.Seq.{take-suc-set}
+use Rattle.zl_asm.proofs.Common.{◌≡◌, ◌≢◌, ℕ, suc, ◌+◌, ◌*◌, ◌<◌, ◌≤◌, true, false, eqb, List, [], ◌∷◌, ◌++◌, length, take, drop, get_or, set, Option, Some, None, refl, sym, ap, ◌∙◌, arith, append_assoc, append-nil, at_drop_more, at_drop_all, take_all, nat_tests, digit_of, byte_before, hex_bytes, if_fits, option_map, take-suc-set}
 
 abbrev pub sixteen : Option (List ℕ) → Option (List ℕ)
 sixteen o = if_fits (λ bytes. eqb (length bytes) 16) o

@@ -1,6 +1,5 @@
 -- The words of a line, one byte after the other.
-use Rattle.zl_asm.proofs.Common.{◌≡◌, ℕ, suc, ◌+◌, ◌-◌, ◌<◌, ◌≤◌, ◌≢◌, false, eqb, List, [], ◌∷◌, ◌++◌, length, take, drop, get_or, refl, sym, ap, ◌∙◌, arith, append_assoc, at_drop_more, at_drop_all, get_or-drop, length-drop, take_all, nat_tests, comma, word_before, words_from}
-use Rattle.std.proofs.Math.Seq.{take-suc}
+use Rattle.zl_asm.proofs.Common.{◌≡◌, ℕ, suc, ◌+◌, ◌-◌, ◌<◌, ◌≤◌, ◌≢◌, false, eqb, List, [], ◌∷◌, ◌++◌, length, take, drop, get_or, refl, sym, ap, ◌∙◌, arith, append_assoc, at_drop_more, at_drop_all, get_or-drop, length-drop, take_all, nat_tests, comma, word_before, words_from, take-suc}
 
 -- the word of the bytes from start to i
 abbrev pub part : List ℕ → ℕ → ℕ → List ℕ

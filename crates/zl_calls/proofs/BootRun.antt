@@ -1,6 +1,5 @@
 -- One statement after another: what was made is what the definitions make, up to the first fault.
-use Rattle.zl_calls.proofs.Common.{◌≢◌, ◌≡◌, ◌<◌, ◌≤◌, ◌+◌, ℕ, List, [], ◌∷◌, ◌++◌, take, length, refl, sym, ap, ◌∙◌, Option, Some, None, get_or, IsTrue, arith, take_more, take_all, slice_get-get_or, Library, boot_effect, boot_fault, may_boot, Boots, FirstFault, at_statement, at_limit, MOST_ITEMS, origin, IsMaking, root_alone, Makes, IsCauseOf, IsReached, seen}
-use Rattle.zl_code.proofs.Common.{World}
+use Rattle.zl_calls.proofs.Common.{◌≢◌, ◌≡◌, ◌<◌, ◌≤◌, ◌+◌, ℕ, List, [], ◌∷◌, ◌++◌, take, length, refl, sym, ap, ◌∙◌, Option, Some, None, get_or, IsTrue, arith, take_more, take_all, slice_get-get_or, Library, boot_effect, boot_fault, may_boot, Boots, FirstFault, at_statement, at_limit, MOST_ITEMS, origin, IsMaking, root_alone, Makes, IsCauseOf, IsReached, seen, World}
 use Rattle.zl_code.specs.declared.boot.Statement.{Statement}
 use Rattle.zl_code.specs.declared.boot.BootCause.{BootCause}
 use Rattle.zl_code.specs.declared.boot.BootCause.TheVariants as cause

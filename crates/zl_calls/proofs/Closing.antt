@@ -1,6 +1,6 @@
 -- Handles close one after another: what isn't held any more goes, and the invariant is kept.
-use Rattle.zl_calls.proofs.Common.{◌≡◌, ◌+◌, ℕ, Bool, true, false, not, ◌&&◌, ◌||◌, ◌==◌, List, map, refl, sym, ap, ◌∙◌, subst, cond, Option, Some, None, inl, inr, ◌⊎◌, IsTrue, arith, eq-eqb, nat_lt, is_some, if◌then◌else◌, count_by, nat_cmp, is_sorted, cases_Bool, eqb-true, false≢true, none-some, same_Some, Map, get, has_key, without, is_process, runs, Settles, in_table, handles_to, get-without, sorted_without, is_sorted-update, has_key-update, Objects, held_once_less, letting_go, without_unheld, without_unkept, is_kept, stays_alone, lives_below, is_job_at, process_entry, object_entry, object_value, world_value, IsNamed, AgreesOn, is_in_job}
-use Rattle.zl_code.proofs.Common.{World, Object as ObjectValue}
+use Rattle.zl_calls.proofs.Common.{◌≡◌, ◌+◌, ℕ, Bool, true, false, not, ◌&&◌, ◌||◌, ◌==◌, List, map, refl, sym, ap, ◌∙◌, subst, cond, Option, Some, None, inl, inr, ◌⊎◌, IsTrue, arith, eq-eqb, nat_lt, is_some, if◌then◌else◌, count_by, nat_cmp, is_sorted, cases_Bool, eqb-true, false≢true, none-some, same_Some, Map, get, has_key, without, is_process, runs, Settles, in_table, handles_to, get-without, sorted_without, is_sorted-update, has_key-update, Objects, held_once_less, letting_go, without_unheld, without_unkept, is_kept, stays_alone, lives_below, is_job_at, process_entry, object_entry, object_value, world_value, IsNamed, AgreesOn, is_in_job, World}
+use Rattle.zl_code.proofs.Common.{Object as ObjectValue}
 use Rattle.zl_rights.specs.declared.entry.Entry.{Entry}
 use Rattle.zl_calls.specs.declared.objects.Body.{Body}
 use Rattle.zl_calls.specs.declared.objects.Body.TheVariants as body

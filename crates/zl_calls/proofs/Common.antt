@@ -16,3 +16,14 @@ unfoldable pub use Rattle.zl_code.specs.Tests.{creates}
 pub use Rattle.zl_rights.proofs.MapLaws.{get-put, get-update}
 pub use Rattle.zl_table.proofs.MapEdits.{get-without, has_key-update, is_sorted-update, length-put_new, length-without, put_key, sorted_parts, sorted_put, sorted_without, update_missing, without_lower}
 pub use Rattle.zl_table.specs.Table.{Drains, Handles, Inserts, IsTable}
+pub use Rattle.std.proofs.lemmas.List.{length-append, length-take-le}
+pub use Rattle.std.proofs.lemmas.Nat.{and_le_l, and_le_r}
+pub use Rattle.zl_calls.specs.Acted.{Acted, Acts, CalledNext, action_of}
+pub use Rattle.zl_calls.specs.Cpu.{handle_register, register_set, set_in, slot_in, slot_set, started_cpu}
+pub use Rattle.zl_calls.specs.Program.{program_value}
+pub use Rattle.zl_calls.specs.Steps.{Performs, StepsTo, TakesStep, takes_memory}
+pub use Rattle.zl_calls.specs.calls.Process.{Ends}
+pub use Rattle.zl_code.proofs.Common.{World}
+pub use Rattle.zl_code.specs.Boot.{MOST_GRANTS, MOST_KOIDS, MOST_PROCESSES, all_known, handle_given, handles_given, is_job, may_start_with, process_with_all, rights_given, started_process, with_process}
+pub use Rattle.zl_rights.specs.Settle.{IsHeld, names, state_without}
+pub use Rattle.zl_rights.specs.Signals.{is_job_below, is_process_of}

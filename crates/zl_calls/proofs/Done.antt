@@ -1,6 +1,5 @@
 -- That a call is done: it is a step, and the invariant holds afterwards.
-use Rattle.zl_calls.proofs.Common.{◌≡◌, ℕ, Bool, List, [], map, ap, sym, ◌∙◌, subst, Option, Result, Ok, Err, Ready, Library, Site, refusal, Step, AtCall, next_for, Calls, grows, replied, taken, Handles, Objects, Does, Replies, status_of, values_of, process_entry, process_value, object_entry, state_value, world_value, IsConsistent}
-use Rattle.zl_code.proofs.Common.{World}
+use Rattle.zl_calls.proofs.Common.{◌≡◌, ℕ, Bool, List, [], map, ap, sym, ◌∙◌, subst, Option, Result, Ok, Err, Ready, Library, Site, refusal, Step, AtCall, next_for, Calls, grows, replied, taken, Handles, Objects, Does, Replies, status_of, values_of, process_entry, process_value, object_entry, state_value, world_value, IsConsistent, World}
 use Rattle.zl_rights.specs.declared.status.Status.{Status}
 use Rattle.zl_rights.specs.declared.status.Status.TheVariants as status
 use Rattle.zl_code.specs.declared.history.CallName.{CallName}

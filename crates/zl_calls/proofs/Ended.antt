@@ -1,6 +1,5 @@
 -- A process ends: what is left of the objects, once its object and its job were looked at.
-use Rattle.zl_calls.proofs.Common.{◌≡◌, ◌+◌, ℕ, ℤ, Bool, true, false, not, ◌&&◌, ◌||◌, ◌==◌, List, [], ◌∷◌, refl, sym, ap, ◌∙◌, subst, Option, Some, None, inl, inr, IsTrue, count_by, list_any, cases_Bool, eqb-true, false≢true, same_Some, Map, get, update, Settles, IsTable, update_missing, Objects, stopped, stopped_body, stopping, process_ended, ended_in, without_unheld, job_in, job_of, is_kept, stays_alone, lives_below, IsConsistent, IsNamed}
-use Rattle.zl_code.proofs.Common.{World}
+use Rattle.zl_calls.proofs.Common.{◌≡◌, ◌+◌, ℕ, ℤ, Bool, true, false, not, ◌&&◌, ◌||◌, ◌==◌, List, [], ◌∷◌, refl, sym, ap, ◌∙◌, subst, Option, Some, None, inl, inr, IsTrue, count_by, list_any, cases_Bool, eqb-true, false≢true, same_Some, Map, get, update, Settles, IsTable, update_missing, Objects, stopped, stopped_body, stopping, process_ended, ended_in, without_unheld, job_in, job_of, is_kept, stays_alone, lives_below, IsConsistent, IsNamed, World}
 use Rattle.zl_rights.specs.declared.entry.Entry.{Entry}
 use Rattle.zl_calls.specs.declared.objects.Body.{Body}
 use Rattle.zl_calls.specs.declared.objects.Body.TheVariants as body

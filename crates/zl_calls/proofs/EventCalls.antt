@@ -1,6 +1,6 @@
 -- The calls on events, event_create and signal, each from its table and objects to a step.
-use Rattle.zl_calls.proofs.Common.{◌≡◌, ◌+◌, ◌^◌, ℕ, Bool, true, false, not, ◌&&◌, ◌==◌, List, [], ◌∷◌, map, refl, sym, ap, ◌∙◌, cond, Option, Some, None, IsTrue, nat_le, if◌then◌else◌, map-append, then_some, first_some, Map, get, put, Ready, EventBody, Library, Site, site, event_create, examined, has_room, has_koids, handles_to, table_of, answer_if, row_of, refusal, handle_operands, listed, may_choose, new_handles, insert_all, remove_all, taken_handles, effect, with_effect, with_object, gives_ok, AtCall, next_for, Values, replied, taken, Ok, Err, ⊤, option_or, bits, within, SIGNAL, kind_of, signal, body_of, body_in, operand_of, by_look_up, operand, any, cpu_answered, new_entry, on_object, object_changed, Objects, new_object, with_new, raised_changed, changing, IsAnswered, one_value, Replies, has_room_in, no_value, process_entry, process_value, object_entry, state_value, world_value, object_value, body_value, IsConsistent, IsNamed, koid_in, settable_of, may_change}
-use Rattle.zl_code.proofs.Common.{World, Object as ObjectValue}
+use Rattle.zl_calls.proofs.Common.{◌≡◌, ◌+◌, ◌^◌, ℕ, Bool, true, false, not, ◌&&◌, ◌==◌, List, [], ◌∷◌, map, refl, sym, ap, ◌∙◌, cond, Option, Some, None, IsTrue, nat_le, if◌then◌else◌, map-append, then_some, first_some, Map, get, put, Ready, EventBody, Library, Site, site, event_create, examined, has_room, has_koids, handles_to, table_of, answer_if, row_of, refusal, handle_operands, listed, may_choose, new_handles, insert_all, remove_all, taken_handles, effect, with_effect, with_object, gives_ok, AtCall, next_for, Values, replied, taken, Ok, Err, ⊤, option_or, bits, within, SIGNAL, kind_of, signal, body_of, body_in, operand_of, by_look_up, operand, any, cpu_answered, new_entry, on_object, object_changed, Objects, new_object, with_new, raised_changed, changing, IsAnswered, one_value, Replies, has_room_in, no_value, process_entry, process_value, object_entry, state_value, world_value, object_value, body_value, IsConsistent, IsNamed, koid_in, settable_of, may_change, World}
+use Rattle.zl_code.proofs.Common.{Object as ObjectValue}
 use Rattle.zl_rights.specs.declared.kind.Kind.TheVariants as kind
 use Rattle.zl_rights.specs.declared.status.Status.TheVariants as status
 use Rattle.zl_rights.specs.declared.entry.Entry.{Entry}

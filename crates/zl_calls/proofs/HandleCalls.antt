@@ -1,7 +1,6 @@
 -- The calls on handles, close and dup, each from its table and objects to a step.
-use Rattle.zl_calls.proofs.Common.{◌≡◌, ◌+◌, ℕ, Bool, true, false, ◌==◌, List, [], ◌∷◌, refl, sym, ap, ◌∙◌, subst, cond, Option, Some, None, inl, inr, ◌⊎◌, IsTrue, arith, eq-eqb, bit_and, ◌||◌, if◌then◌else◌, is_some, count_by, sum_by-cons, cases_Bool, false≢true, none-some, first_some, bits, within, Map, get, has_key, without, Ready, Settles, Library, Site, site, close, table_of, operand_of, operand, examined, any, row_of, refusal, handle_operands, listed, on_process, process_without, may_choose, new_handles, remove_all, taken_handles, insert_all, effect, gives_ok, AtCall, next_for, Calls, Values, Refused, replied, taken, cpu_answered, ◌^◌, not, map, Ok, Err, nat_le, nat_lt, eqb-true, or_left, nat_tests, then_some, option_or, narrowed, default_rights_of, DUPLICATE, is_empty, dup, by_look_up, has_room, handles_to, entry_at, copy_of, with_rights, answer_if, with_effect, get-update, Handles, IsTable, get-without, sorted_without, length-without, Objects, released, has_place, held_once_more, holding, IsAnswered, no_value, Replies, status_of, one_value, has_room_in, process_value, state_value, world_value, process_entry, object_value, IsConsistent, IsNamed, koid_in}
-use Rattle.zl_code.proofs.Common.{World, Object as ObjectValue}
-use Rattle.std.proofs.lemmas.Nat.{and_le_r}
+use Rattle.zl_calls.proofs.Common.{◌≡◌, ◌+◌, ℕ, Bool, true, false, ◌==◌, List, [], ◌∷◌, refl, sym, ap, ◌∙◌, subst, cond, Option, Some, None, inl, inr, ◌⊎◌, IsTrue, arith, eq-eqb, bit_and, ◌||◌, if◌then◌else◌, is_some, count_by, sum_by-cons, cases_Bool, false≢true, none-some, first_some, bits, within, Map, get, has_key, without, Ready, Settles, Library, Site, site, close, table_of, operand_of, operand, examined, any, row_of, refusal, handle_operands, listed, on_process, process_without, may_choose, new_handles, remove_all, taken_handles, insert_all, effect, gives_ok, AtCall, next_for, Calls, Values, Refused, replied, taken, cpu_answered, ◌^◌, not, map, Ok, Err, nat_le, nat_lt, eqb-true, or_left, nat_tests, then_some, option_or, narrowed, default_rights_of, DUPLICATE, is_empty, dup, by_look_up, has_room, handles_to, entry_at, copy_of, with_rights, answer_if, with_effect, get-update, Handles, IsTable, get-without, sorted_without, length-without, Objects, released, has_place, held_once_more, holding, IsAnswered, no_value, Replies, status_of, one_value, has_room_in, process_value, state_value, world_value, process_entry, object_value, IsConsistent, IsNamed, koid_in, World, and_le_r}
+use Rattle.zl_code.proofs.Common.{Object as ObjectValue}
 use Rattle.zl_rights.specs.declared.status.Status.{Status}
 use Rattle.zl_rights.specs.declared.status.Status.TheVariants as status
 use Rattle.zl_rights.specs.declared.entry.Entry.{Entry}

@@ -1,10 +1,8 @@
 -- What follows from the invariant of the world, and that it makes a call a step.
-use Rattle.zl_calls.proofs.Common.{◌≡◌, ◌<◌, ◌^◌, ℕ, Bool, true, false, not, ◌&&◌, ◌||◌, ◌==◌, List, [], ◌∷◌, map, refl, sym, ap, ◌∙◌, Option, Some, None, inl, inr, ◌⊎◌, eq-eqb, IsTrue, arith, nat_le, nat_lt, is_some, list_any, option_map, cases_Bool, eqb-true, or_left, or_right, and_from, and_parts, false≢true, none-some, same_Some, nat_cmp, is_sorted, below_all, nat_tests, Map, get, has_key, each, Created, Ready, Blocked, Ended, Gone, is_process, runs, lives, state_passes, Settles, Koids, is_held, in_table, in_queue, process_settled, Library, Site, handles_to, Step, AtCall, next_for, Calls, sorted_parts, without_lower, get-without, Objects, has_place, stays_alone, lives_below, process_entry, process_value, state_value, object_entry, object_value, world_value, IsConsistent, IsNamed}
-use Rattle.zl_code.proofs.Common.{World, Process as ProcessValue, State as StateValue, has_living_child as living_child}
+use Rattle.zl_calls.proofs.Common.{◌≡◌, ◌<◌, ◌^◌, ℕ, Bool, true, false, not, ◌&&◌, ◌||◌, ◌==◌, List, [], ◌∷◌, map, refl, sym, ap, ◌∙◌, Option, Some, None, inl, inr, ◌⊎◌, eq-eqb, IsTrue, arith, nat_le, nat_lt, is_some, list_any, option_map, cases_Bool, eqb-true, or_left, or_right, and_from, and_parts, false≢true, none-some, same_Some, nat_cmp, is_sorted, below_all, nat_tests, Map, get, has_key, each, Created, Ready, Blocked, Ended, Gone, is_process, runs, lives, state_passes, Settles, Koids, is_held, in_table, in_queue, process_settled, Library, Site, handles_to, Step, AtCall, next_for, Calls, sorted_parts, without_lower, get-without, Objects, has_place, stays_alone, lives_below, process_entry, process_value, state_value, object_entry, object_value, world_value, IsConsistent, IsNamed, World, is_job_below, is_process_of, state_without}
+use Rattle.zl_code.proofs.Common.{Process as ProcessValue, State as StateValue, has_living_child as living_child}
 use Rattle.std.proofs.lemmas.Bool.{or_cases}
 use Rattle.zl_rights.specs.declared.entry.Entry.{Entry}
-use Rattle.zl_rights.specs.Signals.{is_job_below, is_process_of}
-use Rattle.zl_rights.specs.Settle.{state_without}
 use Rattle.zl_code.specs.declared.history.CallName.{CallName}
 use Rattle.zl_code.specs.declared.history.Outcome.{Outcome}
 use Rattle.zl_code.specs.declared.history.TraceItem.TheVariants as item

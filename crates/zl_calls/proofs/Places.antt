@@ -1,6 +1,6 @@
 -- Where a process stands in the list, and what stands next for it.
-use Rattle.zl_calls.proofs.Common.{◌≡◌, ◌<◌, ℕ, List, length, map, get_or, Option, Some, None, refl, sym, slice_get, IfSome, IfNone, none-some, IsTrue, false≢true, get, Cpu, is_process, is_ready, Library, Program, local_effect, Site, site_of, name_of, IsStuck, calls_at, next_for, process_entry, call_in}
-use Rattle.zl_code.proofs.Common.{World, Process as ProcessValue}
+use Rattle.zl_calls.proofs.Common.{◌≡◌, ◌<◌, ℕ, List, length, map, get_or, Option, Some, None, refl, sym, slice_get, IfSome, IfNone, none-some, IsTrue, false≢true, get, Cpu, is_process, is_ready, Library, Program, local_effect, Site, site_of, name_of, IsStuck, calls_at, next_for, process_entry, call_in, World}
+use Rattle.zl_code.proofs.Common.{Process as ProcessValue}
 use Rattle.std.proofs.lemmas.Option.{slice_get-map, slice_get_read}
 use Rattle.zl_code.specs.declared.instr.Instr.{Instr}
 use Rattle.zl_code.specs.declared.instr.Instr.TheVariants as instr

@@ -1,9 +1,6 @@
 -- Worlds in which nothing waits: waking changes nothing, and settling takes away what isn't held.
-use Rattle.zl_calls.proofs.Common.{◌≡◌, ℕ, Bool, true, false, ◌&&◌, ◌||◌, ◌==◌, [], ◌∷◌, refl, sym, ap, ◌∙◌, cond, Some, inl, inr, IsTrue, eq-eqb, is_some, list_any, cases_Bool, and_parts, eqb-true, false≢true, Map, get, has_key, without, where_key, each, Process, Object, Body, PortBody, is_process, lives, Koids, Settles, is_held, in_table, in_queue, queue_of, without_others, process_settled, wakes, fired, get-without}
-use Rattle.zl_code.proofs.Common.{World, has_living_child}
-use Rattle.std.proofs.lemmas.List.{append-nil}
-use Rattle.zl_rights.specs.Signals.{is_job_below, is_process_of}
-use Rattle.zl_rights.specs.Settle.{IsHeld, names}
+use Rattle.zl_calls.proofs.Common.{◌≡◌, ℕ, Bool, true, false, ◌&&◌, ◌||◌, ◌==◌, [], ◌∷◌, refl, sym, ap, ◌∙◌, cond, Some, inl, inr, IsTrue, eq-eqb, is_some, list_any, cases_Bool, and_parts, eqb-true, false≢true, Map, get, has_key, without, where_key, each, Process, Object, Body, PortBody, is_process, lives, Koids, Settles, is_held, in_table, in_queue, queue_of, without_others, process_settled, wakes, fired, get-without, World, is_job_below, is_process_of, IsHeld, names, append-nil}
+use Rattle.zl_code.proofs.Common.{has_living_child}
 use Rattle.zl_rights.specs.Wakes.{body_with_packets}
 use Rattle.zl_rights.proofs.MapTests.{each_same}
 use Rattle.zl_rights.proofs.Settling.{is_held-larger}

@@ -1,6 +1,5 @@
 -- One place of the slot arrays is written.
-use Rattle.zl_calls.proofs.Common.{◌≡◌, ℕ, zero, suc, List, [], ◌∷◌, map, get_or, Option, Some, None, refl, ◌∙◌, sym, ap, slice_get, slice_set, IsSome}
-use Rattle.zl_calls.specs.Cpu.{slot_in, slot_set, set_in}
+use Rattle.zl_calls.proofs.Common.{◌≡◌, ℕ, zero, suc, List, [], ◌∷◌, map, get_or, Option, Some, None, refl, ◌∙◌, sym, ap, slice_get, slice_set, IsSome, slot_in, slot_set, set_in}
 
 set_behind : (y : List ℕ) (ys : List (List ℕ)) (n place value : ℕ) (o : Option (List ℕ)) → set_in (y ∷ ys) (suc n) place value o ≡ y ∷ set_in ys n place value o
 set_behind y ys n place value None = refl

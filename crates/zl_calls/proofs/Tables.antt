@@ -1,6 +1,5 @@
 -- Tables that handles enter and leave, and empty ones.
-use Rattle.zl_calls.proofs.Common.{false, ◌^◌, bit_and, ◌≡◌, ◌<◌, ◌≤◌, ℕ, [], ◌∷◌, length, Some, None, Result, Err, refl, sym, ap, ◌∙◌, arith, inl, inr, ◌==◌, if◌then◌else◌, cases_Bool, eqb-true, same_Some, Map, get, without, within, get-put, Handles, IsTable, Inserts, Drains, sorted_put, length-put_new, put_key, Objects, Closes, none_left, one_more, released}
-use Rattle.std.proofs.lemmas.Nat.{and_le_l}
+use Rattle.zl_calls.proofs.Common.{false, ◌^◌, bit_and, ◌≡◌, ◌<◌, ◌≤◌, ℕ, [], ◌∷◌, length, Some, None, Result, Err, refl, sym, ap, ◌∙◌, arith, inl, inr, ◌==◌, if◌then◌else◌, cases_Bool, eqb-true, same_Some, Map, get, without, within, get-put, Handles, IsTable, Inserts, Drains, sorted_put, length-put_new, put_key, Objects, Closes, none_left, one_more, released, and_le_l}
 use Rattle.zl_rights.specs.declared.entry.Entry.{Entry}
 use Rattle.zl_rights.specs.declared.kind.Kind.{Kind}
 use Rattle.zl_rights.specs.declared.kind.Kind.TheVariants as kind

@@ -1,12 +1,9 @@
 -- A step of a process that was looked up: a call, a local instruction, or the end of a stuck process.
-use Rattle.zl_calls.proofs.Common.{◌≡◌, ℕ, true, false, ◌==◌, List, map, set, get_or, refl, sym, subst, ◌∙◌, Option, Some, None, IsTrue, IfNone, position, same_Some, STUCK, get, is_ready, is_process, Library, site_of, name_of, Moves, IsStuck, next_for, IsConsistent, Objects, process_entry, process_value, state_value, call_in, call_for, is_ready_in}
+use Rattle.zl_calls.proofs.Common.{◌≡◌, ℕ, true, false, ◌==◌, List, map, set, get_or, refl, sym, subst, ◌∙◌, Option, Some, None, IsTrue, IfNone, position, same_Some, STUCK, get, is_ready, is_process, Library, site_of, name_of, Moves, IsStuck, next_for, IsConsistent, Objects, process_entry, process_value, state_value, call_in, call_for, is_ready_in, CalledNext, Ends, StepsTo, Performs, TakesStep}
 use Rattle.zl_code.specs.declared.history.CallName.{CallName}
 use Rattle.zl_code.specs.declared.history.Outcome.{Outcome}
 use Rattle.zl_code.specs.declared.history.TraceItem.TheVariants as item
 use Rattle.zl_calls.specs.declared.process.Process.{Process}
-use Rattle.zl_calls.specs.Acted.{CalledNext}
-use Rattle.zl_calls.specs.calls.Process.{Ends}
-use Rattle.zl_calls.specs.Steps.{StepsTo, Performs, TakesStep}
 use Rattle.zl_calls.specs.World.{World}
 use Rattle.zl_calls.proofs.Performing.{IsStepped, lab_value, is_named, performs, moves_on, is_stuck}
 use Rattle.zl_calls.proofs.Written.{write_at, pid_read}

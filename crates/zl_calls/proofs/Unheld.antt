@@ -1,10 +1,8 @@
 -- What nothing keeps isn't held.
-use Rattle.zl_calls.proofs.Common.{◌≡◌, ◌+◌, ◌<◌, ◌≤◌, ◌^◌, ℕ, Bool, true, false, ◌&&◌, ◌||◌, ◌==◌, List, [], ◌∷◌, map, refl, sym, ap, ◌∙◌, cond, Some, inl, inr, IsTrue, arith, nat_lt, sum_by, count_by, list_any, nat_cmp, is_sorted, sum_by-cons, cases_Bool, eqb-true, and_parts, false≢true, nat_tests, Map, get, has_key, is_process, runs, lives, state_passes, Koids, is_held, in_table, in_queue, queue_of, handles_to, IsTable, Objects, is_kept, stays_alone, lives_below, is_job_at, process_entry, state_value, object_entry, body_value, world_value, IsNamed, AgreesOn, is_in_job}
-use Rattle.zl_code.proofs.Common.{World, Process as ProcessValue, Object as ObjectValue, has_living_child as living_child}
+use Rattle.zl_calls.proofs.Common.{◌≡◌, ◌+◌, ◌<◌, ◌≤◌, ◌^◌, ℕ, Bool, true, false, ◌&&◌, ◌||◌, ◌==◌, List, [], ◌∷◌, map, refl, sym, ap, ◌∙◌, cond, Some, inl, inr, IsTrue, arith, nat_lt, sum_by, count_by, list_any, nat_cmp, is_sorted, sum_by-cons, cases_Bool, eqb-true, and_parts, false≢true, nat_tests, Map, get, has_key, is_process, runs, lives, state_passes, Koids, is_held, in_table, in_queue, queue_of, handles_to, IsTable, Objects, is_kept, stays_alone, lives_below, is_job_at, process_entry, state_value, object_entry, body_value, world_value, IsNamed, AgreesOn, is_in_job, World, is_job_below, is_process_of, names}
+use Rattle.zl_code.proofs.Common.{Process as ProcessValue, Object as ObjectValue, has_living_child as living_child}
 use Rattle.std.proofs.lemmas.Bool.{or_cases}
 use Rattle.zl_rights.specs.declared.entry.Entry.{Entry}
-use Rattle.zl_rights.specs.Signals.{is_job_below, is_process_of}
-use Rattle.zl_rights.specs.Settle.{names}
 use Rattle.zl_calls.specs.declared.objects.Body.{Body}
 use Rattle.zl_calls.specs.declared.objects.Body.TheVariants as body
 use Rattle.zl_calls.specs.declared.objects.Object.{Object}

@@ -1,8 +1,6 @@
 -- A boot makes a world or comes to a first fault, never both, whichever values new handles get.
-use Rattle.zl_code.proofs.Common.{◌≡◌, ◌<◌, ◌≤◌, ◌+◌, ◌⊎◌, ◌==◌, ℕ, zero, suc, true, false, cond, List, [], ◌∷◌, take, length, refl, sym, ap, ◌∙◌, Option, Some, None, inl, inr, IsTrue, arith, slice_get, nat_lt, cases_lt, length-map, none-some, same_Some, Map, put, World, ProcessBody, Library, with_object, boot_fault, boot_effect, may_boot, Boots, IsBoot, FirstFault, at_statement, at_limit, MOST_ITEMS, origin, map, and_from, and_parts, nat_tests, subst, false≢true, cases_Bool, eqb-true, get, has_key, Process, may_get, process_with, get-put, settled_in, keys_of, Settles-exists, Settles-unique, may_get_all, IsBooted, handles_given, values_given, gives_no_handle}
-use Rattle.std.specs.List.{list_all}
+use Rattle.zl_code.proofs.Common.{◌≡◌, ◌<◌, ◌≤◌, ◌+◌, ◌⊎◌, ◌==◌, ℕ, zero, suc, true, false, cond, List, [], ◌∷◌, take, length, refl, sym, ap, ◌∙◌, Option, Some, None, inl, inr, IsTrue, arith, slice_get, nat_lt, cases_lt, length-map, none-some, same_Some, Map, put, World, ProcessBody, Library, with_object, boot_fault, boot_effect, may_boot, Boots, IsBoot, FirstFault, at_statement, at_limit, MOST_ITEMS, origin, map, and_from, and_parts, nat_tests, subst, false≢true, cases_Bool, eqb-true, get, has_key, Process, may_get, process_with, get-put, settled_in, keys_of, Settles-exists, Settles-unique, may_get_all, IsBooted, handles_given, values_given, gives_no_handle, created_process, list_all}
 use Rattle.zl_rights.specs.declared.entry.Entry.{Entry}
-use Rattle.zl_code.specs.Starting.{created_process}
 use Rattle.zl_code.specs.declared.boot.Statement.{Statement}
 use Rattle.zl_code.specs.declared.boot.Statement.TheVariants as statement
 use Rattle.zl_code.specs.declared.boot.BootCause.{BootCause}

@@ -1,6 +1,5 @@
 -- What each call says where it isn't refused: its new handles have room, and it is made of these changes.
-use Rattle.zl_code.proofs.Common.{All, Body, Bool, EventBody, HandlesAreNamed, HandlesAreSound, IsTrue, Library, List, Map, None, Object, Option, PortBody, Process, Ready, Request, SIGNAL, Some, World, [], and_parts, answer_if, ap, arith, bits, by_look_up, cases_Bool, copy_of, default_rights_of, dup, effect, entry_at, event_create, examined, false, first_some, get, handle_operands, handles_to, has_koids, has_room, inl, inr, insert_all, kind_of, queue_of, leb-true, length, listed, may_choose, nat_le, new_handles, none-some, not, object_at, operand, raisable, refl, refusal, rights_of, row_of, runs, same_Some, signal, subst, sym, true, with_effect, with_object, within, ℕ, ◌&&◌, ◌^◌, ◌||◌, ◌∙◌, ◌∷◌, ◌≡◌, ◌≤◌, ⊤, not-false, or_parts, Packet, settable_of, by_policy, new_entry, object_changed, gets_all}
-use Rattle.std.proofs.lemmas.Bool.{true≢false}
+use Rattle.zl_code.proofs.Common.{All, Body, Bool, EventBody, HandlesAreNamed, HandlesAreSound, IsTrue, Library, List, Map, None, Object, Option, PortBody, Process, Ready, Request, SIGNAL, Some, World, [], and_parts, answer_if, ap, arith, bits, by_look_up, cases_Bool, copy_of, default_rights_of, dup, effect, entry_at, event_create, examined, false, first_some, get, handle_operands, handles_to, has_koids, has_room, inl, inr, insert_all, kind_of, queue_of, leb-true, length, listed, may_choose, nat_le, new_handles, none-some, not, object_at, operand, raisable, refl, refusal, rights_of, row_of, runs, same_Some, signal, subst, sym, true, with_effect, with_object, within, ℕ, ◌&&◌, ◌^◌, ◌||◌, ◌∙◌, ◌∷◌, ◌≡◌, ◌≤◌, ⊤, not-false, or_parts, Packet, settable_of, by_policy, new_entry, object_changed, gets_all, true≢false}
 use Rattle.zl_rights.specs.declared.kind.Kind.TheVariants as kind
 use Rattle.zl_rights.specs.declared.entry.Entry.{Entry}
 use Rattle.zl_rights.specs.declared.status.Status.{Status}

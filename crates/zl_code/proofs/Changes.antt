@@ -1,8 +1,6 @@
 -- The elementary changes of which a step is made.
-use Rattle.zl_code.proofs.Common.{◌≡◌, ◌<◌, ◌≤◌, inl, inr, arith, ℕ, suc, Bool, true, false, not, ◌==◌, List, [], ◌∷◌, length, refl, ap, sym, subst, ◌∙◌, IsTrue, Option, Some, None, eq-eqb, if◌then◌else◌, ℤ, option_map, cases_Bool, eqb-true, within, Map, get, put, update, has_key, without, World, Cpu, answered, Process, State, Created, Ready, Blocked, Ended, Object, Body, ChannelEnd, EventBody, PortBody, JobBody, ProcessBody, is_process, state_passes, lives, runs, Settles, queue_of, fired, on_process, process_with, process_without, ended, with_object, may_get, in_order, has_default_rights, names_its_object, HandlesAreSound, HandlesAreNamed, raisable, IsSound, Packet, get-put, get-update, on_object, process_ended, object_changed, with_process, is_blocked, HasItsObject}
-use Rattle.std.specs.List.{filter}
+use Rattle.zl_code.proofs.Common.{◌≡◌, ◌<◌, ◌≤◌, inl, inr, arith, ℕ, suc, Bool, true, false, not, ◌==◌, List, [], ◌∷◌, length, refl, ap, sym, subst, ◌∙◌, IsTrue, Option, Some, None, eq-eqb, if◌then◌else◌, ℤ, option_map, cases_Bool, eqb-true, within, Map, get, put, update, has_key, without, World, Cpu, answered, Process, State, Created, Ready, Blocked, Ended, Object, Body, ChannelEnd, EventBody, PortBody, JobBody, ProcessBody, is_process, state_passes, lives, runs, Settles, queue_of, fired, on_process, process_with, process_without, ended, with_object, may_get, in_order, has_default_rights, names_its_object, HandlesAreSound, HandlesAreNamed, raisable, IsSound, Packet, get-put, get-update, on_object, process_ended, object_changed, with_process, is_blocked, HasItsObject, packets_for, made_ready, with_body, body_with_packets, filter}
 use Rattle.zl_rights.specs.declared.entry.Entry.{Entry}
-use Rattle.zl_rights.specs.Wakes.{packets_for, made_ready, with_body, body_with_packets}
 use Rattle.zl_code.proofs.MapKept.{in_order-put, in_order-update, in_order-each, Changed, same, changed, new, EachChanged, unchanged, changed_put, changed_update, changed_each}
 
 -- ---- what becomes of one process and of one object, in a step that begins at the world start

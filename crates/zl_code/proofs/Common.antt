@@ -17,3 +17,15 @@ pub use Rattle.zl_rights.proofs.MapLaws.{get-each, get-put, get-update, get-wher
 pub use Rattle.zl_rights.proofs.Settling.{Settles-by, Settles-exists, Settles-unique, is_held-larger, keys_of, settled_in, shrunk, stays}
 pub use Rattle.zl_rights.specs.Numbers.{READ, READABLE, SAME_RIGHTS, TERMINATED, USER_SIGNALS, kind_number, meets, takes}
 pub use Rattle.zl_rights.specs.World.{Awaited, Message, Packet, PacketAt, SignalOf}
+pub use Rattle.std.proofs.lemmas.List.Elements.{All-cons, All-head, All-tail}
+pub use Rattle.std.specs.Prelude.{bit_xor, negsuc}
+pub use Rattle.zl_code.specs.Calls.{CallBy, after_ok, after_refusal}
+pub use Rattle.zl_code.specs.Instructions.{Field, closes, consumes, names, row_among, rows}
+pub use Rattle.zl_code.specs.Starting.{created_process, started_with}
+pub use Rattle.zl_code.specs.Steps.{Runs, has_count}
+unfoldable pub use Rattle.zl_code.specs.Steps.{next_at}
+pub use Rattle.zl_rights.specs.Settle.{IsLargestHeld, state_without}
+unfoldable pub use Rattle.zl_rights.specs.Settle.{is_made_by_handle}
+unfoldable pub use Rattle.zl_rights.specs.Signals.{active, has_child_job, has_child_process}
+pub use Rattle.zl_rights.specs.Wakes.{body_with_packets, packet_values, packets_for, with_body, woken_at_port, woken_by, woken_by_first, woken_from, woken_if_there}
+unfoldable pub use Rattle.zl_rights.specs.Wakes.{holds, made_ready, woken}

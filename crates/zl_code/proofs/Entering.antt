@@ -1,8 +1,5 @@
 -- Handles enter and leave the table of a process: where there is room values are free, and each handle is one change.
-use Rattle.zl_code.proofs.Common.{All, All-nil, Body, Bool, HandlesAreNamed, HandlesAreSound, IsTrue, List, Map, None, Object, Option, Process, Some, World, [], and_from, and_parts, ap, arith, cases_Bool, cond, copy_of, default_rights_of, entry_at, eq-eqb, false, get, has_default_rights, has_key, inl, inr, insert_all, is_some, kind_of, length, lt-ltb, may_get, names_its_object, narrowed, nat_tests, ne_eqb, none-some, not, on_process, process_with, process_without, put, refl, remove_all, runs, same_Some, subst, suc, sym, taken, true, where_key, with_object, with_rights, without, zero, ℕ, ◌-◌, ◌<◌, ◌==◌, ◌∙◌, ◌∷◌, ◌≡◌, ◌≤◌, get-put, get-update, get-where_key-in, handles_in, new_entry, may_get_all}
-use Rattle.std.specs.List.{filter}
-use Rattle.std.proofs.lemmas.Bool.{true≢false, eq-eqb}
-use Rattle.std.proofs.lemmas.List.Elements.{All-cons, All-head, All-tail}
+use Rattle.zl_code.proofs.Common.{All, All-nil, Body, Bool, HandlesAreNamed, HandlesAreSound, IsTrue, List, Map, None, Object, Option, Process, Some, World, [], and_from, and_parts, ap, arith, cases_Bool, cond, copy_of, default_rights_of, entry_at, eq-eqb, false, get, has_default_rights, has_key, inl, inr, insert_all, is_some, kind_of, length, lt-ltb, may_get, names_its_object, narrowed, nat_tests, ne_eqb, none-some, not, on_process, process_with, process_without, put, refl, remove_all, runs, same_Some, subst, suc, sym, taken, true, where_key, with_object, with_rights, without, zero, ℕ, ◌-◌, ◌<◌, ◌==◌, ◌∙◌, ◌∷◌, ◌≡◌, ◌≤◌, get-put, get-update, get-where_key-in, handles_in, new_entry, may_get_all, All-cons, All-head, All-tail, filter, true≢false}
 use Rattle.zl_rights.specs.declared.kind.Kind.TheVariants as kind
 use Rattle.zl_rights.specs.declared.rights.Rights.{Rights}
 use Rattle.zl_rights.specs.declared.entry.Entry.{Entry}

@@ -1,7 +1,6 @@
 -- Numbers as bytes, and parts of a list of bytes.
-use Rattle.zl_code.proofs.Common.{◌≡◌, ℕ, zero, suc, ◌+◌, ◌*◌, ◌/◌, ◌%◌, ◌^◌, ◌<◌, ◌≤◌, true, List, [], ◌∷◌, ◌++◌, length, get_or, take, drop, nat_lt, refl, sym, ap, ◌∙◌, arith, inl, inr, list_all, cases_lt, lt-ltb, and_from, length-take, length-drop, get_or-drop, number_of, bytes_of, number_at, add-zero, drop-drop, get_or-take, get_or_past}
+use Rattle.zl_code.proofs.Common.{◌≡◌, ℕ, zero, suc, ◌+◌, ◌*◌, ◌/◌, ◌%◌, ◌^◌, ◌<◌, ◌≤◌, true, List, [], ◌∷◌, ◌++◌, length, get_or, take, drop, nat_lt, refl, sym, ap, ◌∙◌, arith, inl, inr, list_all, cases_lt, lt-ltb, and_from, length-take, length-drop, get_or-drop, number_of, bytes_of, number_at, add-zero, drop-drop, get_or-take, get_or_past, take-append-drop}
 use Rattle.std.proofs.Math.Nat.{pow-suc}
-use Rattle.std.proofs.lemmas.List.{take-append-drop}
 
 abbrev pub IsBytes : List ℕ → Type 0
 IsBytes bytes = (i : ℕ) → get_or bytes i 0 < 256

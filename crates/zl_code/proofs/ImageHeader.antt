@@ -1,7 +1,6 @@
 -- The header: its tests, and its 20 bytes.
-use Rattle.zl_code.proofs.Common.{◌≡◌, ℕ, zero, suc, ◌≤◌, Bool, true, false, cond, eqb, leb, List, [], ◌∷◌, ◌++◌, length, get_or, take, drop, Option, None, ◌==◌, not, refl, sym, ap, ◌∙◌, arith, slice_index, nat_le, nat_lt, starts_with, and_parts, leb-true, eqb-true, length-drop, get_or-drop, then_some, first_some, Image, header_fault, needs_byte, number_at, bytes_of, ltb-false, le-ltb, header, is_header_in_range, is_needs_byte, magic, count_at, starts_at, slots_at, length_at, is_raw_at}
+use Rattle.zl_code.proofs.Common.{◌≡◌, ℕ, zero, suc, ◌≤◌, Bool, true, false, cond, eqb, leb, List, [], ◌∷◌, ◌++◌, length, get_or, take, drop, Option, None, ◌==◌, not, refl, sym, ap, ◌∙◌, arith, slice_index, nat_le, nat_lt, starts_with, and_parts, leb-true, eqb-true, length-drop, get_or-drop, then_some, first_some, Image, header_fault, needs_byte, number_at, bytes_of, ltb-false, le-ltb, header, is_header_in_range, is_needs_byte, magic, count_at, starts_at, slots_at, length_at, is_raw_at, eq-eqb}
 use Rattle.std.specs.Cmp.Lexicographic.{pointwise}
-use Rattle.std.proofs.lemmas.Bool.{eq-eqb}
 use Rattle.zl_code.specs.declared.image.DecodeFault.{DecodeFault}
 use Rattle.zl_code.specs.declared.image.DecodeFault.TheVariants as faults
 use Rattle.zl_code.proofs.ImageBytes.{IsBytes, bytes_of-number_at, parts_at}

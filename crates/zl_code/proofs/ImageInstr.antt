@@ -1,6 +1,5 @@
 -- The 16 bytes of an instruction and what is read of them.
-use Rattle.zl_code.proofs.Common.{◌≡◌, ℕ, zero, suc, ◌≤◌, Bool, true, false, eqb, List, [], ◌∷◌, ◌++◌, length, take, drop, replicate, Option, Some, None, ◌==◌, not, refl, sym, ap, subst, ◌∙◌, arith, slice_index, IfSome, list_all, and_parts, and_from, eqb-true, take_all, length-take, length-drop, then_some, first_some, Layout, layout_of, Reading, reading_of, is_instr_in_range, are_registers, row_bytes, seven, instr_fault, number_at, bytes_of, names_registers, is_ending_clear, is_unused_zero, ending_bytes, fault_by, registers_at}
-use Rattle.std.proofs.lemmas.Bool.{eq-eqb}
+use Rattle.zl_code.proofs.Common.{◌≡◌, ℕ, zero, suc, ◌≤◌, Bool, true, false, eqb, List, [], ◌∷◌, ◌++◌, length, take, drop, replicate, Option, Some, None, ◌==◌, not, refl, sym, ap, subst, ◌∙◌, arith, slice_index, IfSome, list_all, and_parts, and_from, eqb-true, take_all, length-take, length-drop, then_some, first_some, Layout, layout_of, Reading, reading_of, is_instr_in_range, are_registers, row_bytes, seven, instr_fault, number_at, bytes_of, names_registers, is_ending_clear, is_unused_zero, ending_bytes, fault_by, registers_at, eq-eqb}
 use Rattle.zl_code.specs.declared.instr.Instr.TheVariants as instr
 use Rattle.zl_code.specs.declared.image.DecodeFault.{DecodeFault}
 use Rattle.zl_code.specs.declared.image.DecodeFault.TheVariants as faults

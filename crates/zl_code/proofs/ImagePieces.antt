@@ -1,7 +1,6 @@
 -- A list of bytes in pieces of one size.
-use Rattle.zl_code.proofs.Common.{◌≡◌, ℕ, zero, suc, ◌+◌, ◌-◌, ◌*◌, ◌/◌, ◌≤◌, Bool, true, List, [], ◌∷◌, ◌++◌, length, take, drop, map, Option, None, refl, ap, ◌∙◌, arith, append_assoc, list_all, flat_map, and_parts, length-drop, take_at, drop_at, first_some, pieces, drop-drop, take_rest}
+use Rattle.zl_code.proofs.Common.{◌≡◌, ℕ, zero, suc, ◌+◌, ◌-◌, ◌*◌, ◌/◌, ◌≤◌, Bool, true, List, [], ◌∷◌, ◌++◌, length, take, drop, map, Option, None, refl, ap, ◌∙◌, arith, append_assoc, list_all, flat_map, and_parts, length-drop, take_at, drop_at, first_some, pieces, drop-drop, take_rest, length-append, take-append-drop}
 use Rattle.std.specs.Simd.{first_chunks}
-use Rattle.std.proofs.lemmas.List.{length-append, take-append-drop}
 use Rattle.std.proofs.lemmas.List.Concat.{flat_map-cons}
 use Rattle.zl_code.specs.declared.image.DecodeFault.{DecodeFault}
 

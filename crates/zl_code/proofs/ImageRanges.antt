@@ -1,6 +1,5 @@
 -- The ranges of an image, one by one, and of an image to which one thing is added.
-use Rattle.zl_code.proofs.Common.{◌≡◌, ℕ, ◌<◌, ◌≤◌, Bool, true, List, [], ◌∷◌, ◌++◌, length, refl, arith, nat_le, nat_lt, list_all, and_parts, and_from, leb-true, ltb-true, le-leb, lt-ltb, Image, are_needs, is_in_range, is_start_in_range, is_slot_in_range, is_instr_in_range}
-use Rattle.std.proofs.lemmas.List.{length-append}
+use Rattle.zl_code.proofs.Common.{◌≡◌, ℕ, ◌<◌, ◌≤◌, Bool, true, List, [], ◌∷◌, ◌++◌, length, refl, arith, nat_le, nat_lt, list_all, and_parts, and_from, leb-true, ltb-true, le-leb, lt-ltb, Image, are_needs, is_in_range, is_start_in_range, is_slot_in_range, is_instr_in_range, length-append}
 use Rattle.zl_rights.specs.declared.policy.Condition.{Condition}
 use Rattle.zl_code.specs.declared.image.Start.{Start}
 use Rattle.zl_code.specs.declared.image.SlotArray.{SlotArray}

@@ -1,6 +1,5 @@
 -- The bytes of a whole image.
-use Rattle.zl_code.proofs.Common.{◌≡◌, ℕ, ◌+◌, ◌*◌, Bool, true, false, cond, eqb, List, [], ◌∷◌, ◌++◌, length, drop, map, Option, Some, None, Result, Ok, Err, ◌⊎◌, inl, inr, IfOk, refl, sym, ap, ◌∙◌, arith, append-nil, nat_le, nat_lt, slice_index, list_all, flat_map, and_from, le-leb, lt-ltb, length-map, first_some, Image, spelling, Spells, needs_byte, are_needs, is_in_range, is_start_in_range, is_slot_in_range, is_instr_in_range, start_bytes, slot_bytes, instr_bytes, start_fault, slot_fault, instr_fault, header_fault, first_fault, pieces, number_at, MatchResult, drop-drop, drop_all, header, start_pieces, slot_pieces, code_pieces, count_at, starts_at, slots_at, is_raw_at}
-use Rattle.std.proofs.lemmas.List.{length-append}
+use Rattle.zl_code.proofs.Common.{◌≡◌, ℕ, ◌+◌, ◌*◌, Bool, true, false, cond, eqb, List, [], ◌∷◌, ◌++◌, length, drop, map, Option, Some, None, Result, Ok, Err, ◌⊎◌, inl, inr, IfOk, refl, sym, ap, ◌∙◌, arith, append-nil, nat_le, nat_lt, slice_index, list_all, flat_map, and_from, le-leb, lt-ltb, length-map, first_some, Image, spelling, Spells, needs_byte, are_needs, is_in_range, is_start_in_range, is_slot_in_range, is_instr_in_range, start_bytes, slot_bytes, instr_bytes, start_fault, slot_fault, instr_fault, header_fault, first_fault, pieces, number_at, MatchResult, drop-drop, drop_all, header, start_pieces, slot_pieces, code_pieces, count_at, starts_at, slots_at, is_raw_at, length-append}
 use Rattle.zl_code.specs.declared.image.DecodeFault.{DecodeFault}
 use Rattle.zl_code.specs.declared.image.DecodeFault.TheVariants as faults
 use Rattle.zl_code.proofs.ImageBytes.{IsBytes, number_of-bytes_of}

@@ -1,8 +1,6 @@
 -- The rows of the table, by opcode and by name.
-use Rattle.zl_code.proofs.Common.{◌≡◌, ◌≢◌, ℕ, ◌+◌, ◌<◌, ◌≤◌, Bool, true, false, ◌==◌, ◌&&◌, not, nat_lt, List, [], ◌∷◌, Option, Some, None, refl, ap, sym, subst, ◌∙◌, inl, inr, arith, find, list_all, option_map, cases_Bool, and_parts, and_from, eqb-true, ltb-true, Row, row_of, row_named}
+use Rattle.zl_code.proofs.Common.{◌≡◌, ◌≢◌, ℕ, ◌+◌, ◌<◌, ◌≤◌, Bool, true, false, ◌==◌, ◌&&◌, not, nat_lt, List, [], ◌∷◌, Option, Some, None, refl, ap, sym, subst, ◌∙◌, inl, inr, arith, find, list_all, option_map, cases_Bool, and_parts, and_from, eqb-true, ltb-true, Row, row_of, row_named, rows, row_among, eq-eqb}
 use Rattle.std.specs.Cmp.Lexicographic.{pointwise}
-use Rattle.std.proofs.lemmas.Bool.{eq-eqb}
-use Rattle.zl_code.specs.Instructions.{rows, row_among}
 
 -- the fact holds of each row
 abbrev Each : (Row → Type 0) → List Row → Type 0

@@ -1,8 +1,7 @@
 -- What handles name stays there, of the kind that they have.
-use Rattle.zl_code.proofs.Common.{◌≡◌, ◌<◌, ◌⊎◌, inl, inr, arith, ℕ, Bool, not, ◌||◌, ◌==◌, [], ◌∷◌, length, refl, ap, sym, ◌∙◌, IsTrue, Some, eq-eqb, is_some, All, list_any, cases_Bool, eqb-true, and_from, or_left, or_right, none-some, same_Some, All-nil, Map, get, without, where_key, World, Process, Object, Body, kind_of, is_process, runs, process_settled, Koids, Settles, without_others, is_held, in_table, in_queue, has_living_child, queue_of, HasGivenKoids, names_its_object, HandlesAreNamed, slice_index_or, Message, get-where_key-in, get-where_key-out, is_held-larger}
+use Rattle.zl_code.proofs.Common.{◌≡◌, ◌<◌, ◌⊎◌, inl, inr, arith, ℕ, Bool, not, ◌||◌, ◌==◌, [], ◌∷◌, length, refl, ap, sym, ◌∙◌, IsTrue, Some, eq-eqb, is_some, All, list_any, cases_Bool, eqb-true, and_from, or_left, or_right, none-some, same_Some, All-nil, Map, get, without, where_key, World, Process, Object, Body, kind_of, is_process, runs, process_settled, Koids, Settles, without_others, is_held, in_table, in_queue, has_living_child, queue_of, HasGivenKoids, names_its_object, HandlesAreNamed, slice_index_or, Message, get-where_key-in, get-where_key-out, is_held-larger, IsLargestHeld}
 use Rattle.std.proofs.lemmas.List.Folds.{list_any_at}
 use Rattle.zl_rights.specs.declared.entry.Entry.{Entry}
-use Rattle.zl_rights.specs.Settle.{IsLargestHeld}
 use Rattle.zl_code.proofs.MapKept.{Each, each_put, each_where_key, same, changed, new, changed_each, each_changed}
 use Rattle.zl_code.proofs.Changes.{ObjectChange, signals_change, packets_change, Change, table_kept}
 use Rattle.zl_code.proofs.NotReused.{same_kind}

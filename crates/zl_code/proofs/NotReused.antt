@@ -1,6 +1,5 @@
 -- No koid is given again, no object changes its kind, and no process vanishes or changes its program.
-use Rattle.zl_code.proofs.Common.{◌≡◌, ◌<◌, ◌≤◌, inl, inr, arith, ℕ, refl, ap, sym, ◌∙◌, Option, Some, None, is_some, cases_Bool, none-some, same_Some, get, World, Process, Object, kind_of, Settles, without_others, process_settled, HasGivenKoids, IsSound, get-each, get-where_key-in, get-where_key-out, KeepsProcesses}
-use Rattle.std.proofs.lemmas.Bool.{true≢false}
+use Rattle.zl_code.proofs.Common.{◌≡◌, ◌<◌, ◌≤◌, inl, inr, arith, ℕ, refl, ap, sym, ◌∙◌, Option, Some, None, is_some, cases_Bool, none-some, same_Some, get, World, Process, Object, kind_of, Settles, without_others, process_settled, HasGivenKoids, IsSound, get-each, get-where_key-in, get-where_key-out, KeepsProcesses, true≢false}
 use Rattle.zl_rights.specs.declared.kind.Kind.{Kind}
 use Rattle.zl_code.specs.Koids.{KeepsKoids}
 use Rattle.zl_code.proofs.MapKept.{same, changed, new}

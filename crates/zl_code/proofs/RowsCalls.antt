@@ -1,6 +1,5 @@
 -- Each cause of each call, by computation in small worlds.
-use Rattle.zl_code.proofs.Common.{◌≡◌, ℕ, ◌+◌, ◌-◌, ◌^◌, ◌==◌, IsTrue, [], ◌∷◌, refl, Option, Some, None, true, false, pos, and_parts, eqb-true, option_map, DUPLICATE, SIGNAL, SIGNALED, condition_number, has_key, World, Ended, kind_of, Request, close, dup, event_create, signal, process_exit, table_of, body_of, refusal, may_choose, effect, Choice, Refused, WantsMemory, Values, ok_outcome, SAME_RIGHTS, READABLE, TERMINATED}
-use Rattle.std.specs.Prelude.{negsuc}
+use Rattle.zl_code.proofs.Common.{◌≡◌, ℕ, ◌+◌, ◌-◌, ◌^◌, ◌==◌, IsTrue, [], ◌∷◌, refl, Option, Some, None, true, false, pos, and_parts, eqb-true, option_map, DUPLICATE, SIGNAL, SIGNALED, condition_number, has_key, World, Ended, kind_of, Request, close, dup, event_create, signal, process_exit, table_of, body_of, refusal, may_choose, effect, Choice, Refused, WantsMemory, Values, ok_outcome, SAME_RIGHTS, READABLE, TERMINATED, negsuc, active}
 use Rattle.zl_rights.specs.declared.kind.Kind.{Kind}
 use Rattle.zl_rights.specs.declared.kind.Kind.TheVariants as kind
 use Rattle.zl_rights.specs.declared.status.Status.TheVariants as status
@@ -8,7 +7,6 @@ use Rattle.zl_rights.specs.declared.policy.Action.{Action}
 use Rattle.zl_rights.specs.declared.policy.Action.TheVariants as action
 use Rattle.zl_rights.specs.declared.policy.Condition.{Condition}
 use Rattle.zl_rights.specs.declared.policy.Condition.TheVariants as condition
-use Rattle.zl_rights.specs.Signals.{active}
 use Rattle.zl_code.specs.declared.instr.Instr.TheVariants as instr
 use Rattle.zl_code.specs.declared.instr.CallInstr.{CallInstr}
 use Rattle.zl_code.specs.declared.instr.CallInstr.TheVariants as call

@@ -1,6 +1,5 @@
 -- Worlds whose handles are sound, and worlds whose handles aren't, by computation.
-use Rattle.zl_code.proofs.Common.{◌≡◌, ℕ, ◌+◌, ◌==◌, true, false, [], ◌∷◌, refl, sym, subst, ◌∙◌, IsTrue, Option, Some, None, inl, inr, cases_Bool, none-some, same_Some, Map, get, World, Process, ChannelEnd, in_order, has_default_rights, HandlesAreSound, READ}
-use Rattle.std.proofs.lemmas.Bool.{true≢false}
+use Rattle.zl_code.proofs.Common.{◌≡◌, ℕ, ◌+◌, ◌==◌, true, false, [], ◌∷◌, refl, sym, subst, ◌∙◌, IsTrue, Option, Some, None, inl, inr, cases_Bool, none-some, same_Some, Map, get, World, Process, ChannelEnd, in_order, has_default_rights, HandlesAreSound, READ, true≢false}
 use Rattle.zl_rights.specs.declared.entry.Entry.{Entry}
 use Rattle.zl_code.proofs.RowsWords.{world_of, process_of, event_with, job_with, FIRST_RIGHTS}
 

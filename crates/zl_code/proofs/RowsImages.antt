@@ -1,5 +1,5 @@
 -- The table of instructions, and images with declarations and messages, by computation.
-use Rattle.zl_code.proofs.Common.{◌≡◌, ℕ, zero, suc, ◌+◌, true, List, [], ◌∷◌, ◌++◌, map, length, refl, replicate, Some, None, nat_le, slice_set, false, list_all, rights_of, Image, row_of, Spells, local_parts, call_parts, first_fault, header_fault, start_fault, slot_fault, instr_fault, pieces}
+use Rattle.zl_code.proofs.Common.{◌≡◌, ℕ, zero, suc, ◌+◌, true, List, [], ◌∷◌, ◌++◌, map, length, refl, replicate, Some, None, nat_le, slice_set, false, list_all, rights_of, Image, row_of, Spells, local_parts, call_parts, first_fault, header_fault, start_fault, slot_fault, instr_fault, pieces, rows}
 use Rattle.zl_rights.specs.declared.kind.Kind.TheVariants as kind
 use Rattle.zl_rights.specs.declared.policy.Condition.TheVariants as condition
 use Rattle.zl_code.specs.declared.image.DecodeFault.{DecodeFault}
@@ -7,7 +7,6 @@ use Rattle.zl_code.specs.declared.image.DecodeFault.TheVariants as fault
 use Rattle.zl_code.specs.declared.instr.Instr.TheVariants as instr
 use Rattle.zl_code.specs.declared.instr.LocalInstr.TheVariants as local
 use Rattle.zl_code.specs.declared.instr.CallInstr.TheVariants as call
-use Rattle.zl_code.specs.Instructions.{rows}
 
 -- ---- the table
 

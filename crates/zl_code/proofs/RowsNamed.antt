@@ -1,6 +1,5 @@
 -- Worlds whose handles name objects of their kinds, and worlds with a handle that doesn't, by computation.
-use Rattle.zl_code.proofs.Common.{◌≡◌, arith, ◌==◌, [], ◌∷◌, refl, ap, sym, subst, ◌∙◌, None, inl, inr, All, cases_Bool, none-some, same_Some, All-nil, rights_of, Map, get, World, Process, Object, ChannelEnd, EventBody, kind_of, queue_of, names_its_object, HandlesAreNamed, Message}
-use Rattle.std.proofs.lemmas.List.Elements.{All-cons}
+use Rattle.zl_code.proofs.Common.{◌≡◌, arith, ◌==◌, [], ◌∷◌, refl, ap, sym, subst, ◌∙◌, None, inl, inr, All, cases_Bool, none-some, same_Some, All-nil, rights_of, Map, get, World, Process, Object, ChannelEnd, EventBody, kind_of, queue_of, names_its_object, HandlesAreNamed, Message, All-cons}
 use Rattle.zl_rights.specs.declared.kind.Kind.TheVariants as kind
 use Rattle.zl_rights.specs.declared.entry.Entry.{Entry}
 use Rattle.zl_code.proofs.MapKept.{Each}

@@ -1,6 +1,5 @@
 -- Boot, its faults, and the run of a program that ends stuck, by computation.
-use Rattle.zl_code.proofs.Common.{◌≡◌, ℕ, arith, Bool, true, ◌&&◌, IsTrue, List, [], ◌∷◌, refl, replicate, map, take, Option, Some, None, not, is_some, and_parts, World, Ready, Ended, Library, Choice, Refused, IsLegalHistory, IsBoot, Boots, FirstFault, at_statement, at_limit, boot_fault, boot_effect, may_boot, origin, settled_in, Settles-by, started_process}
-use Rattle.std.specs.Prelude.{negsuc}
+use Rattle.zl_code.proofs.Common.{◌≡◌, ℕ, arith, Bool, true, ◌&&◌, IsTrue, List, [], ◌∷◌, refl, replicate, map, take, Option, Some, None, not, is_some, and_parts, World, Ready, Ended, Library, Choice, Refused, IsLegalHistory, IsBoot, Boots, FirstFault, at_statement, at_limit, boot_fault, boot_effect, may_boot, origin, settled_in, Settles-by, started_process, negsuc}
 use Rattle.zl_code.specs.declared.boot.BootCause.TheVariants as cause
 use Rattle.zl_code.specs.declared.boot.Statement.{Statement}
 use Rattle.zl_code.specs.declared.boot.Statement.TheVariants as statement

@@ -1,13 +1,9 @@
 -- Every world of a run from a boot world is sound.
-use Rattle.zl_code.proofs.Common.{◌≡◌, ◌<◌, ◌≤◌, inl, inr, arith, ℕ, suc, Bool, true, false, not, ◌||◌, ◌==◌, List, [], length, refl, ap, sym, ◌∙◌, IsTrue, Option, Some, None, eq-eqb, if◌then◌else◌, is_some, nat_lt, bit_and, option_map, cases_Bool, eqb-true, and_parts, and_from, or_left, or_right, false≢true, none-some, same_Some, within, get, put, without, where_key, each, has_key, World, Process, State, Created, Ready, Blocked, Gone, Object, Body, PortBody, ProcessBody, is_process, state_passes, lives, runs, process_settled, Koids, Settles, without_others, is_held, in_table, in_queue, has_living_child, body_in, may_get, is_job_body, HasGivenKoids, raisable, IsSound, min, max, Packet, get-put, get-each, get-where_key-in, get-where_key-out, may_get_after, is_value, IsSoundTable, is_blocked, HasItsObject}
-use Rattle.std.specs.Prelude.{bit_xor}
+use Rattle.zl_code.proofs.Common.{◌≡◌, ◌<◌, ◌≤◌, inl, inr, arith, ℕ, suc, Bool, true, false, not, ◌||◌, ◌==◌, List, [], length, refl, ap, sym, ◌∙◌, IsTrue, Option, Some, None, eq-eqb, if◌then◌else◌, is_some, nat_lt, bit_and, option_map, cases_Bool, eqb-true, and_parts, and_from, or_left, or_right, false≢true, none-some, same_Some, within, get, put, without, where_key, each, has_key, World, Process, State, Created, Ready, Blocked, Gone, Object, Body, PortBody, ProcessBody, is_process, state_passes, lives, runs, process_settled, Koids, Settles, without_others, is_held, in_table, in_queue, has_living_child, body_in, may_get, is_job_body, HasGivenKoids, raisable, IsSound, min, max, Packet, get-put, get-each, get-where_key-in, get-where_key-out, may_get_after, is_value, IsSoundTable, is_blocked, HasItsObject, bit_xor, state_without, IsLargestHeld, filter, true≢false}
 use Rattle.std.specs.Int.{bit_at}
-use Rattle.std.specs.List.{filter}
-use Rattle.std.proofs.lemmas.Bool.{true≢false}
 use Rattle.std.proofs.lemmas.Nat.Bits.{same_from_bits, bit_at_and, bit_at_or, bit_at-zero}
 use Rattle.zl_rights.specs.declared.entry.Entry.{Entry}
 use Rattle.zl_rights.specs.Numbers.{changed as signals_changed}
-use Rattle.zl_rights.specs.Settle.{state_without, IsLargestHeld}
 use Rattle.zl_code.proofs.MapKept.{each_where_key, EachChanged, same, changed, new, changed_each, each_changed}
 use Rattle.zl_code.proofs.Changes.{MayEnter, ProcessChange, handle_enters, handle_leaves, computes, ends, wakes, ObjectChange, signals_change, packets_change, still, awake, Change}
 use Rattle.zl_code.proofs.Entering.{length_filter, length_put}

@@ -1,8 +1,7 @@
 -- What steps keep, along runs and histories from a boot world.
-use Rattle.zl_code.proofs.Common.{◌≡◌, ◌<◌, arith, inl, inr, ℕ, ◌==◌, List, [], ◌∷◌, refl, subst, IsTrue, Option, Some, None, is_some, list_all, flat_map, cases_Bool, eqb-true, false≢true, none-some, same_Some, within, get, World, Object, is_process, queue_of, Library, Step, pid_of, single, IsLegalHistory, Boots, IsBoot, boot_effect, origin, HasGivenKoids, has_default_rights, HandlesAreSound, HandlesAreNamed, raisable, IsSound, KeepsProcesses}
+use Rattle.zl_code.proofs.Common.{◌≡◌, ◌<◌, arith, inl, inr, ℕ, ◌==◌, List, [], ◌∷◌, refl, subst, IsTrue, Option, Some, None, is_some, list_all, flat_map, cases_Bool, eqb-true, false≢true, none-some, same_Some, within, get, World, Object, is_process, queue_of, Library, Step, pid_of, single, IsLegalHistory, Boots, IsBoot, boot_effect, origin, HasGivenKoids, has_default_rights, HandlesAreSound, HandlesAreNamed, raisable, IsSound, KeepsProcesses, Runs}
 use Rattle.zl_code.specs.declared.boot.Statement.{Statement}
 use Rattle.zl_code.specs.declared.history.TraceItem.{TraceItem}
-use Rattle.zl_code.specs.Steps.{Runs}
 use Rattle.zl_code.specs.Koids.{KeepsKoids}
 use Rattle.zl_code.specs.Handles.{Throughout}
 use Rattle.zl_code.proofs.Changes.{Changes, kept}

@@ -1,7 +1,6 @@
 -- From what the parts of the engine do to the answer to a text.
-use Rattle.zl_code.proofs.Common.{◌≡◌, ℕ, List, [], ◌++◌, length, Option, Some, None, Result, Ok, Err, refl, sym, ap, ◌∙◌, subst, arith, IfOk, OnOk, IsLegalHistory}
+use Rattle.zlab.proofs.Common.{◌≡◌, ℕ, List, [], ◌++◌, length, Option, Some, None, Result, Ok, Err, refl, sym, ap, ◌∙◌, subst, arith, IfOk, OnOk, IsLegalHistory, Appends, said_in, states_of, IsRunOf, IsFirstFault, too_long, IsAnswer, trace, refusal, Answers, BeginsAnswer, nothing, beginning, IsTextOf, AnswersReader, BeginsReader, IsStart, IsRun, WritesRun, BeginsRun, no_line, some_lines, turns_of, EndsBy, IsInputOf, AppendsBeginning, none_refused, System, Walks, room_of, history_text, cause_name, refused_line}
 use Rattle.std.specs.Prelude.{OnErr}
-use Rattle.std.specs.Io.KnownBytes.{Appends}
 use Rattle.zl_code.specs.declared.history.TraceItem.{TraceItem}
 use Rattle.zlab.specs.declared.fault.Cause.TheVariants as cause
 use Rattle.zlab.specs.declared.fault.LineFault.{LineFault}
@@ -11,13 +10,6 @@ use Rattle.zlab.specs.declared.input.Input.{Input}
 use Rattle.zlab.specs.declared.input.Input.TheVariants as input
 use Rattle.zlab.specs.declared.system.End.{End}
 use Rattle.zlab.specs.Assembling.{BeginsAssembly, nothing_written}
-use Rattle.zlab.specs.Engine.{said_in, states_of, IsRunOf, IsFirstFault, too_long, IsAnswer, trace, refusal, Answers, BeginsAnswer, nothing, beginning, IsTextOf, AnswersReader, BeginsReader, IsStart, IsRun, WritesRun, BeginsRun, no_line, some_lines}
-use Rattle.zlab.specs.Follows.{turns_of, EndsBy}
-use Rattle.zlab.specs.Input.{IsInputOf}
-use Rattle.zlab.specs.Output.{AppendsBeginning}
-use Rattle.zlab.specs.Scenario.{none_refused}
-use Rattle.zlab.specs.System.{System, Walks, room_of}
-use Rattle.zlab.specs.Text.{history_text, cause_name, refused_line}
 use Rattle.zlab.proofs.Legal.{ends_legal}
 use Rattle.zlab.proofs.SoundWorlds.{always_sound}
 

@@ -1,6 +1,6 @@
 -- What the text leads to before the first step.
-use Rattle.zl_code.proofs.Common.{◌≡◌, ℕ, ◌<◌, List, [], length, get_or, Some, None, sym, ap, ◌∙◌, subst, arith, slice_get, slice_get-get_or, none-some, IsBoot, FirstFault, at_statement, at_limit, World}
-use Rattle.std.specs.Prelude.{slice_index_or}
+use Rattle.zlab.proofs.Common.{◌≡◌, ℕ, ◌<◌, List, [], length, get_or, Some, None, sym, ap, ◌∙◌, subst, arith, slice_get, slice_get-get_or, none-some, IsBoot, FirstFault, at_statement, at_limit, slice_index_or, IsFirstFault, of_statement, of_reading, line_cause, said_in, IsStart, FitsInput, none_refused, reading_of, IsInOrder, System}
+use Rattle.zl_code.proofs.Common.{World}
 use Rattle.std.proofs.lemmas.Option.{slice_get_within}
 use Rattle.zl_code.specs.declared.boot.BootCause.{BootCause}
 use Rattle.zl_code.specs.declared.boot.BootCause.TheVariants as boot
@@ -8,11 +8,7 @@ use Rattle.zl_code.specs.declared.boot.Statement.{Statement}
 use Rattle.zlab.specs.declared.fault.Cause.{Cause}
 use Rattle.zlab.specs.declared.fault.LineFault.{LineFault}
 use Rattle.zlab.specs.declared.scenario.Scenario.{Scenario as Made}
-use Rattle.zlab.specs.Engine.{IsFirstFault, of_statement, of_reading, line_cause, said_in, IsStart}
-use Rattle.zlab.specs.Input.{FitsInput}
 use Rattle.zlab.specs.Reading.{IsScenario}
-use Rattle.zlab.specs.Scenario.{none_refused, reading_of, IsInOrder}
-use Rattle.zlab.specs.System.{System}
 
 -- only a want of memory has no line
 other_than_memory : (found : BootCause) (c : Cause) → line_cause found ≡ Some c → found ≡ boot.NoMemory → ⊥

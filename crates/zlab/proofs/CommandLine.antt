@@ -1,24 +1,19 @@
 -- What clap finds in the words that it takes for the program's commands.
-use Rattle.zl_code.proofs.Common.{◌≡◌, ◌∙◌, ◌&&◌, ◌||◌, Bool, true, false, not, cond, refl, sym, ap, true≢false, List, [], ◌∷◌, ◌++◌, ℕ, codes, Option, Some, None, IfSome, IsSome, is_some, Result, Err, Ok, IfErr, ◌⊎◌, inl, inr, subst, slice_get, find}
+use Rattle.zlab.proofs.Common.{◌≡◌, ◌∙◌, ◌&&◌, ◌||◌, Bool, true, false, not, cond, refl, sym, ap, true≢false, List, [], ◌∷◌, ◌++◌, ℕ, codes, Option, Some, None, IfSome, IsSome, is_some, Result, Err, Ok, IfErr, ◌⊎◌, inl, inr, subst, slice_get, find, option_and_then, unwrap_or, App, Shape, built, entered, filled, names_of, rows_at, with_index, fault_of, subcommand_of, IsErrAnd, FaultOf, MayAskForHelp, HasValue, HasValues, commands, needed}
 use Rattle.std.proofs.Common.{option_map}
-use Rattle.std.specs.Prelude.{option_and_then, unwrap_or}
 use Rattle.std.specs.Option.{option_map_or}
 use Rattle.std.specs.Str.{bytes_eq}
 use Rattle.std.proofs.lemmas.Slice.Eq.{bytes_eq-Decides}
 use Rattle.clap.specs.Facts.{explicit_source}
 use Rattle.clap.specs.Walk.{Held, Row, Rule, Text, at_row, more_values, nothing_held, reading_by, rows_after, stop_after, used, with_values, without}
-use Rattle.clap.specs.Simple.{App, Shape, built, entered, filled, names_of, rows_at, with_index}
 use Rattle.clap.specs.Takes.{is_given}
-use Rattle.clap.specs.Words.{fault_of, subcommand_of}
 use Rattle.clap.specs.Kinds.{IsAmong, Kinds, check_kinds}
 use Rattle.clap.specs.declared.error.kind.ErrorKind.{ErrorKind}
 use Rattle.clap.specs.declared.error.kind.ErrorKind.TheVariants.{DisplayHelp, DisplayVersion, InvalidSubcommand, OutOfMemory}
-use Rattle.std.specs.Prelude.{IsErrAnd}
 use Rattle.zlab.specs.declared.words.WordFault.{WordFault}
 use Rattle.zlab.specs.declared.words.WordFault.TheVariants.{NoMemory, Usage}
 use Rattle.clap.specs.Faults.{entered_fault, level_fault, other_fault}
 use Rattle.clap.specs.declared.parser.matches.ValueSource.TheVariants.{CommandLine}
-use Rattle.zlab.specs.Words.{FaultOf, MayAskForHelp, HasValue, HasValues, commands, needed}
 use Rattle.zlab.proofs.WalkKeeps.{Each, KeepsRows, found_has, level_fits}
 
 -- ---- rows with a value

@@ -1,9 +1,8 @@
 -- When a word spells a number.
-use Rattle.zl_code.proofs.Common.{◌≡◌, ℕ, ◌+◌, ◌-◌, ◌*◌, ◌^◌, ◌<◌, ◌≤◌, Bool, true, false, ◌&&◌, not, eqb, ltb, cond, List, [], ◌∷◌, length, take, drop, get_or, fold, Some, None, refl, sym, ap, ◌∙◌, subst, arith, take-append-drop, list_all, nat_tests}
+use Rattle.zlab.proofs.Common.{◌≡◌, ℕ, ◌+◌, ◌-◌, ◌*◌, ◌^◌, ◌<◌, ◌≤◌, Bool, true, false, ◌&&◌, not, eqb, ltb, cond, List, [], ◌∷◌, length, take, drop, get_or, fold, Some, None, refl, sym, ap, ◌∙◌, subst, arith, take-append-drop, list_all, nat_tests, is_number, decimal_value, is_decimal_digit, decimal_digit_of, number_of}
 use Rattle.std.proofs.lemmas.Bool.{le-ltb}
 use Rattle.std.proofs.lemmas.List.Folds.{list_all_at}
 use Rattle.std.proofs.lemmas.List.Sums.{fold-append, fold_more}
-use Rattle.zlab.specs.Lines.{is_number, decimal_value, is_decimal_digit, decimal_digit_of, number_of}
 
 abbrev with : ℕ → ℕ → ℕ
 with value digit = value * 10 + (digit - 48)

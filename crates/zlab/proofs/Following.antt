@@ -1,8 +1,8 @@
 -- A run that is computed along a schedule follows it.
-use Rattle.zl_code.proofs.Common.{◌≡◌, ℕ, Bool, true, false, List, [], ◌∷◌, map, refl, ap, Some, None, is_some, World, is_process, is_ready, Library, Choice}
+use Rattle.zlab.proofs.Common.{◌≡◌, ℕ, Bool, true, false, List, [], ◌∷◌, map, refl, ap, Some, None, is_some, is_process, is_ready, Library, Choice, Follows, ends, skips, goes}
+use Rattle.zl_code.proofs.Common.{World}
 use Rattle.zl_code.specs.declared.history.TraceItem.{TraceItem}
 use Rattle.zl_code.proofs.Running.{Acted, step_by, step_by-Step, Went, onto, items_of, world_after}
-use Rattle.zlab.specs.Follows.{Follows, ends, skips, goes}
 
 -- the turns, one after another, each with the choice that the definitions leave open; those of processes that aren't ready are skipped
 abbrev pub follow_by : Library → World → List (ℕ × Choice) → Went

@@ -1,6 +1,5 @@
 -- The digits of bytes.
-use Rattle.zl_code.proofs.Common.{◌≡◌, ℕ, ◌+◌, ◌*◌, ◌/◌, ◌%◌, List, [], ◌∷◌, ◌++◌, length, refl, arith, length-append, flat_map}
-use Rattle.zlab.specs.Lines.{hex_digits_of_byte, bytes_of_digits}
+use Rattle.zlab.proofs.Common.{◌≡◌, ℕ, ◌+◌, ◌*◌, ◌/◌, ◌%◌, List, [], ◌∷◌, ◌++◌, length, refl, arith, length-append, flat_map, hex_digits_of_byte, bytes_of_digits}
 
 -- two digits for a byte
 pub length-digits : (bytes : List ℕ) → length (flat_map hex_digits_of_byte bytes) ≡ 2 * length bytes

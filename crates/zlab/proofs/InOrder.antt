@@ -1,9 +1,7 @@
 -- What a text says stands in the order of its lines, and before the first fault.
-use Rattle.zl_code.proofs.Common.{◌≡◌, ℕ, ◌+◌, ◌≤◌, Bool, true, false, ltb, cond, List, [], ◌∷◌, ◌++◌, length, Option, Some, None, Result, Ok, Err, refl, subst, arith, length-append, nat_tests, MOST_ITEMS}
+use Rattle.zlab.proofs.Common.{◌≡◌, ℕ, ◌+◌, ◌≤◌, Bool, true, false, ltb, cond, List, [], ◌∷◌, ◌++◌, length, Option, Some, None, Result, Ok, Err, refl, subst, arith, length-append, nat_tests, MOST_ITEMS, words_of, Scenario, Body, Part, Statements, Block, Schedule, Place, Refusals, at, start, onto, opened_by, body_named, onto_block, bytes_said, body_said, with_program, MOST_PROGRAMS, process_said, limit_said, statement_said, program_said, block_said, pair_said, turns_said, part_said, line_said, told_line, Reading, refused_at, fault_at_end, reading_from, Rises, IsInOrder}
 use Rattle.zlab.specs.declared.fault.Cause.{Cause}
 use Rattle.zlab.specs.declared.fault.Cause.TheVariants as cause
-use Rattle.zlab.specs.Lines.{words_of}
-use Rattle.zlab.specs.Scenario.{Scenario, Body, Part, Statements, Block, Schedule, Place, Refusals, at, start, onto, opened_by, body_named, onto_block, bytes_said, body_said, with_program, MOST_PROGRAMS, process_said, limit_said, statement_said, program_said, block_said, pair_said, turns_said, part_said, line_said, told_line, Reading, refused_at, fault_at_end, reading_from, Rises, IsInOrder}
 
 -- ---- rising lines
 

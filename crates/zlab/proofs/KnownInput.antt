@@ -1,8 +1,6 @@
 -- What has been read so far, of a reader that may tell its bytes.
-use Rattle.zl_code.proofs.Common.{ℕ, ◌<◌, List, length, Option, None, Some, refl, sym, subst, arith, length-append}
-use Rattle.std.specs.Io.KnownBytes.{Consumes}
+use Rattle.zlab.proofs.Common.{ℕ, ◌<◌, List, length, Option, None, Some, refl, sym, subst, arith, length-append, Consumes, MOST_INPUT, IsInputOf}
 use Rattle.zlab.specs.declared.input.Input.TheVariants as input
-use Rattle.zlab.specs.Input.{MOST_INPUT, IsInputOf}
 
 -- where more than the limit was read, the whole is longer still
 pub too_long : (told left : Option (List ℕ)) (taken : List ℕ) → Consumes told left taken → MOST_INPUT < length taken → IsInputOf told input.TooLong

@@ -1,12 +1,12 @@
 -- What follows a schedule is a legal history.
-use Rattle.zl_code.proofs.Common.{◌≡◌, ℕ, List, [], ◌∷◌, refl, sym, subst, IsTrue, World, Library, Step, Acts, Next, Moves, AtCall, IsStuck, next_for, pid_of, single, IsLegalHistory}
+use Rattle.zlab.proofs.Common.{◌≡◌, ℕ, List, [], ◌∷◌, refl, sym, subst, IsTrue, Library, Step, Acts, Next, Moves, AtCall, IsStuck, next_for, pid_of, single, IsLegalHistory, Follows, ends, skips, goes, EndsBy}
+use Rattle.zl_code.proofs.Common.{World}
 use Rattle.zl_code.specs.declared.history.CallName.{CallName}
 use Rattle.zl_code.specs.declared.history.TraceItem.{TraceItem}
 use Rattle.zl_code.specs.declared.history.TraceItem.TheVariants as item
 use Rattle.zl_code.specs.Steps.{has_count}
 use Rattle.zlab.specs.declared.system.End.{End}
 use Rattle.zlab.specs.declared.system.End.TheVariants as end
-use Rattle.zlab.specs.Follows.{Follows, ends, skips, goes, EndsBy}
 
 -- the item of one step
 record IsSingle (p : ℕ) (x : TraceItem) : Type 0 where

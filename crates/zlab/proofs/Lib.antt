@@ -1,3 +1,4 @@
+pub mod Common
 pub mod KnownInput
 pub mod KnownOutput
 pub mod HexDigits

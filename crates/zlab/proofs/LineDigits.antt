@@ -1,8 +1,6 @@
 -- The digits of a line, one byte after the other.
-use Rattle.zl_code.proofs.Common.{◌≡◌, ℕ, ◌+◌, ◌<◌, Bool, true, false, eqb, cond, List, [], ◌∷◌, ◌++◌, length, drop, get_or, Option, Some, None, Ok, Err, refl, sym, ap, ◌∙◌, arith, append_assoc, append-nil, at_drop_more, nat_tests}
+use Rattle.zlab.proofs.Common.{◌≡◌, ℕ, ◌+◌, ◌<◌, Bool, true, false, eqb, cond, List, [], ◌∷◌, ◌++◌, length, drop, get_or, Option, Some, None, Ok, Err, refl, sym, ap, ◌∙◌, arith, append_assoc, append-nil, at_drop_more, nat_tests, hex_digit_of, digits_of, both, digits_said}
 use Rattle.zlab.specs.declared.fault.Cause.TheVariants as cause
-use Rattle.zlab.specs.Lines.{hex_digit_of, digits_of, both}
-use Rattle.zlab.specs.Scenario.{digits_said}
 
 spaced : (byte : ℕ) (bytes : List ℕ) → byte ≡ 32 → digits_of (byte ∷ bytes) ≡ digits_of bytes
 unfolding digits_of

@@ -1,8 +1,7 @@
 -- The programs of a scenario, and the bytes that spell them.
-use Rattle.zl_code.proofs.Common.{◌≡◌, ℕ, ◌<◌, true, false, ◌&&◌, ltb, List, [], ◌∷◌, ◌++◌, length, Result, Ok, IsTrue, refl, sym, ap, ◌∙◌, arith, list_all, and_parts, nat_tests, list_all-append, Image, Library, Program, Spells, spelling, is_in_range}
+use Rattle.zlab.proofs.Common.{◌≡◌, ℕ, ◌<◌, true, false, ◌&&◌, ltb, List, [], ◌∷◌, ◌++◌, length, Result, Ok, IsTrue, refl, sym, ap, ◌∙◌, arith, list_all, and_parts, nat_tests, list_all-append, Image, Library, Program, Spells, spelling, is_in_range, Scenario, MOST_PROGRAMS, none_refused, with_program, program_said}
 use Rattle.zlab.specs.declared.fault.Cause.{Cause}
 use Rattle.zlab.specs.Reading.{Lists, spellings, has_ranges}
-use Rattle.zlab.specs.Scenario.{Scenario, MOST_PROGRAMS, none_refused, with_program, program_said}
 
 spelled : (p : Program) → IsTrue (has_ranges p) → Spells (spelling p.image) p.image
 unfolding has_ranges

@@ -1,9 +1,8 @@
 -- Reading a text line by line.
-use Rattle.zl_code.proofs.Common.{◌≡◌, ℕ, ◌+◌, ◌<◌, List, [], ◌∷◌, ◌++◌, length, map, take, drop, get_or, Ok, Err, refl, sym, ap, ◌∙◌, arith, append_assoc, length-append, append-nil, take-append-drop, map-append, at_drop_more}
+use Rattle.zlab.proofs.Common.{◌≡◌, ℕ, ◌+◌, ◌<◌, List, [], ◌∷◌, ◌++◌, length, map, take, drop, get_or, Ok, Err, refl, sym, ap, ◌∙◌, arith, append_assoc, length-append, append-nil, take-append-drop, map-append, at_drop_more, Place, Refusals, refused_at, told_line, line_said, reading_from, fault_at_end}
 use Rattle.std.specs.List.{enumerate_from}
 use Rattle.std.proofs.lemmas.List.FromFn.{length-enumerate_from, get_or-enumerate_from}
 use Rattle.zlab.specs.declared.fault.Cause.{Cause}
-use Rattle.zlab.specs.Scenario.{Place, Refusals, refused_at, told_line, line_said, reading_from, fault_at_end}
 
 -- ---- one line
 

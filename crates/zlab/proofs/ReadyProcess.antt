@@ -1,7 +1,7 @@
 -- A process that is told to be ready is ready, and no other.
-use Rattle.zl_code.proofs.Common.{◌≡◌, ℕ, false, Option, Some, None, IsTrue, refl, get, State, Process, Created, Ready, Blocked, Ended, Gone, is_ready, is_process, state_passes}
+use Rattle.zlab.proofs.Common.{◌≡◌, ℕ, false, Option, Some, None, IsTrue, refl, get, State, Process, Created, Ready, Blocked, Ended, Gone, is_ready, is_process, state_passes, state_in, seen_in, seen_of, is_ready_in}
 use Rattle.zl_code.specs.declared.history.ProcState.TheVariants as seen
-use Rattle.zl_calls.specs.World.{World, state_in, seen_in, seen_of, is_ready_in}
+use Rattle.zl_calls.specs.World.{World}
 
 ready_state : (s : State) → seen_in s ≡ seen.Ready → IsTrue (is_ready s)
 ready_state Created e = absurd (cc)

@@ -1,13 +1,10 @@
 -- Worked texts: what they say and their first faults, by computation.
-use Rattle.zl_code.proofs.Common.{◌≡◌, ℕ, ◌==◌, true, false, List, [], ◌∷◌, ◌++◌, Some, None, Err, replicate, refl, codes, flat_map, row_of, first_fault, header_fault, instr_fault, pieces}
+use Rattle.zlab.proofs.Common.{◌≡◌, ℕ, ◌==◌, true, false, List, [], ◌∷◌, ◌++◌, Some, None, Err, replicate, refl, codes, flat_map, row_of, first_fault, header_fault, instr_fault, pieces, is_word, number_of, digits_of, bytes_of_digits, hex_digits_of_byte, Scenario, Listed, Reading, none_refused, refused_at, reading_of, reading_from, line_said, statement_said, block_said, body_said, digits_spelled, program_said, turns_said, body_named, limit_said, process_said, pair_said, is_end, digits_in, text_in}
 use Rattle.zl_code.specs.declared.boot.Statement.{Statement}
 use Rattle.zl_code.specs.declared.boot.Statement.TheVariants as statement
 use Rattle.zl_code.proofs.Stored.{bytes}
 use Rattle.zlab.specs.declared.fault.Cause.{Cause}
 use Rattle.zlab.specs.declared.fault.Cause.TheVariants as cause
-use Rattle.zl_asm.specs.Words.{is_word}
-use Rattle.zlab.specs.Lines.{number_of, digits_of, bytes_of_digits, hex_digits_of_byte}
-use Rattle.zlab.specs.Scenario.{Scenario, Listed, Reading, none_refused, refused_at, reading_of, reading_from, line_said, statement_said, block_said, body_said, digits_spelled, program_said, turns_said, body_named, limit_said, process_said, pair_said, is_end, digits_in, text_in}
 
 -- a raw program of these bytes
 abbrev raw : List ℕ → Listed

@@ -1,10 +1,8 @@
 -- Command lines, as clap's definitions read them.
-use Rattle.zl_code.proofs.Common.{◌≡◌, refl, true, [], ◌∷◌, List, Option, Some, None, codes}
+use Rattle.zlab.proofs.Common.{◌≡◌, refl, true, [], ◌∷◌, List, Option, Some, None, codes, Text, fault_of, first_of, is_simple_and_free, subcommand_of, takes, commands}
 use Rattle.std.proofs.Common.{option_map}
-use Rattle.clap.specs.Words.{Text, fault_of, first_of, is_simple_and_free, subcommand_of, takes}
 use Rattle.clap.specs.declared.error.kind.ErrorKind.TheVariants as kind
 use Rattle.clap.proofs.OnLiterals.{clap_on_literals}
-use Rattle.zlab.specs.Words.{commands}
 
 abbrev files : List Text → Option (Text × Option Text × Option Text)
 files words = option_map (λ found. (found.0, first_of (codes "IN") found.1, first_of (codes "OUT") found.1)) (subcommand_of commands words)

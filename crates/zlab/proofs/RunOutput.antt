@@ -1,16 +1,11 @@
 -- The text of a run, written piece by piece.
-use Rattle.zl_code.proofs.Common.{◌≡◌, ℕ, ◌<◌, ◌≤◌, List, [], ◌∷◌, ◌++◌, length, map, take, get_or, Option, Some, None, refl, sym, ap, ◌∙◌, subst, append_assoc, append-nil, IsTrue, arith, zero, suc, inl, inr, ◌+◌, ◌==◌, true, eq-eqb, slice_get, flat_map, option_map, nat_cmp, is_sorted, below_all, and_parts, cases_Bool, eqb-true, nat_tests, none-some, same_Some, length-map, take_all, Map, get, Process}
+use Rattle.zlab.proofs.Common.{◌≡◌, ℕ, ◌<◌, ◌≤◌, List, [], ◌∷◌, ◌++◌, length, map, take, get_or, Option, Some, None, refl, sym, ap, ◌∙◌, subst, append_assoc, append-nil, IsTrue, arith, zero, suc, inl, inr, ◌+◌, ◌==◌, true, eq-eqb, slice_get, flat_map, nat_cmp, is_sorted, below_all, and_parts, cases_Bool, eqb-true, nat_tests, none-some, same_Some, length-map, Map, get, Process, Appends, seen_in, seen_of, state_in, states_of, IsRun, WritesRun, BeginsRun, some_lines, AppendsBeginning, Gathers, System, Walks, turns_of, item_line, state_line, end_line, history_text}
+use Rattle.zl_code.proofs.Common.{option_map, take_all}
 use Rattle.std.specs.Ordering.{is_lt}
-use Rattle.std.specs.Io.KnownBytes.{Appends}
 use Rattle.std.proofs.lemmas.Option.{slice_get-map, slice_get_within, get_or_from_slice_get}
 use Rattle.zl_code.specs.declared.history.ProcState.{ProcState}
-use Rattle.zl_calls.specs.World.{World, seen_in, seen_of, state_in}
+use Rattle.zl_calls.specs.World.{World}
 use Rattle.zlab.specs.declared.system.End.{End}
-use Rattle.zlab.specs.Engine.{states_of, IsRun, WritesRun, BeginsRun, some_lines}
-use Rattle.zlab.specs.Output.{AppendsBeginning, Gathers}
-use Rattle.zlab.specs.System.{System, Walks}
-use Rattle.zlab.specs.Follows.{turns_of}
-use Rattle.zlab.specs.Text.{item_line, state_line, end_line, history_text}
 use Rattle.zlab.proofs.KnownOutput.{gathers_both, begun_after, gathers_line, begun_line}
 
 -- ---- pieces

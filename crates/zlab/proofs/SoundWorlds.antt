@@ -1,9 +1,9 @@
 -- In every world of a history from a boot world handles are sound, and name objects of their kind.
-use Rattle.zl_code.proofs.Common.{List, World, IsBoot, Library, IsSound, IsLegalHistory}
+use Rattle.zlab.proofs.Common.{List, IsBoot, Library, IsSound, IsLegalHistory, InEachWorld}
+use Rattle.zl_code.proofs.Common.{World}
 use Rattle.zl_code.specs.declared.boot.Statement.{Statement}
 use Rattle.zl_code.specs.declared.history.TraceItem.{TraceItem}
 use Rattle.zl_code.proofs.SoundRuns.{history_keeps}
-use Rattle.zlab.specs.Engine.{InEachWorld}
 
 pub always_sound : (lib : Library) (statements : List Statement) (boot w : World) (items : List TraceItem) → IsBoot lib statements boot → (legal : IsLegalHistory lib boot items w) → InEachWorld IsSound lib boot items w legal
 always_sound = history_keeps IsSound (λ w sound. sound)

@@ -1,12 +1,10 @@
 -- The stored run: its history follows its schedule, and has its text, by computation.
-use Rattle.zl_code.proofs.Common.{◌≡◌, ℕ, List, [], ◌∷◌, ◌++◌, refl, codes, pos, replicate, Choice, Refused, boot_effect}
+use Rattle.zlab.proofs.Common.{◌≡◌, ℕ, List, [], ◌∷◌, ◌++◌, refl, codes, pos, replicate, Choice, Refused, boot_effect, Follows, turns_of, history_text}
 use Rattle.std.specs.Fmt.{digits}
 use Rattle.zl_code.specs.declared.history.ProcState.TheVariants as seen
 use Rattle.zl_code.proofs.Running.{computing, world_after}
 use Rattle.zl_code.proofs.Stored.{library, boot, history, turns}
 use Rattle.zlab.specs.declared.system.End.TheVariants as end
-use Rattle.zlab.specs.Follows.{Follows, turns_of}
-use Rattle.zlab.specs.Text.{history_text}
 use Rattle.zlab.proofs.Following.{follow_by, Follows-by}
 
 -- eight turns with a choice each, and twelve more, in which the process has ended

@@ -1,9 +1,7 @@
 -- What a turn is answered for which the trace has no room.
-use Rattle.zl_code.proofs.Common.{◌<◌, ◌≤◌, ℕ, Bool, true, false, inl, inr, refl, length, if◌then◌else◌, cases_Bool}
-use Rattle.zl_calls.specs.World.{is_ready_in}
+use Rattle.zlab.proofs.Common.{◌<◌, ◌≤◌, ℕ, Bool, true, false, inl, inr, refl, length, if◌then◌else◌, cases_Bool, is_ready_in, System, Turns}
 use Rattle.zlab.specs.declared.system.Stepped.{Stepped}
 use Rattle.zlab.specs.declared.system.Stepped.TheVariants as stepped
-use Rattle.zlab.specs.System.{System, Turns}
 
 -- the answer by whether the process is ready
 abbrev pub answer_by : Bool → Stepped → Stepped

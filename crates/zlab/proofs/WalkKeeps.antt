@@ -1,10 +1,8 @@
 -- What a parse with no fault keeps, word by word: a fact of each row, and one of the subcommand's name.
-use Rattle.zl_code.proofs.Common.{◌≡◌, ◌∙◌, ◌&&◌, ℕ, Bool, true, false, cond, zero, suc, refl, sym, ap, subst, List, [], ◌∷◌, length, drop, Option, Some, None, IfSome, is_some, slice_get, fold, find}
-use Rattle.std.specs.Prelude.{encode_utf8}
+use Rattle.zlab.proofs.Common.{◌≡◌, ◌∙◌, ◌&&◌, ℕ, Bool, true, false, cond, zero, suc, refl, sym, ap, subst, List, [], ◌∷◌, length, drop, Option, Some, None, IfSome, is_some, slice_get, fold, find, encode_utf8, Shape}
 use Rattle.std.specs.Str.{bytes_eq, chars}
 use Rattle.clap.specs.Lexer.{long_of, short_of}
 use Rattle.clap.specs.Walk.{Held, Names, Outcome, Row, Rule, Step, Text, Waiting, Walk, after_flag, after_step, arg_by_id, arg_by_index, arg_by_long, arg_by_short, attached_value, flag_met, bundle_met, bundle_step, done, has_row, default_rows, reading_by, nothing_held, rows_after, stop_after, walk_from, is_pending, long_met, next, option_met, plain, plain_word, option_word, positional_held, reacted, refused, settled, settled_rows, short_met, subcommand, subcommand_met, subcommand_or_other, takes_several, takes_values, to_positional, trailing, used, used_by_id, value, waits, walk, walked, walked_from, with_default, word_met, long_or_other, short_or_plain, idle, option, positional}
-use Rattle.clap.specs.Simple.{Shape}
 use Rattle.clap.specs.Kinds.{Kinds, or_else}
 use Rattle.clap.specs.declared.error.kind.ErrorKind.TheVariants.{TooManyValues}
 use Rattle.clap.specs.Faults.{bundle_step_fault, check_fault, level_fault, stray_fault, flags_fault, long_fault, option_fault, other_fault, positional_fault, react_fault, settle_fault, short_fault, step_fault, turn_fault, use_fault, walk_fault, word_fault, flag_word_fault}

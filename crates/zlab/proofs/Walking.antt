@@ -1,13 +1,11 @@
 -- Turns, one after another: what was walked, and what follows it.
-use Rattle.zl_code.proofs.Common.{◌≡◌, ℕ, ◌+◌, ◌-◌, ◌<◌, ◌≤◌, false, List, [], ◌∷◌, ◌++◌, length, replicate, take, drop, take-append-drop, get_or, refl, sym, ap, ◌∙◌, subst, IsTrue, arith, append_assoc, append-nil, zero, suc, take_more, World, is_process, is_ready, Library}
-use Rattle.std.proofs.lemmas.List.{length-append, replicate_more, replicate-append-replicate}
+use Rattle.zlab.proofs.Common.{◌≡◌, ℕ, ◌+◌, ◌-◌, ◌<◌, ◌≤◌, false, List, [], ◌∷◌, ◌++◌, length, replicate, take, drop, take-append-drop, get_or, refl, sym, ap, ◌∙◌, subst, IsTrue, arith, append_assoc, append-nil, zero, suc, take_more, is_process, is_ready, Library, is_ready_in, Follows, ends, skips, goes, StopsBefore, EndsBy, turns_of, System, Adds, Runs, Walks, room_of, length-append}
+use Rattle.zl_code.proofs.Common.{World}
+use Rattle.std.proofs.lemmas.List.{replicate_more, replicate-append-replicate}
 use Rattle.std.proofs.lemmas.List.Concat.{flat_map-append}
 use Rattle.zl_code.specs.declared.history.TraceItem.{TraceItem}
-use Rattle.zl_calls.specs.World.{is_ready_in}
 use Rattle.zlab.specs.declared.system.End.{End}
 use Rattle.zlab.specs.declared.system.End.TheVariants as end
-use Rattle.zlab.specs.Follows.{Follows, ends, skips, goes, StopsBefore, EndsBy, turns_of}
-use Rattle.zlab.specs.System.{System, Adds, Runs, Walks, room_of}
 
 -- ---- what follows a schedule
 

@@ -1,10 +1,7 @@
 -- A block is read whole.
-use Rattle.zl_code.proofs.Common.{◌≡◌, ℕ, ◌+◌, Bool, true, false, ◌&&◌, not, cond, List, [], ◌∷◌, ◌++◌, length, Option, Some, None, Result, Ok, Err, refl, sym, ap, ◌∙◌, arith, append_assoc, append-nil, codes}
+use Rattle.zlab.proofs.Common.{◌≡◌, ℕ, ◌+◌, Bool, true, false, ◌&&◌, not, cond, List, [], ◌∷◌, ◌++◌, length, Option, Some, None, Result, Ok, Err, refl, sym, ap, ◌∙◌, arith, append_assoc, append-nil, codes, is_ascii, is_word, is_comment, words_of, digits_of, Scenario, Refusals, Body, Hex, Asm, Statements, Block, Place, at, onto, body_named, statement_said, is_end, digits_spelled, text_spelled, program_said, body_said, block_said, line_said, after_block, reading_from, joined, digits_in, text_in, DigitsAreWhole, TextIsWhole, BlocksAreWhole}
 use Rattle.zlab.specs.declared.fault.Cause.{Cause}
 use Rattle.zl_asm.specs.Denotes.{image_bytes_of}
-use Rattle.zl_asm.specs.Words.{is_ascii, is_word}
-use Rattle.zlab.specs.Lines.{is_comment, words_of, digits_of}
-use Rattle.zlab.specs.Scenario.{Scenario, Refusals, Body, Hex, Asm, Statements, Block, Place, at, onto, body_named, statement_said, is_end, digits_spelled, text_spelled, program_said, body_said, block_said, line_said, after_block, reading_from, joined, digits_in, text_in, DigitsAreWhole, TextIsWhole, BlocksAreWhole}
 use Rattle.zlab.proofs.ReadingOn.{taken, stopped}
 
 -- ---- one line

@@ -8,7 +8,7 @@ ghost use Rattle.zlab.specs.Output.{AppendsBeginning, Gathers};
 ghost use Rattle.zlab.specs.Text.{cause_name, refused_line, state_line};
 
 use crate::fault::{Cause, EngineFault, LineFault, Verdict};
-use crate::hints::explain_trace;
+use crate::hints::{explain_scenario, explain_trace};
 use crate::input::{Input, read_input};
 use crate::output::{empty_block, write_block, write_if_full, write_items};
 use crate::scenario::{Reading, Scenario, read_scenario};
@@ -18,7 +18,6 @@ use std::alloc::Global;
 use std::io::{Read, Write};
 use zl_calls::World;
 use zl_code::{BootCause, BootFault, ProcState};
-use zl_hints::explain_scenario;
 use zl_rights::Pid;
 
 /// Reads a scenario with a schedule, and writes the trace along the schedule or the line of the

@@ -1,44 +1,25 @@
-//! What standard error says of processes that are stuck, and of files and streams that fail.
+//! What a person is told on standard error beside a refusal or a failure: where the fault is, what is
+//! wrong, and what was wanted.
+//!
+//! Texts for people have no contract: each function is safe and returns, whatever it is given, and no
+//! more is promised. Where memory is refused there is no hint. Nothing is called before an input is
+//! refused, so what is found here is found anew, line by line, from the input and the cause that the
+//! answer has.
 
-use crate::system::System;
-use std::alloc::Global;
-use std::io;
-use zl_calls::World;
-use zl_code::TraceItem;
-use zl_hints::{Stuck, explain_stuck};
-use zl_rights::Pid;
+mod block;
+mod command;
+mod directive;
+mod failing;
+mod image;
+mod instruction;
+mod lines;
+mod nearest;
+mod program;
+mod scenario;
+mod stuck;
+mod word;
 
-/// Adds a line for each process that is stuck in the trace.
-pub fn explain_trace(hints: &mut String, alloc: Global, system: &System) {
-    for item in system.items() {
-        if let TraceItem::Stuck { pid } = item {
-            explain_process(hints, alloc, system.world(), *pid);
-        }
-    }
-}
-
-/// Adds a line that says why the process is stuck.
-fn explain_process(hints: &mut String, alloc: Global, world: &World, pid: Pid) {
-    let (Some(image), Some(cpu)) = (world.image_of(pid), world.cpu_of(pid)) else {
-        return;
-    };
-    let stuck = Stuck {
-        pid,
-        image,
-        counter: cpu.counter(),
-        registers: cpu.registers(),
-    };
-    explain_stuck(hints, alloc, stuck);
-}
-
-/// Puts the name of a file or stream there, and why the system refuses it where that is known.
-pub fn explain_failure(hints: &mut String, name: &str, reason: Option<io::Error>) {
-    hints.clear();
-    let pushed = match reason {
-        Some(reason) => write!(hints, "{name}: {reason}"),
-        None => hints.push_str(name),
-    };
-    if pushed.is_err() {
-        hints.clear();
-    }
-}
+pub use command::explain_words;
+pub use failing::{explain_failure, explain_trace};
+pub use program::explain_program;
+pub use scenario::explain_scenario;

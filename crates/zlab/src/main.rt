@@ -1,9 +1,10 @@
 //! The program: its command line, the trace of standard input, the assembler over files, what standard
 //! error says, and its exit status.
 //!
-//! It stands on `zl_calls` for the world, on `zl_asm` for the assembler, on `zl_hints` for what a
-//! person is told, on `zl_code` and `zl_rights` for what these speak of, and on `clap` and `thiserror`. It promises, by the contracts of
-//! `step_engine`, `asm_engine` and `words`, that what is written is the answer to what was read.
+//! It stands on `zl_calls` for the world, on `zl_asm` for the assembler, on `zl_code` and `zl_rights`
+//! for what these speak of, on `clap` and `thiserror`, and on `strsim` for names that are alike. It
+//! promises, by the contracts of `step_engine`, `asm_engine` and `words`, that what is written is the
+//! answer to what was read.
 #![tactic(auto)]
 
 #[cfg(test)]
@@ -33,7 +34,7 @@ mod words;
 use assembling::asm_engine;
 use engine::step_engine;
 use fault::{EngineFault, Verdict};
-use hints::explain_failure;
+use hints::{explain_failure, explain_words};
 use std::alloc::AllocError;
 use std::fs::OpenFile;
 use std::os::unix::fs::MetadataExt;
@@ -43,7 +44,6 @@ use std::{env, fs, io};
 use thiserror::Error;
 use told::Told;
 use words::{Task, WordFault};
-use zl_hints::explain_words;
 
 /// Why the program ends without an answer.
 #[derive(Debug, Drop, Error)]

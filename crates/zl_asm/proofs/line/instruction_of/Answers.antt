@@ -1,6 +1,4 @@
-use Rattle.zl_asm.proofs.Common.{◌≡◌, take, drop, Option, List, ℕ, ap, sym, ◌∙◌, row_named, operands_of, instruction_of, then_with, registers_of, tail_of, source_with, source_value, texts}
-use Rattle.zl_code.proofs.Common.{option_map}
-use Rattle.std.specs.Result.{result_ok}
+use Rattle.zl_asm.proofs.Common.{◌≡◌, take, drop, Option, List, ℕ, ap, sym, ◌∙◌, row_named, operands_of, instruction_of, then_with, registers_of, tail_of, source_with, source_value, texts, option_map, result_ok}
 use Rattle.zl_asm.specs.declared.fault.AsmCause.TheVariants.{NoMemory}
 use Rattle.zl_asm.proofs.Answered.{value_if_ok, none_if_err}
 use Rattle.zl_asm.proofs.LineNames.{by_row}

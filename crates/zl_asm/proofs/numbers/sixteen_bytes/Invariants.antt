@@ -1,5 +1,4 @@
-use Rattle.zl_asm.proofs.Common.{◌≡◌, ◌*◌, ◌++◌, length, take, drop, hex_bytes}
-use Rattle.zl_code.proofs.Common.{option_map}
+use Rattle.zl_asm.proofs.Common.{◌≡◌, ◌*◌, ◌++◌, length, take, drop, hex_bytes, option_map}
 use Rattle.zl_asm.proofs.numbers.sixteen_bytes.Given as goal
 
 abbrev pub invariant-loop-i : goal.invariant-loop-i

@@ -1,5 +1,4 @@
-use Rattle.zl_asm.proofs.Common.{◌≡◌, ◌++◌, map, take, drop, register_of, all_of}
-use Rattle.zl_code.proofs.Common.{option_map}
+use Rattle.zl_asm.proofs.Common.{◌≡◌, ◌++◌, map, take, drop, register_of, all_of, option_map}
 use Rattle.zl_asm.proofs.operands.put_registers.Given as goal
 
 abbrev pub invariant-loop-i : goal.invariant-loop-i

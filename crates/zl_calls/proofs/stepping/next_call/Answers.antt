@@ -1,6 +1,5 @@
 use Rattle.zl_calls.proofs.Places.{calls_next, no_call_next}
-use Rattle.zl_calls.proofs.Common.{process_value}
-use Rattle.zl_calls.specs.Program.{program_value}
+use Rattle.zl_calls.proofs.Common.{process_value, program_value}
 use Rattle.zl_calls.proofs.stepping.next_call.Goals as goal
 
 pub returns-clause-found : goal.returns-clause-found

@@ -1,6 +1,5 @@
 use Rattle.zl_calls.proofs.Places.{moves_at, stuck_at}
-use Rattle.zl_calls.proofs.Common.{process_value}
-use Rattle.zl_calls.specs.Program.{program_value}
+use Rattle.zl_calls.proofs.Common.{process_value, program_value}
 use Rattle.zl_calls.proofs.stepping.next_local.Goals as goal
 
 pub returns-clause-found : goal.returns-clause-found

@@ -1,4 +1,4 @@
-use Rattle.zlab.specs.Engine.{nothing}
+use Rattle.zlab.proofs.Common.{nothing}
 use Rattle.zlab.proofs.Answering.{both_ok, mapped_err, run_answers, run_begins, refusal_answers, refusal_begins}
 use Rattle.zlab.proofs.KnownOutput.{on_err}
 use Rattle.zlab.proofs.engine.answer.Goals as goal

@@ -1,7 +1,4 @@
-use Rattle.zl_code.proofs.Common.{refl, sym, ap, ◌∙◌}
-use Rattle.zlab.specs.Engine.{Starts}
-use Rattle.zlab.specs.Scenario.{none_refused}
-use Rattle.zlab.specs.System.{System}
+use Rattle.zlab.proofs.Common.{refl, sym, ap, ◌∙◌, Starts, none_refused, System}
 use Rattle.zlab.proofs.Booting.{statement_fault, reading_fault, is_start}
 use Rattle.zlab.proofs.engine.boot.Goals.{in-Some, in-None}
 use Rattle.zlab.proofs.engine.boot.Goals as goal

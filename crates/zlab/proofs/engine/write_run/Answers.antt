@@ -1,4 +1,4 @@
-use Rattle.zlab.specs.Engine.{no_line}
+use Rattle.zlab.proofs.Common.{no_line}
 use Rattle.zlab.proofs.KnownOutput.{on_err}
 use Rattle.zlab.proofs.RunOutput.{items_begun, states_begun, end_wanting, end_begun, run_written}
 use Rattle.zlab.proofs.engine.write_run.Goals as goal

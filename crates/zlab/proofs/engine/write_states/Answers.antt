@@ -1,4 +1,4 @@
-use Rattle.zl_code.proofs.Common.{arith}
+use Rattle.zlab.proofs.Common.{arith}
 use Rattle.zlab.proofs.KnownOutput.{on_err}
 use Rattle.zlab.proofs.RunOutput.{one_more_state, begun_state, all_states}
 use Rattle.zlab.proofs.engine.write_states.Goals as goal

@@ -1,7 +1,4 @@
-use Rattle.zl_code.proofs.Common.{string_bytes, take, flat_map}
-use Rattle.zlab.specs.Engine.{states_of}
-use Rattle.zlab.specs.Output.{Gathers}
-use Rattle.zlab.specs.Text.{state_line}
+use Rattle.zlab.proofs.Common.{string_bytes, take, flat_map, states_of, Gathers, state_line}
 use Rattle.zlab.proofs.engine.write_states.Given as goal
 
 abbrev pub invariant-loop-n : goal.invariant-loop-n

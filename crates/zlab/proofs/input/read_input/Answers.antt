@@ -1,5 +1,4 @@
-use Rattle.zl_code.proofs.Common.{◌++◌, take, arith, length-append}
-use Rattle.std.proofs.Common.{length-take}
+use Rattle.zlab.proofs.Common.{◌++◌, take, arith, length-append, length-take}
 use Rattle.std.proofs.KnownBytes.{Consumes-trans}
 use Rattle.zlab.proofs.KnownInput.{too_long}
 use Rattle.zlab.proofs.input.read_input.Goals as goal

@@ -1,8 +1,5 @@
-use Rattle.zl_code.proofs.Common.{◌≡◌, ◌+◌, ◌-◌, ◌≤◌, length}
-use Rattle.std.proofs.Common.{vec_len}
-use Rattle.std.specs.Io.KnownBytes.{Consumes}
+use Rattle.zlab.proofs.Common.{◌≡◌, ◌+◌, ◌-◌, ◌≤◌, length, vec_len, Consumes, MOST_INPUT}
 use Rattle.zlab.specs.declared.input.TheConstants.{BLOCK}
-use Rattle.zlab.specs.Input.{MOST_INPUT}
 use Rattle.zlab.proofs.input.read_input.Given as goal
 
 abbrev pub invariant-loop-block : goal.invariant-loop-block

@@ -1,4 +1,4 @@
-use Rattle.zl_code.proofs.Common.{◌+◌, arith}
+use Rattle.zlab.proofs.Common.{◌+◌, arith}
 use Rattle.std.proofs.KnownBytes.{Appends-kept}
 use Rattle.zlab.proofs.KnownOutput.{appended_more, begun_by_front}
 use Rattle.zlab.proofs.output.write_all.Goals as goal

@@ -1,5 +1,4 @@
-use Rattle.zl_code.proofs.Common.{◌-◌, ◌≤◌, length, take}
-use Rattle.std.specs.Io.KnownBytes.{Appends}
+use Rattle.zlab.proofs.Common.{◌-◌, ◌≤◌, length, take, Appends}
 use Rattle.zlab.proofs.output.write_all.Given as goal
 
 abbrev pub invariant-loop-done : goal.invariant-loop-done

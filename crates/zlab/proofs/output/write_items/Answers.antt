@@ -1,4 +1,4 @@
-use Rattle.zlab.specs.Text.{item_line}
+use Rattle.zlab.proofs.Common.{item_line}
 use Rattle.zlab.proofs.KnownOutput.{on_err, gathers_line, begun_line}
 use Rattle.zlab.proofs.output.write_items.Goals as goal
 

@@ -1,6 +1,4 @@
-use Rattle.zl_code.proofs.Common.{string_bytes, take, flat_map}
-use Rattle.zlab.specs.Text.{item_line}
-use Rattle.zlab.specs.Output.{Gathers}
+use Rattle.zlab.proofs.Common.{string_bytes, take, flat_map, item_line, Gathers}
 use Rattle.zlab.proofs.output.write_items.Given as goal
 
 abbrev pub invariant-loop-item : goal.invariant-loop-item

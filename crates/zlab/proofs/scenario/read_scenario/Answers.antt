@@ -1,4 +1,4 @@
-use Rattle.zl_asm.specs.Words.{lines_of}
+use Rattle.zlab.proofs.Common.{lines_of}
 use Rattle.zlab.proofs.InOrder.{text_in_order}
 use Rattle.zlab.proofs.WholeBlocks.{blocks_are_whole}
 use Rattle.zlab.proofs.scenario.read_scenario.Goals as goal

@@ -1,4 +1,4 @@
-use Rattle.zl_code.proofs.Common.{sym, ◌∙◌}
+use Rattle.zlab.proofs.Common.{sym, ◌∙◌}
 use Rattle.zlab.proofs.ReadyProcess.{ready_by, busy_by}
 use Rattle.zlab.proofs.system.is_ready.Goals as goal
 

@@ -1,8 +1,5 @@
-use Rattle.zl_code.proofs.Common.{ap, ◌∙◌}
-use Rattle.std.proofs.Common.{ap₂}
+use Rattle.zlab.proofs.Common.{ap, ◌∙◌, ap₂, with_rule, app_of_fields}
 use Rattle.std.proofs.lemmas.Result.{IfOk-weaker}
-use Rattle.clap.specs.Words.{with_rule}
-use Rattle.clap.specs.Simple.{app_of_fields}
 use Rattle.zlab.proofs.words.assembling.Goals as goal
 
 pub returns : goal.returns

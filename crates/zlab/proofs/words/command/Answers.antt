@@ -1,10 +1,6 @@
-use Rattle.zl_code.proofs.Common.{ap, ◌≡◌, ◌∙◌, true}
-use Rattle.std.proofs.Common.{ap₂}
+use Rattle.zlab.proofs.Common.{ap, ◌≡◌, ◌∙◌, true, ap₂, app_of, with_subcommand, app_of_fields, on_top, assembling, program}
 use Rattle.std.proofs.lemmas.Result.{IfOk-weaker}
-use Rattle.clap.specs.Words.{app_of, with_subcommand}
-use Rattle.clap.specs.Simple.{app_of_fields, on_top}
 use Rattle.clap.proofs.SimpleLemmas.{plain_fields}
-use Rattle.zlab.specs.Words.{assembling, program}
 use Rattle.zlab.proofs.words.command.Goals as goal
 
 pub returns : goal.returns

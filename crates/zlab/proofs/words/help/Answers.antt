@@ -1,6 +1,4 @@
-use Rattle.zl_code.proofs.Common.{◌∙◌, ap, sym, map, subst}
-use Rattle.clap.specs.Words.{is_simple_and_free}
-use Rattle.zlab.specs.Words.{MayAskForHelp}
+use Rattle.zlab.proofs.Common.{◌∙◌, ap, sym, map, subst, is_simple_and_free, MayAskForHelp}
 use Rattle.zlab.proofs.CommandLine.{asks_for_help, asks_nothing, kinds_of_set}
 use Rattle.zlab.proofs.words.help.Goals as goal
 

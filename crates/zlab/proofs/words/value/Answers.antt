@@ -1,6 +1,5 @@
-use Rattle.zl_code.proofs.Common.{◌∙◌, ap, sym, is_some}
+use Rattle.zlab.proofs.Common.{◌∙◌, ap, sym, is_some, found_of}
 use Rattle.std.proofs.Common.{option_map}
-use Rattle.clap.specs.Words.{found_of}
 use Rattle.clap.proofs.WalkLemmas.{first_value-rows}
 use Rattle.zlab.proofs.CommandLine.{mapped_some}
 use Rattle.zlab.proofs.words.value.Goals as goal

@@ -1,7 +1,5 @@
-use Rattle.zl_code.proofs.Common.{◌≡◌, ◌∙◌, sym, subst, ap, map, true, []}
-use Rattle.clap.specs.Words.{app_of, fault_of, is_simple_and_free, is_simple, subcommand_of}
+use Rattle.zlab.proofs.Common.{◌≡◌, ◌∙◌, sym, subst, ap, map, true, [], app_of, fault_of, is_simple_and_free, is_simple, subcommand_of, HasValues, commands}
 use Rattle.clap.specs.Takes.{takes}
-use Rattle.zlab.specs.Words.{HasValues, commands}
 use Rattle.zlab.proofs.CommandLine.{found_values, refused_by}
 use Rattle.zlab.proofs.words.words.Goals as goal
 

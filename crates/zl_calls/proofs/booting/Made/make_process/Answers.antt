@@ -1,5 +1,4 @@
-use Rattle.zl_calls.proofs.Common.{◌≡◌, ◌∙◌, ap, sym, refl, arith, length, length-map, seen, process_entry}
-use Rattle.zl_code.proofs.Common.{World}
+use Rattle.zl_calls.proofs.Common.{◌≡◌, ◌∙◌, ap, sym, refl, arith, length, length-map, seen, process_entry, World}
 use Rattle.zl_code.proofs.CanStart.{CanStart, can_start}
 use Rattle.zl_calls.specs.declared.process.State.TheVariants as state
 use Rattle.zl_calls.proofs.BootFaults.{rights_are}

@@ -1,4 +1,4 @@
-use Rattle.zl_code.proofs.Common.{arith}
+use Rattle.zlab.proofs.Common.{arith}
 use Rattle.zlab.proofs.Programs.{said_more}
 use Rattle.zlab.proofs.scenario.block.read_program.Goals as goal
 

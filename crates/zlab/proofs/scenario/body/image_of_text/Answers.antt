@@ -1,5 +1,4 @@
-use Rattle.zl_code.proofs.Common.{ap}
-use Rattle.zlab.specs.Scenario.{text_spelled}
+use Rattle.zlab.proofs.Common.{ap, text_spelled}
 use Rattle.zl_asm.proofs.ListingBytes.{image_bytes_of-Denotes}
 use Rattle.zlab.proofs.scenario.body.image_of_text.Goals as goal
 

@@ -1,6 +1,4 @@
-use Rattle.zl_code.proofs.Common.{sym, ◌∙◌, arith, at_drop_all}
-use Rattle.zlab.specs.Lines.{digits_of}
-use Rattle.zlab.specs.Scenario.{digits_said}
+use Rattle.zlab.proofs.Common.{sym, ◌∙◌, arith, at_drop_all, digits_of, digits_said}
 use Rattle.zlab.proofs.LineDigits.{after_space, after_digit, at_other, at_line_end}
 use Rattle.zlab.proofs.scenario.body.push_digits.Goals as goal
 use Rattle.zlab.proofs.scenario.body.push_digits.Goals.{then-byte-ne32+in-Some+in_ok-push, else-byte-ne32}

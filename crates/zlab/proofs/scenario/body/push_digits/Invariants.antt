@@ -1,6 +1,4 @@
-use Rattle.zl_code.proofs.Common.{◌≡◌, drop}
-use Rattle.zlab.specs.Lines.{digits_of}
-use Rattle.zlab.specs.Scenario.{digits_said}
+use Rattle.zlab.proofs.Common.{◌≡◌, drop, digits_of, digits_said}
 use Rattle.zlab.proofs.scenario.body.push_digits.Given as goal
 
 abbrev pub invariant-loop-byte : goal.invariant-loop-byte

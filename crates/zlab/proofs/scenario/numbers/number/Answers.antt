@@ -1,6 +1,5 @@
-use Rattle.zl_code.proofs.Common.{◌≡◌, ◌+◌, ◌*◌, ◌-◌, ◌^◌, ◌<◌, true, Some, length, get_or, take, sym, ap, ◌∙◌, arith, list_all, nat_tests}
+use Rattle.zlab.proofs.Common.{◌≡◌, ◌+◌, ◌*◌, ◌-◌, ◌^◌, ◌<◌, true, Some, length, get_or, take, sym, ap, ◌∙◌, arith, list_all, nat_tests, decimal_value, is_decimal_digit}
 use Rattle.std.proofs.Common.{take_all}
-use Rattle.zlab.specs.Lines.{decimal_value, is_decimal_digit}
 use Rattle.zlab.proofs.Decimals.{none_empty, none_digit, none_large, some_number, not_digit, digit_value}
 use Rattle.zlab.proofs.scenario.numbers.number.Goals as goal
 

@@ -1,5 +1,4 @@
-use Rattle.zl_code.proofs.Common.{◌≡◌, ◌^◌, ◌<◌, true, take, list_all}
-use Rattle.zlab.specs.Lines.{decimal_value, is_decimal_digit}
+use Rattle.zlab.proofs.Common.{◌≡◌, ◌^◌, ◌<◌, true, take, list_all, decimal_value, is_decimal_digit}
 use Rattle.zlab.proofs.scenario.numbers.number.Given as goal
 
 abbrev pub invariant-loop-byte : goal.invariant-loop-byte

@@ -1,4 +1,4 @@
-use Rattle.zl_code.proofs.Common.{◌==◌, ℕ, eqb, List, filter, not, length, rules, ap, ◌∙◌}
+use Rattle.zlab.proofs.Common.{◌==◌, ℕ, eqb, List, filter, not, length, rules, ap, ◌∙◌}
 use Rattle.std.proofs.lemmas.Iterator.Consumers.{YieldsList-end}
 use Rattle.std.proofs.lemmas.Iterator.Splits.{YieldsList-from_slice_split}
 use Rattle.zlab.proofs.scenario.words.split_words.Goals as goal

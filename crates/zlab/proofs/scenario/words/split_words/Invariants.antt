@@ -1,4 +1,4 @@
-use Rattle.zl_code.proofs.Common.{◌≡◌, ◌==◌, not, length, map, filter}
+use Rattle.zlab.proofs.Common.{◌≡◌, ◌==◌, not, length, map, filter}
 use Rattle.zlab.proofs.scenario.words.split_words.Given as goal
 
 abbrev pub invariant-loop-word : goal.invariant-loop-word

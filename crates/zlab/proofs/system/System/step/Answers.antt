@@ -1,4 +1,4 @@
-use Rattle.zl_code.proofs.Common.{refl, arith, rules}
+use Rattle.zlab.proofs.Common.{refl, arith, rules}
 use Rattle.zlab.proofs.TurnTold.{limit_told, memory_told}
 use Rattle.zlab.proofs.system.System.step.Goals as goal
 

@@ -1,4 +1,4 @@
-use Rattle.zl_code.proofs.Common.{sym}
+use Rattle.zlab.proofs.Common.{sym}
 use Rattle.zlab.proofs.Walking.{walks_nowhere, once_more, no_more, no_room, no_memory}
 use Rattle.zlab.proofs.system.System.step_turns.Goals as goal
 

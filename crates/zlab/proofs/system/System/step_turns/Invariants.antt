@@ -1,6 +1,5 @@
-use Rattle.zl_code.proofs.Common.{replicate}
+use Rattle.zlab.proofs.Common.{replicate, Walks}
 use Rattle.zlab.specs.declared.system.End.TheVariants as end
-use Rattle.zlab.specs.System.{Walks}
 use Rattle.zlab.proofs.system.System.step_turns.Given as goal
 
 abbrev pub invariant-loop-turn : goal.invariant-loop-turn

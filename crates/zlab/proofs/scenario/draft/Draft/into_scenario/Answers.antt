@@ -1,4 +1,4 @@
-use Rattle.zl_code.proofs.Common.{refl}
+use Rattle.zlab.proofs.Common.{refl}
 use Rattle.zlab.proofs.Programs.{lists_all}
 use Rattle.zlab.proofs.scenario.draft.Draft.into_scenario.Goals as goal
 

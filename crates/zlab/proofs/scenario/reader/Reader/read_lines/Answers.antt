@@ -1,9 +1,7 @@
-use Rattle.zl_code.proofs.Common.{ℕ, ◌+◌, length, eqb, rules, sym, ap, ◌∙◌, Some}
+use Rattle.zlab.proofs.Common.{ℕ, ◌+◌, length, eqb, rules, sym, ap, ◌∙◌, Some, lines_of, none_refused}
 use Rattle.std.proofs.lemmas.Iterator.Consumers.{YieldsList-so_far, YieldsList-turn, YieldsList-end, YieldsList-from_enumerate}
 use Rattle.std.proofs.lemmas.Iterator.Splits.{YieldsList-from_slice_split}
-use Rattle.zl_asm.specs.Words.{lines_of}
 use Rattle.zl_asm.proofs.Numbered.{lines_so_far, lines_all}
-use Rattle.zlab.specs.Scenario.{none_refused}
 use Rattle.zlab.proofs.ReadingOn.{turn_by, one_more, at_fault, at_last}
 use Rattle.zlab.proofs.scenario.reader.Reader.read_lines.Goals as goal
 

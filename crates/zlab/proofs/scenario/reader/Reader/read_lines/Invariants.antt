@@ -1,5 +1,4 @@
-use Rattle.zl_code.proofs.Common.{◌≡◌, ℕ, ◌+◌, List, ◌++◌, length, map}
-use Rattle.zlab.specs.Scenario.{none_refused, reading_from}
+use Rattle.zlab.proofs.Common.{◌≡◌, ℕ, ◌+◌, List, ◌++◌, length, map, none_refused, reading_from}
 use Rattle.zlab.proofs.scenario.reader.Reader.read_lines.Given as goal
 
 abbrev pub invariant-loop-index : goal.invariant-loop-index

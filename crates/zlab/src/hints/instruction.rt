@@ -1,8 +1,8 @@
 //! The faults of an instruction of the assembler's text.
 
-use crate::lines::is;
-use crate::nearest::Nearest;
-use crate::word::{Word, plural};
+use crate::hints::lines::is;
+use crate::hints::nearest::Nearest;
+use crate::hints::word::{Word, plural};
 use std::alloc::{AllocError, Global};
 use zl_asm::numbers::{is_name, number, register};
 use zl_code::{Ending, HandleList, Row};

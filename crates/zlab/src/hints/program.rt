@@ -1,10 +1,14 @@
 //! The faults of the assembler's text.
 
-use crate::directive::{push_directive_limit, push_directive_operand, push_directive_unknown};
-use crate::instruction::{push_instruction_operand, push_instruction_unknown};
-use crate::lines::{is, line_at, place_of_blank, place_outside_ascii, push_head, push_odd_byte};
-use crate::nearest::Nearest;
-use crate::word::Word;
+use crate::hints::directive::{
+    push_directive_limit, push_directive_operand, push_directive_unknown,
+};
+use crate::hints::instruction::{push_instruction_operand, push_instruction_unknown};
+use crate::hints::lines::{
+    is, line_at, place_of_blank, place_outside_ascii, push_head, push_odd_byte,
+};
+use crate::hints::nearest::Nearest;
+use crate::hints::word::Word;
 use std::alloc::{AllocError, Global};
 use zl_asm::words::split_words;
 use zl_asm::{AsmCause, AsmFault};

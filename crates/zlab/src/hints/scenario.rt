@@ -1,11 +1,11 @@
 //! The faults of a scenario and its schedule.
 
-use crate::block::{is_opening, push_block_fault};
-use crate::lines::{
+use crate::hints::block::{is_opening, push_block_fault};
+use crate::hints::lines::{
     is, line_at, place_of_blank, place_outside_ascii, push_head, push_odd_byte, words_of,
 };
-use crate::nearest::push_nearest;
-use crate::word::{Word, plural};
+use crate::hints::nearest::push_nearest;
+use crate::hints::word::{Word, plural};
 use std::alloc::{AllocError, Global};
 
 /// The statements and lines that there are.

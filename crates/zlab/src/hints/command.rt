@@ -1,7 +1,7 @@
 //! Which word of a command line wasn't understood.
 
-use crate::nearest::push_nearest;
-use crate::word::Word;
+use crate::hints::nearest::push_nearest;
+use crate::hints::word::Word;
 use std::alloc::{AllocError, Global};
 use std::convert::AsStr;
 

@@ -1,9 +1,9 @@
 //! The faults of the block of a program, whose answer names the line that opens it.
 
-use crate::image::push_image_fault;
-use crate::lines::{is, place_outside_ascii, push_head, push_odd_byte, words_of};
-use crate::program::push_program_fault;
-use crate::word::Word;
+use crate::hints::image::push_image_fault;
+use crate::hints::lines::{is, place_outside_ascii, push_head, push_odd_byte, words_of};
+use crate::hints::program::push_program_fault;
+use crate::hints::word::Word;
 use std::alloc::{AllocError, Global};
 use zl_asm::assemble_bytes;
 use zl_code::decode;

@@ -1,8 +1,8 @@
 //! The faults of a directive of the assembler's text.
 
-use crate::lines::is;
-use crate::nearest::push_nearest;
-use crate::word::{Word, plural};
+use crate::hints::lines::is;
+use crate::hints::nearest::push_nearest;
+use crate::hints::word::{Word, plural};
 use bitflags::Flags;
 use std::alloc::{AllocError, Global};
 use zl_asm::numbers::{number, sixteen_bytes};

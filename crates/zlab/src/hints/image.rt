@@ -1,8 +1,8 @@
 //! The faults of the bytes of an image.
 
-use crate::block::{Block, line_of_byte};
-use crate::lines::push_head;
-use crate::word::plural;
+use crate::hints::block::{Block, line_of_byte};
+use crate::hints::lines::push_head;
+use crate::hints::word::plural;
 use bitflags::Flags;
 use std::alloc::AllocError;
 use zl_code::{DecodeFault, Ending, HandleList, Instr, Row};

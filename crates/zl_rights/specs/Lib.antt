@@ -6,4 +6,5 @@ pub mod World
 pub mod Signals
 pub mod Settle
 pub mod Wakes
+pub mod Counts
 pub mod Common

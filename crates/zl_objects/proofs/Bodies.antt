@@ -1,0 +1,123 @@
+-- What keeps objects, once one of them was changed or has gone.
+use Rattle.zl_rights.proofs.Common.{◌≡◌, ℕ, Bool, true, false, not, ◌&&◌, ◌||◌, ◌==◌, [], ◌∷◌, refl, sym, ap, ◌∙◌, cond, Option, Some, None, inl, inr, IsTrue, eq-eqb, nat_lt, if◌then◌else◌, is_some, list_any, option_map, nat_cmp, is_sorted, cases_Bool, eqb-true, false≢true, none-some, same_Some, Map, get, has_key, update, without}
+use Rattle.std.proofs.lemmas.Bool.{or_parts}
+use Rattle.zl_rights.proofs.MapLaws.{get-update}
+use Rattle.zl_table.proofs.MapEdits.{get-without, sorted_parts, without_lower}
+use Rattle.zl_objects.specs.declared.object.Body.{Body}
+use Rattle.zl_objects.specs.declared.object.Body.TheVariants as body
+use Rattle.zl_objects.specs.declared.object.Object.{Object}
+use Rattle.zl_objects.specs.Objects.{has_living_child, is_job_at, is_job_in, is_kept, lives_below, stays_alone}
+use Rattle.zl_objects.specs.Seen.{is_in_job}
+
+-- ---- one object was changed
+
+-- an object afterwards is one that was there before, perhaps changed
+pub record Changed (f : Object → Object) (m : Map Object) (k j : ℕ) (q : Object) : Type 0 where
+  pub before : Object
+  pub there : get m j ≡ Some before
+  pub is : q ≡ (if k == j then f before else before)
+
+pub changed : (f : Object → Object) (m : Map Object) (k j : ℕ) (q : Object) → get (update m k f) j ≡ Some q → Changed f m k j q
+changed f m k j q at = by_object (get m j) refl (sym (get-update m k f j) ∙ at)
+  where
+    by_object : (o : Option Object) → get m j ≡ o → (if k == j then option_map f (get m j) else get m j) ≡ Some q → Changed f m k j q
+    by_object None is h = elim (cases_Bool (k == j)) as (λ _. Changed f m k j q) [
+      | inl here ↦ absurd (none-some q (rw (here, is) at h))
+      | inr apart ↦ absurd (none-some q (rw (apart, is) at h))
+    ]
+    by_object (Some o) is h = elim (cases_Bool (k == j)) as (λ _. Changed f m k j q) [
+      | inl here ↦ record { before = o; there = is; is = rw here (sym (same_Some (f o) q (rw (here, is) at h))) }
+      | inr apart ↦ record { before = o; there = is; is = rw apart (sym (same_Some o q (rw (apart, is) at h))) }
+    ]
+
+module _ (f : Object → Object) (same : (o : Object) → (f o).body ≡ o.body) where
+  child_updated : (m : Map Object) (k job : ℕ) → has_living_child (update m k f) job ≡ has_living_child m job
+  unfolding update has_living_child
+  child_updated [] k job = refl
+  child_updated (e ∷ m) k job = elim (cases_Bool (e.0 == k)) as (λ _. list_any (λ x. lives_below job x.1.body) (update (e ∷ m) k f) ≡ list_any (λ x. lives_below job x.1.body) (e ∷ m)) [
+    | inl here ↦ rw (here, same e.1) refl
+    | inr apart ↦ rw apart (ap (λ b. lives_below job e.1.body || b) (child_updated m k job))
+  ]
+
+  pub alone_updated : (m : Map Object) (k j : ℕ) (b : Body) → stays_alone (update m k f) j b ≡ stays_alone m j b
+  alone_updated m k j body.RootJob = child_updated m k j
+  alone_updated m k j (body.Process job lives) = refl
+  alone_updated m k j body.Event = refl
+  alone_updated m k j (body.ChannelEnd p queue) = refl
+
+-- ---- one object has gone
+
+-- what is left was there before, and isn't k
+pub found_left : (m : Map Object) (k j : ℕ) (q : Object) → get (without m k) j ≡ Some q → ((k == j) ≡ false) × (get m j ≡ Some q)
+found_left m k j q at = elim (cases_Bool (k == j)) as (λ _. ((k == j) ≡ false) × (get m j ≡ Some q)) [
+  | inl here ↦ absurd (none-some q (rw here at (sym (get-without m k j) ∙ at)))
+  | inr apart ↦ (apart, rw apart at (sym (get-without m k j) ∙ at))
+]
+
+pub has_left : (m : Map Object) (k j : ℕ) → IsTrue (has_key (without m k) j) → IsTrue (has_key m j)
+has_left m k j has = by_object (get (without m k) j) refl has
+  where
+    by_object : (q : Option Object) → get (without m k) j ≡ q → IsTrue (is_some q) → IsTrue (has_key m j)
+    by_object None is h = absurd (false≢true h)
+    by_object (Some q) is h = rw ((found_left m k j q is).1) refl
+
+-- a test that the entry fails is passed as often without it
+any_without_at : {X : Type 0} (test : ℕ × X → Bool) (m : Map X) (k : ℕ) (x : X) → IsTrue (is_sorted nat_cmp m) → get m k ≡ Some x → test (k, x) ≡ false → list_any test (without m k) ≡ list_any test m
+unfolding get without
+any_without_at test [] k x sorted there out = refl
+any_without_at {X} test (e ∷ m) k x sorted there out = elim (cases_Bool (e.0 == k)) as (λ _. list_any test (without (e ∷ m) k) ≡ list_any test (e ∷ m)) [
+  | inl here ↦
+      let key : e.0 ≡ k = eqb-true e.0 k here in
+      let same : e.1 ≡ x = same_Some e.1 x (rw here at there) in
+      let fails : test e ≡ false = (λ i. test (key i, same i)) ∙ out in
+      let rest : without m k ≡ m = ap (λ (j : ℕ). without m j) (sym key) ∙ without_lower e.0 m (sorted_parts e m sorted).0 in
+      rw (here, fails) (ap (λ (n : Map X). list_any test n) rest)
+  | inr apart ↦ rw apart (ap (λ b. test e || b) (any_without_at test m k x (sorted_parts e m sorted).1 (rw apart at there) out))
+]
+
+module _ (m : Map Object) (sorted : IsTrue (is_sorted nat_cmp m)) (k : ℕ) (o : Object) (there : get m k ≡ Some o) (unkept : is_kept m k o ≡ false) where
+  -- it was no living child
+  not_living : (j : ℕ) → lives_below j o.body ≡ false
+  not_living j = by_body o.body (or_parts (nat_lt 0 o.handles) (stays_alone m k o.body) unkept).1
+    where
+      by_body : (b : Body) → stays_alone m k b ≡ false → lives_below j b ≡ false
+      by_body body.RootJob off = refl
+      by_body (body.Process job alive) off = rw off (and_no (job == j))
+        where
+          and_no : (b : Bool) → (b && false) ≡ false
+          and_no true = refl
+          and_no false = refl
+      by_body body.Event off = refl
+      by_body (body.ChannelEnd p queue) off = refl
+
+  child_left : (j : ℕ) → has_living_child (without m k) j ≡ has_living_child m j
+  unfolding has_living_child
+  child_left j = any_without_at (λ e. lives_below j e.1.body) m k o sorted there (not_living j)
+
+  pub alone_left : (j : ℕ) (b : Body) → stays_alone (without m k) j b ≡ stays_alone m j b
+  alone_left j body.RootJob = child_left j
+  alone_left j (body.Process job alive) = refl
+  alone_left j body.Event = refl
+  alone_left j (body.ChannelEnd p queue) = refl
+
+-- ---- jobs and bodies
+
+module _ (f : Object → Object) (same : (o : Object) → (f o).body ≡ o.body) where
+  pub changed_body : (m : Map Object) (k j : ℕ) (q : Object) → (c : Changed f m k j q) → q.body ≡ c.before.body
+  changed_body m k j q c = ap (λ (x : Object). x.body) c.is ∙ elim (k == j) as (λ b. (if b then f c.before else c.before).body ≡ c.before.body) [ true ↦ same c.before | false ↦ refl ]
+
+  job_updated : (m : Map Object) (k j : ℕ) → is_job_at (update m k f) j ≡ is_job_at m j
+  job_updated m k j = ap is_job_in (get-update m k f j) ∙ elim (cases_Bool (k == j)) as (λ _. is_job_in (if k == j then option_map f (get m j) else get m j) ≡ is_job_in (get m j)) [
+    | inl here ↦ rw here (by_object (get m j))
+    | inr apart ↦ rw apart refl
+  ]
+    where
+      by_object : (o : Option Object) → is_job_in (option_map f o) ≡ is_job_in o
+      by_object None = refl
+      by_object (Some o) = rw (same o) refl
+
+  pub in_job_updated : (m : Map Object) (k : ℕ) (b : Body) → is_in_job (update m k f) b ≡ is_in_job m b
+  in_job_updated m k body.RootJob = refl
+  in_job_updated m k (body.Process job lives) = rw (job_updated m k job) refl
+  in_job_updated m k body.Event = refl
+  in_job_updated m k (body.ChannelEnd p queue) = refl

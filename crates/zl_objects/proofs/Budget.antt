@@ -1,0 +1,224 @@
+-- What notes an object takes one place, and one object that handles name is fewer.
+use Rattle.zl_rights.proofs.Common.{◌≡◌, ◌+◌, ◌<◌, ◌≤◌, ℕ, true, false, not, ◌||◌, ◌==◌, List, [], ◌∷◌, ◌++◌, length, refl, sym, ap, ◌∙◌, cond, Option, Some, None, inl, inr, ◌⊎◌, IsTrue, arith, eq-eqb, nat_lt, if◌then◌else◌, count_by, drop, get_or, list_any, map-append, slice_get, take, take_more, length-append, append_assoc, cases_Bool, eqb-true, false≢true, or_left, or_right, nat_tests, none-some, same_Some, Map, get, update, without}
+use Rattle.std.proofs.lemmas.List.Sums.{count_by-le-length}
+use Rattle.std.proofs.lemmas.Bool.{or_cases, or_parts}
+use Rattle.std.proofs.lemmas.List.Concat.{flat_map-cons}
+use Rattle.zl_rights.specs.declared.entry.Entry.{Entry}
+use Rattle.zl_rights.specs.World.{Message}
+use Rattle.zl_rights.proofs.MapLaws.{get-update}
+use Rattle.zl_table.proofs.MapEdits.{is_sorted-update, sorted_without}
+use Rattle.zl_objects.specs.declared.object.Body.{Body}
+use Rattle.zl_objects.specs.declared.object.Body.TheVariants as body
+use Rattle.zl_objects.specs.declared.object.Object.{Object}
+use Rattle.zl_objects.specs.Objects.{held_once_less, is_kept, queue_of, stays_alone}
+use Rattle.zl_objects.specs.Release.{koids_of, named_in, Cascades, none_left, let_go, goes, AreKeptBut}
+use Rattle.zl_objects.specs.Dying.{is_last, is_named, is_unkept, budget, left_at, unkept_at, LetsGo}
+use Rattle.zl_objects.proofs.Sums.{sum_fewer, sum_no_more, sum_left}
+use Rattle.zl_objects.proofs.Bodies.{Changed, changed, alone_updated, alone_left, found_left}
+
+-- ---- lists of what was noted
+
+noted_left : (k : ℕ) (xs ys : List ℕ) → IsTrue (list_any (λ x. x == k) xs) → IsTrue (list_any (λ x. x == k) (xs ++ ys))
+noted_left k [] ys h = absurd (false≢true h)
+noted_left k (x ∷ xs) ys h = elim (or_cases (x == k) _ h) as (λ _. IsTrue (list_any (λ y. y == k) (x ∷ xs ++ ys))) [
+  | inl here ↦ or_left (x == k) _ here
+  | inr later ↦ or_right (x == k) _ (noted_left k xs ys later)
+]
+
+noted_last : (k : ℕ) (xs : List ℕ) → IsTrue (list_any (λ x. x == k) (xs ++ k ∷ []))
+noted_last k [] = or_left (k == k) _ (eq-eqb k k refl)
+noted_last k (x ∷ xs) = or_right (x == k) _ (noted_last k xs)
+
+noted_before : (k j : ℕ) (xs : List ℕ) → (j == k) ≡ false → IsTrue (list_any (λ x. x == k) (xs ++ j ∷ [])) → IsTrue (list_any (λ x. x == k) xs)
+noted_before k j [] apart h = absurd (false≢true (elim (or_cases (j == k) false h) as (λ _. IsTrue false) [ inl a ↦ sym apart ∙ a | inr b ↦ b ]))
+noted_before k j (x ∷ xs) apart h = elim (or_cases (x == k) _ h) as (λ _. IsTrue (list_any (λ y. y == k) (x ∷ xs))) [
+  | inl here ↦ or_left (x == k) _ here
+  | inr later ↦ or_right (x == k) _ (noted_before k j xs apart later)
+]
+
+-- ---- one handle less
+
+same_body : (o : Object) → (held_once_less o).body ≡ o.body
+same_body o = refl
+
+lower : (k : ℕ) (o : Object) → cond (is_named (k, held_once_less o)) 1 0 ≤ cond (is_named (k, o)) 1 0
+lower k o = grind (arith, nat_tests)
+
+fewer_named : (m : Map Object) (k : ℕ) → IsTrue (is_last (get m k)) → count_by is_named m ≡ count_by is_named (update m k held_once_less) + 1
+fewer_named m k last = by_object (get m k) refl last
+  where
+    by_object : (o : Option Object) → get m k ≡ o → IsTrue (is_last o) → count_by is_named m ≡ count_by is_named (update m k held_once_less) + 1
+    by_object None is h = absurd (false≢true h)
+    by_object (Some o) is h =
+        let drop : ◌≡◌ {A = ℕ} (cond (is_named (k, o)) 1 0) (cond (is_named (k, held_once_less o)) 1 0 + 1) = grind (arith, nat_tests, h) in
+        sum_fewer (λ e. cond (is_named e) 1 0) m k 1 o held_once_less is drop
+
+pub has_room : (m : Map Object) (dying : List ℕ) (k cap : ℕ) → budget m dying ≤ cap → IsTrue (is_last (get m k)) → length dying < cap
+unfolding budget
+has_room m dying k cap fits last = omega (arith, fits, fewer_named m k last)
+
+-- an object that isn't k is kept as it was
+kept_still : (m : Map Object) (k j : ℕ) (q before : Object) → q ≡ before → is_kept (update m k held_once_less) j q ≡ false → is_kept m j before ≡ false
+kept_still m k j q before same unkept = rw (← same, ← alone_updated held_once_less same_body m k j q.body) unkept
+
+pub last_went : (m : Map Object) (dying : List ℕ) (k : ℕ) → IsTrue (is_last (get m k)) → LetsGo (k ∷ []) m dying (update m k held_once_less) (dying ++ k ∷ [])
+unfolding budget
+last_went m dying k last = record {
+  cheap = omega (arith, fewer_named m k last, length-append dying (k ∷ []));
+  notes = λ others old. record {
+    in_order = rw (is_sorted-update m k held_once_less) old.in_order;
+    noted = λ j q at unkept. rw (← append_assoc others dying (k ∷ [])) (by_key others old j q (changed held_once_less m k j q at) unkept (cases_Bool (k == j)));
+  };
+  leads = λ rest m3 tail. let_go k rest m m3 tail;
+}
+  where
+    by_key : (others : List ℕ) → AreKeptBut (others ++ dying) m → (j : ℕ) (q : Object) → Changed held_once_less m k j q → is_kept (update m k held_once_less) j q ≡ false → IsTrue (k == j) ⊎ ((k == j) ≡ false)
+        → IsTrue (list_any (λ x. x == j) ((others ++ dying) ++ k ∷ []))
+    by_key others old j q c unkept (inl here) = rw (eqb-true k j here) (noted_last j (others ++ dying))
+    by_key others old j q c unkept (inr apart) =
+        let same : q ≡ c.before = c.is ∙ rw apart refl in
+        noted_left j (others ++ dying) (k ∷ []) (old.noted j c.before c.there (kept_still m k j q c.before same unkept))
+
+pub other_went : (m : Map Object) (dying : List ℕ) (k : ℕ) → is_last (get m k) ≡ false → LetsGo (k ∷ []) m dying (update m k held_once_less) dying
+unfolding budget
+other_went m dying k other = record {
+  cheap = omega (arith, sum_no_more (λ e. cond (is_named e) 1 0) m k held_once_less (lower k));
+  notes = λ others old. record {
+    in_order = rw (is_sorted-update m k held_once_less) old.in_order;
+    noted = λ j q at unkept. by_key others old j q (changed held_once_less m k j q at) unkept (cases_Bool (k == j));
+  };
+  leads = λ rest m3 tail. let_go k rest m m3 tail;
+}
+  where
+    by_key : (others : List ℕ) → AreKeptBut (others ++ dying) m → (j : ℕ) (q : Object) → Changed held_once_less m k j q → is_kept (update m k held_once_less) j q ≡ false → IsTrue (k == j) ⊎ ((k == j) ≡ false)
+        → IsTrue (list_any (λ x. x == j) (others ++ dying))
+    by_key others old j q c unkept (inl here) =
+        let same : q ≡ held_once_less c.before = c.is ∙ rw here refl in
+        let not_last : is_last (Some c.before) ≡ false = ap is_last (sym c.there ∙ ap (get m) (sym (eqb-true k j here))) ∙ other in
+        let both = or_parts (nat_lt 0 (held_once_less c.before).handles) (stays_alone m j c.before.body) (rw (same, alone_updated held_once_less same_body m k j c.before.body) at unkept) in
+        old.noted j c.before c.there (rw both.1 (no_handle c.before both.0 not_last))
+      where
+        no_handle : (o : Object) → nat_lt 0 (held_once_less o).handles ≡ false → is_last (Some o) ≡ false → (nat_lt 0 o.handles || false) ≡ false
+        no_handle o after not_last = grind (arith, nat_tests, after, not_last)
+    by_key others old j q c unkept (inr apart) =
+        let same : q ≡ c.before = c.is ∙ rw apart refl in
+        old.noted j c.before c.there (kept_still m k j q c.before same unkept)
+
+-- ---- one after another
+
+pub none_went : (m : Map Object) (dying : List ℕ) → LetsGo [] m dying m dying
+none_went m dying = record { cheap = omega arith; notes = λ others old. old; leads = λ rest m3 tail. tail }
+
+pub both_went : (ks ls : List ℕ) (m m2 m3 : Map Object) (d d2 d3 : List ℕ) → LetsGo ks m d m2 d2 → LetsGo ls m2 d2 m3 d3 → LetsGo (ks ++ ls) m d m3 d3
+both_went ks ls m m2 m3 d d2 d3 a b = record {
+  cheap = omega (arith, a.cheap, b.cheap);
+  notes = λ others old. b.notes others (a.notes others old);
+  leads = λ rest m4 tail. rw (append_assoc ks ls rest) (a.leads (ls ++ rest) m4 (b.leads rest m4 tail));
+}
+
+-- ---- the object that was noted last
+
+module _ (m : Map Object) (d : List ℕ) (k : ℕ) where
+  longer : length d ≤ length (d ++ k ∷ [])
+  longer = omega (arith, length-append d (k ∷ []))
+
+  -- something keeps it
+  pub kept_went : ((o : Object) → get m k ≡ Some o → IsTrue (is_kept m k o)) → LetsGo [] m (d ++ k ∷ []) m d
+  unfolding budget
+  kept_went kept = record {
+    cheap = omega (arith, longer);
+    notes = λ others old. record {
+      in_order = old.in_order;
+      noted = λ j q at unkept. elim (cases_Bool (k == j)) as (λ _. IsTrue (list_any (λ x. x == j) (others ++ d))) [
+        | inl here ↦
+            let key : k ≡ j = eqb-true k j here in
+            absurd (false≢true (sym unkept ∙ (ap (λ (i : ℕ). is_kept m i q) (sym key) ∙ kept q (ap (get m) key ∙ at))))
+        | inr apart ↦ noted_before j k (others ++ d) apart (rw (append_assoc others d (k ∷ [])) (old.noted j q at unkept))
+      ];
+    };
+    leads = λ rest m3 tail. tail;
+  }
+
+  pub less_left : budget (without m k) d ≤ budget m d
+  unfolding budget
+  less_left = omega (arith, sum_left (λ e. cond (is_named e) 1 0) m k)
+
+  -- nothing keeps it
+  pub unkept_went : (o : Object) (m2 : Map Object) (d2 : List ℕ) → get m k ≡ Some o → is_kept m k o ≡ false → LetsGo (named_in (queue_of o.body)) (without m k) d m2 d2 → LetsGo [] m (d ++ k ∷ []) m2 d2
+  unfolding budget
+  unkept_went o m2 d2 there unkept queue = record {
+    cheap = omega (arith, longer, queue.cheap, sum_left (λ e. cond (is_named e) 1 0) m k);
+    notes = λ others old. queue.notes others (record {
+      in_order = sorted_without m k old.in_order;
+      noted = λ j q at loose.
+          let was = found_left m k j q at in
+          noted_before j k (others ++ d) was.0 (rw (append_assoc others d (k ∷ [])) (old.noted j q was.1 (rw (← alone_left m old.in_order k o there unkept j q.body) loose)));
+    });
+    leads = λ rest m3 tail. goes k o rest m m3 there unkept (queue.leads rest m3 tail);
+  }
+
+-- ---- what was taken out
+
+module _ (m : Map Object) (k : ℕ) where
+  pub none_left_at : unkept_at m k ≡ None → left_at m k ≡ m
+  none_left_at none = by_test (get m k) (is_unkept m k (get m k)) refl none
+    where
+      by_test : (o : Option Object) (b : _) → is_unkept m k o ≡ b → (if b then o else None) ≡ None → (if b then without m k else m) ≡ m
+      by_test None true is h = absurd (false≢true is)
+      by_test (Some o) true is h = absurd (none-some o (sym h))
+      by_test o false is h = refl
+
+  pub none_taken : unkept_at m k ≡ None → (o : Object) → get m k ≡ Some o → IsTrue (is_kept m k o)
+  none_taken none o at = elim (cases_Bool (is_kept m k o)) as (λ _. IsTrue (is_kept m k o)) [
+    | inl kept ↦ kept
+    | inr unkept ↦ absurd (none-some o (sym (rw (at, unkept) at none)))
+  ]
+
+  -- what was there, that nothing kept it, and that it is gone
+  pub record IsTaken (o : Object) : Type 0 where
+    pub there : get m k ≡ Some o
+    pub unkept : is_kept m k o ≡ false
+    pub left : left_at m k ≡ without m k
+
+  pub taken : (o : Object) → unkept_at m k ≡ Some o → IsTaken o
+  taken o some = by_object (get m k) refl
+    where
+      by_object : (q : Option Object) → get m k ≡ q → IsTaken o
+      by_object None is = absurd (none-some o (rw is at some))
+      by_object (Some p) is = elim (cases_Bool (is_kept m k p)) as (λ _. IsTaken o) [
+        | inl kept ↦ absurd (none-some o (rw (is, kept) at some))
+        | inr unkept ↦
+            let same : p ≡ o = same_Some p o (rw (is, unkept) at some) in
+            record { there = is ∙ ap (λ (x : Object). Some x) same; unkept = ap (is_kept m k) (sym same) ∙ unkept; left = rw (is, unkept) refl }
+      ]
+
+pub popped_less : (m : Map Object) (d left : List ℕ) (k : ℕ) → d ≡ left ++ k ∷ [] → budget m d ≡ budget m left + 1
+unfolding budget
+popped_less m d left k is = rw is (omega (arith, length-append left (k ∷ [])))
+
+-- ---- handles one after another
+
+pub handle_went : (es : List Entry) (i : ℕ) (e : Entry) → i < length es → (m m2 m3 : Map Object) (d d2 d3 : List ℕ) → LetsGo (koids_of (take i es)) m d m2 d2 → LetsGo ((get_or es i e).koid ∷ []) m2 d2 m3 d3 → LetsGo (koids_of (take (i + 1) es)) m d m3 d3
+handle_went es i e within m m2 m3 d d2 d3 before last =
+    rw (take_more es i e within, map-append (λ (x : Entry). x.koid) (take i es) (get_or es i e ∷ [])) (both_went (koids_of (take i es)) ((get_or es i e).koid ∷ []) m m2 m3 d d2 d3 before last)
+
+-- the first message of a queue, and then the others
+pub message_went : (q q2 : List Message) (first : Message) (es : List Entry) → slice_get q 0 ≡ Some first → q2 ≡ drop 1 q → es ≡ first.handles
+    → (m m2 m3 : Map Object) (d d2 d3 : List ℕ) → LetsGo (koids_of es) m d m2 d2 → LetsGo (named_in q2) m2 d2 m3 d3 → LetsGo (named_in q) m d m3 d3
+message_went [] q2 first es there rest handles m m2 m3 d d2 d3 front behind = absurd (none-some first there)
+message_went (x ∷ q) q2 first es there rest handles m m2 m3 d d2 d3 front behind =
+    let same : x ≡ first = same_Some x first there in
+    let is : es ≡ x.handles = handles ∙ ap (λ (y : Message). y.handles) (sym same) in
+    let left : q2 ≡ q = rest in
+    rw (flat_map-cons (λ (y : Message). koids_of y.handles) x q, ← is, ← left) (both_went (koids_of es) (named_in q2) m m2 m3 d d2 d3 front behind)
+
+pub first_shorter : (q q2 : List Message) (first : Message) → slice_get q 0 ≡ Some first → q2 ≡ drop 1 q → length q2 < length q
+first_shorter [] q2 first there rest = absurd (none-some first there)
+first_shorter (x ∷ q) q2 first there rest = let left : q2 ≡ q = rest in rw left (omega arith)
+
+-- an object without a queue
+pub no_queue : (b : Body) → ((peer : ℕ) (queue : List Message) → b ≡ body.ChannelEnd peer queue → ⊥) → queue_of b ≡ []
+no_queue body.RootJob none = refl
+no_queue (body.Process job lives) none = refl
+no_queue body.Event none = refl
+no_queue (body.ChannelEnd peer queue) none = absurd (none peer queue refl)

@@ -1,0 +1,10 @@
+pub mod ByKoid
+pub mod Whole
+pub mod Sums
+pub mod Bodies
+pub mod Found
+pub mod Budget
+pub mod Removing
+pub mod Law
+pub mod Released
+pub mod Showing

@@ -1,0 +1,83 @@
+-- What the objects show of active signals.
+use Rattle.zl_rights.proofs.Common.{◌≡◌, ◌<◌, ℕ, Bool, true, false, not, ◌&&◌, ◌||◌, ◌==◌, [], ◌∷◌, map, refl, sym, ap, ◌∙◌, subst, Option, Some, None, IsTrue, arith, list_any, and_parts, false≢true, nat_tests, is_empty, Map, get, has_key, World, is_process, lives, cases_Bool, inl, inr, option_map}
+use Rattle.std.specs.Prelude.{bit_or, if◌then◌else◌}
+use Rattle.zl_rights.specs.Numbers.{READABLE, WRITABLE, PEER_CLOSED, NO_JOBS, NO_PROCESSES}
+use Rattle.zl_rights.specs.Signals.{active, active_of, has_child_job, has_child_process, implied as implied_in, is_job_below, is_process_of, signal_if}
+use Rattle.zl_objects.specs.declared.object.Body.{Body}
+use Rattle.zl_objects.specs.declared.object.Body.TheVariants as body
+use Rattle.zl_objects.specs.declared.object.Object.{Object}
+use Rattle.zl_objects.specs.Objects.{has_living_child, lives_below}
+use Rattle.zl_objects.specs.Seen.{body_value, object_entry, with_objects}
+use Rattle.zl_objects.specs.Signals.{Shows, ShowStates, AreActive, implied, signals_at, signals_in}
+use Rattle.zl_objects.proofs.Found.{Found, any_found, any_at}
+use Rattle.zl_objects.proofs.Law.{get_seen, has_seen, any_seen}
+
+same_tests : (a b : Bool) → (IsTrue a → IsTrue b) → (IsTrue b → IsTrue a) → a ≡ b
+same_tests true true f g = refl
+same_tests true false f g = sym (f refl)
+same_tests false true f g = g refl
+same_tests false false f g = refl
+
+module _ (w : World) (m : Map Object) (shows : ShowStates w m) (k : ℕ) where
+  -- no job stands below another yet
+  no_job : 0 < k → has_child_job (with_objects w m) k ≡ false
+  unfolding has_child_job
+  no_job positive = none_of m
+    where
+      zero_apart : (0 == k) ≡ false
+      zero_apart = grind (arith, nat_tests, positive)
+
+      by_body : (b : Body) → is_job_below k (body_value b) ≡ false
+      by_body body.RootJob = rw zero_apart refl
+      by_body (body.Process job lives_on) = refl
+      by_body body.Event = refl
+      by_body (body.ChannelEnd peer queue) = refl
+
+      none_of : (n : Map Object) → list_any (λ e. is_job_below k e.1.body) (map object_entry n) ≡ false
+      none_of [] = refl
+      none_of (e ∷ n) = rw (by_body e.1.body, none_of n) refl
+
+  child_shown : has_child_process (with_objects w m) k ≡ has_living_child m k
+  unfolding has_child_process has_living_child is_process
+  child_shown = any_seen (λ e. is_process_of k e.1.body && is_process w lives e.0) m ∙ same_tests (list_any seen m) (list_any below m) there back
+    where
+      seen : ℕ × Object → Bool
+      seen e = is_process_of k (body_value e.1.body) && is_process w lives e.0
+
+      below : ℕ × Object → Bool
+      below e = lives_below k e.1.body
+
+      same : (j : ℕ) (o : Object) (b : Body) → o.body ≡ b → get m j ≡ Some o → (is_process_of k (body_value b) && is_process w lives j) ≡ lives_below k b
+      same j o body.RootJob is at = refl
+      same j o (body.Process job lives_on) is at =
+          let shown : Shows w j (body.Process job lives_on) = subst (Shows w j) is (shows.shown j o at) in
+          ap (λ b. (job == k) && b) (sym shown.living)
+      same j o body.Event is at = refl
+      same j o (body.ChannelEnd peer queue) is at = refl
+
+      there : IsTrue (list_any seen m) → IsTrue (list_any below m)
+      there some =
+          let f : Found seen m = any_found seen m shows.in_order some in
+          any_at below m f.key f.value f.at (sym (same f.key f.value f.value.body refl f.at) ∙ f.passes)
+
+      back : IsTrue (list_any below m) → IsTrue (list_any seen m)
+      back some =
+          let f : Found below m = any_found below m shows.in_order some in
+          any_at seen m f.key f.value f.at (same f.key f.value f.value.body refl f.at ∙ f.passes)
+
+  implied_shown : (o : Object) (b : Body) → o.body ≡ b → get m k ≡ Some o → implied m k b ≡ implied_in (with_objects w m) k (body_value b)
+  unfolding is_process
+  implied_shown o body.RootJob is at = rw (no_job (shows.no_zero k (rw at refl)), child_shown) (elim (has_living_child m k) as (λ b. bit_or NO_JOBS (signal_if NO_PROCESSES (not b)) ≡ bit_or 0 (bit_or NO_JOBS (signal_if NO_PROCESSES (not b)))) [ true ↦ refl | false ↦ refl ])
+  implied_shown o (body.Process job lives_on) is at =
+      let shown : Shows w k (body.Process job lives_on) = subst (Shows w k) is (shows.shown k o at) in
+      ap (signal_if 8) shown.over
+  implied_shown o body.Event is at = refl
+  implied_shown o (body.ChannelEnd peer queue) is at = rw (has_seen m peer) refl
+
+  shown_at : (q : Option Object) → get m k ≡ q → signals_in m k q ≡ active (with_objects w m) k
+  unfolding active
+  shown_at None is = rw (get_seen m k, is) refl
+  shown_at (Some o) is = rw (get_seen m k, is) (ap (bit_or o.raised.0) (implied_shown o o.body refl is))
+
+pub are_active : (m : Map Object) (k : ℕ) → AreActive m k (signals_at m k)
+are_active m k w shows = shown_at w m shows k (get m k) refl

@@ -1,0 +1,330 @@
+-- The invariant of the objects, after each change.
+use Rattle.zl_rights.proofs.Common.{◌≡◌, ◌<◌, ◌≤◌, ◌+◌, ◌^◌, ◌==◌, ◌⊎◌, ℕ, Bool, true, false, List, [], ◌∷◌, ◌++◌, length, refl, sym, ap, ◌∙◌, subst, cond, Option, Some, None, inl, inr, arith, eq-eqb, IsTrue, is_some, nat_lt, if◌then◌else◌, nat_cmp, cases_Bool, false≢true, nat_tests, none-some, same_Some, Map, get, put, update, without, has_key, length-append, option_map, eqb-true}
+use Rattle.std.specs.Prelude.{◌↔◌, IfNone, IfSome, IsSome, Result, Ok, Err, OnOk, OnErr, is_err}
+use Rattle.std.specs.Cmp.{unsigned_tied}
+use Rattle.std.specs.Map.{lookup, set_value, remove_entry}
+use Rattle.std.specs.BTreeMap.{BTreeMap, is_at, insert_entry, IsUnchanged, IsUpperBound, Updates}
+use Rattle.zl_rights.specs.World.{Message}
+use Rattle.zl_rights.proofs.MapLaws.{get-put, get-update}
+use Rattle.zl_table.proofs.MapEdits.{put_key, has_key-update, length-update}
+use Rattle.zl_objects.specs.declared.object.Body.{Body}
+use Rattle.zl_objects.specs.declared.object.Body.TheVariants as body
+use Rattle.zl_objects.specs.declared.object.Object.{Object}
+use Rattle.zl_objects.specs.Objects.{held_once_more, is_end_at, is_end_in, is_end_body, raised_changed, sent, received, stopped, new_object}
+use Rattle.zl_objects.specs.Dying.{HasPeer, IsWhole}
+use Rattle.zl_objects.proofs.ByKoid.{inserted, entry_inserted, looked_up, written, written_back}
+
+pub none_whole : (m : Map Object) (next room : ℕ) (d : List ℕ) → m ≡ [] → d ≡ [] → IsWhole m next d room
+unfolding get
+none_whole m next room d none empty = rw none record { below = λ k there. cc; peers = λ k o at. absurd (none-some o at); enough = omega arith; none = empty }
+
+-- ---- one of the objects is written
+
+module _ (f : Object → Object) (ends : (o : Object) → is_end_body (f o).body ≡ is_end_body o.body) (peer : (m : Map Object) (next : ℕ) (o : Object) → HasPeer m next o.body → HasPeer m next (f o).body) where
+  end_updated : (m : Map Object) (k j : ℕ) → is_end_at (update m k f) j ≡ is_end_at m j
+  end_updated m k j = ap is_end_in (get-update m k f j) ∙ elim (cases_Bool (k == j)) as (λ _. is_end_in (if k == j then option_map f (get m j) else get m j) ≡ is_end_in (get m j)) [
+    | inl here ↦ rw here (by_object (get m j))
+    | inr apart ↦ rw apart refl
+  ]
+    where
+      by_object : (o : Option Object) → is_end_in (option_map f o) ≡ is_end_in o
+      by_object None = refl
+      by_object (Some o) = ends o
+
+  still : (m : Map Object) (k next : ℕ) (b : Body) → HasPeer m next b → HasPeer (update m k f) next b
+  still m k next (body.ChannelEnd p queue) has = (has.0, λ there. end_updated m k p ∙ has.1 (sym (has_key-update m k f p) ∙ there))
+  still m k next body.RootJob has = has
+  still m k next (body.Process job lives) has = has
+  still m k next body.Event has = has
+
+  pub updated_whole : (m n : Map Object) (next room k : ℕ) (d : List ℕ) → IsWhole m next d room → n ≡ update m k f → IsWhole n next d room
+  updated_whole m n next room k d whole is = rw is record {
+    below = λ j there. whole.below j (sym (has_key-update m k f j) ∙ there);
+    peers = λ j o at. by_object j o (get m j) refl (sym (get-update m k f j) ∙ at);
+    enough = omega (arith, length-update m k f, whole.enough);
+    none = whole.none;
+  }
+    where
+      by_object : (j : ℕ) (o : Object) (q : Option Object) → get m j ≡ q → (if k == j then option_map f (get m j) else get m j) ≡ Some o → HasPeer (update m k f) next o.body
+      by_object j o None is read = elim (cases_Bool (k == j)) as (λ _. HasPeer (update m k f) next o.body) [
+        | inl here ↦ absurd (none-some o (rw (here, is) at read))
+        | inr apart ↦ absurd (none-some o (rw (apart, is) at read))
+      ]
+      by_object j o (Some q) is read = elim (cases_Bool (k == j)) as (λ _. HasPeer (update m k f) next o.body) [
+        | inl here ↦ subst (λ (x : Object). HasPeer (update m k f) next x.body) (same_Some (f q) o (rw (here, is) at read)) (still m k next (f q).body (peer m next q (whole.peers j q is)))
+        | inr apart ↦ subst (λ (x : Object). HasPeer (update m k f) next x.body) (same_Some q o (rw (apart, is) at read)) (still m k next q.body (whole.peers j q is))
+      ]
+
+same_ends : (f : Object → Object) → ((o : Object) → (f o).body ≡ o.body) → (o : Object) → is_end_body (f o).body ≡ is_end_body o.body
+same_ends f same o = ap is_end_body (same o)
+
+same_peer : (f : Object → Object) → ((o : Object) → (f o).body ≡ o.body) → (m : Map Object) (next : ℕ) (o : Object) → HasPeer m next o.body → HasPeer m next (f o).body
+same_peer f same m next o has = rw (same o) has
+
+pub more_same : (o : Object) → (held_once_more o).body ≡ o.body
+more_same o = elim (nat_lt o.handles (2 ^ 62)) as (λ b. (if b then record o { handles = o.handles + 1 } else o).body ≡ o.body) [ true ↦ refl | false ↦ refl ]
+
+-- one handle more
+pub more_whole : (m n : Map Object) (next room k : ℕ) (d : List ℕ) → IsWhole m next d room → n ≡ update m k held_once_more → IsWhole n next d room
+more_whole = updated_whole held_once_more (same_ends held_once_more more_same) (same_peer held_once_more more_same)
+
+-- other signals
+pub changed_whole : (m n : Map Object) (next room k clear set : ℕ) (d : List ℕ) → IsWhole m next d room → n ≡ update m k (raised_changed clear set) → IsWhole n next d room
+changed_whole m n next room k clear set = updated_whole (raised_changed clear set) (λ o. refl) (λ m next o has. has) m n next room k
+
+-- the end of a process
+pub stopped_whole : (m n : Map Object) (next room k : ℕ) (d : List ℕ) → IsWhole m next d room → n ≡ update m k stopped → IsWhole n next d room
+stopped_whole = updated_whole stopped (λ o. ends o.body) (λ m next o. peer m next o.body)
+  where
+    ends : (b : Body) → is_end_body (stopped (record { body = b; raised = record { 0 = 0 }; handles = 0 })).body ≡ is_end_body b
+    ends body.RootJob = refl
+    ends (body.Process job lives) = refl
+    ends body.Event = refl
+    ends (body.ChannelEnd p queue) = refl
+
+    peer : (m : Map Object) (next : ℕ) (b : Body) → HasPeer m next b → HasPeer m next (stopped (record { body = b; raised = record { 0 = 0 }; handles = 0 })).body
+    peer m next body.RootJob has = has
+    peer m next (body.Process job lives) has = has
+    peer m next body.Event has = has
+    peer m next (body.ChannelEnd p queue) has = has
+
+-- one message more
+pub sent_whole : (m n : Map Object) (next room k : ℕ) (d : List ℕ) (message : Message) → IsWhole m next d room → n ≡ update m k (sent message) → IsWhole n next d room
+sent_whole m n next room k d message = updated_whole (sent message) (λ o. ends o.body) (λ m next o. peer m next o.body) m n next room k d
+  where
+    ends : (b : Body) → is_end_body (sent message (record { body = b; raised = record { 0 = 0 }; handles = 0 })).body ≡ is_end_body b
+    ends body.RootJob = refl
+    ends (body.Process job lives) = refl
+    ends body.Event = refl
+    ends (body.ChannelEnd p queue) = refl
+
+    peer : (m : Map Object) (next : ℕ) (b : Body) → HasPeer m next b → HasPeer m next (sent message (record { body = b; raised = record { 0 = 0 }; handles = 0 })).body
+    peer m next body.RootJob has = has
+    peer m next (body.Process job lives) has = has
+    peer m next body.Event has = has
+    peer m next (body.ChannelEnd p queue) has = has
+
+-- one message less
+pub received_whole : (m n : Map Object) (next room k : ℕ) (d : List ℕ) → IsWhole m next d room → n ≡ update m k received → IsWhole n next d room
+received_whole = updated_whole received (λ o. ends o.body) (λ m next o. peer m next o.body)
+  where
+    ends : (b : Body) → is_end_body (received (record { body = b; raised = record { 0 = 0 }; handles = 0 })).body ≡ is_end_body b
+    ends body.RootJob = refl
+    ends (body.Process job lives) = refl
+    ends body.Event = refl
+    ends (body.ChannelEnd p queue) = refl
+
+    peer : (m : Map Object) (next : ℕ) (b : Body) → HasPeer m next b → HasPeer m next (received (record { body = b; raised = record { 0 = 0 }; handles = 0 })).body
+    peer m next body.RootJob has = has
+    peer m next (body.Process job lives) has = has
+    peer m next body.Event has = has
+    peer m next (body.ChannelEnd p queue) has = has
+
+-- ---- one object more
+
+later_peer : (m : Map Object) (next : ℕ) (o : Object) (b : Body) → ((j : ℕ) → IsTrue (has_key m j) → j < next) → HasPeer m next b → HasPeer (put m next o) (next + 1) b
+later_peer m next o body.RootJob below has = has
+later_peer m next o (body.Process job lives) below has = has
+later_peer m next o body.Event below has = has
+later_peer m next o (body.ChannelEnd p queue) below has = (omega (arith, has.0), λ there. rw (get-put m next o p, apart) (has.1 (rw (get-put m next o p, apart) at there)))
+  where
+    apart : (next == p) ≡ false
+    apart = grind (arith, nat_tests, has.0)
+
+-- the new object has the next koid, and is no end
+pub inserted_whole : (m n : Map Object) (next room room2 : ℕ) (d d2 : List ℕ) (o : Object) → IsWhole m next d room → is_end_body o.body ≡ false → d2 ≡ d → length m + 1 ≤ room2 → n ≡ insert_entry nat_cmp m next o → IsWhole n (next + 1) d2 room2
+inserted_whole m n next room room2 d d2 o whole alone same more into = rw (into, inserted m next o, same) record {
+  below = λ k there. elim (put_key m next o k there) as (λ _. k < next + 1) [
+    | inl here ↦ omega (arith, here)
+    | inr old ↦ omega (arith, whole.below k old)
+  ];
+  peers = λ k q at. by_key k q (cases_Bool (next == k)) (sym (get-put m next o k) ∙ at);
+  enough = omega (arith, more, ap (λ (x : Map Object). length x) (sym (inserted m next o) ∙ entry_inserted m next o whole.below), length-append m ((next, o) ∷ []));
+  none = whole.none;
+}
+  where
+    no_end : (b : Body) → is_end_body b ≡ false → HasPeer (put m next o) (next + 1) b
+    no_end body.RootJob h = tt
+    no_end (body.Process job lives) h = tt
+    no_end body.Event h = tt
+    no_end (body.ChannelEnd p queue) h = absurd (false≢true (sym h))
+
+    by_key : (k : ℕ) (q : Object) → IsTrue (next == k) ⊎ ((next == k) ≡ false) → (if next == k then Some o else get m k) ≡ Some q → HasPeer (put m next o) (next + 1) q.body
+    by_key k q (inl here) read = subst (λ (x : Object). HasPeer (put m next o) (next + 1) x.body) (same_Some o q (rw here at read)) (no_end o.body alone)
+    by_key k q (inr apart) read = later_peer m next o q.body whole.below (whole.peers k q (rw apart at read))
+
+pub created_there : (m n : Map Object) (k : ℕ) (o : Object) → n ≡ insert_entry nat_cmp m k o → get n k ≡ Some o
+created_there m n k o into = rw (into, inserted m k o, get-put m k o k, same) refl
+  where
+    same : (k == k) ≡ true
+    same = eq-eqb k k refl
+
+-- ---- both ends of a channel more
+
+abbrev end_of : ℕ → ℕ → Object
+end_of peer handles = new_object (body.ChannelEnd peer []) handles
+
+-- the second end goes behind the first
+pub channel_created : (m n n2 : Map Object) (next : ℕ) (o o2 : Object) → ((j : ℕ) → IsTrue (has_key m j) → j < next) → n ≡ insert_entry nat_cmp m next o → n2 ≡ insert_entry nat_cmp n (next + 1) o2 → n2 ≡ (m ++ (next, o) ∷ []) ++ (next + 1, o2) ∷ []
+channel_created m n n2 next o o2 below into into2 =
+    into2 ∙ (entry_inserted n (next + 1) o2 below_first ∙ ap (λ (x : Map Object). x ++ (next + 1, o2) ∷ []) (into ∙ entry_inserted m next o below))
+  where
+    below_first : (j : ℕ) → IsTrue (has_key n j) → j < next + 1
+    below_first j there = elim (put_key m next o j (rw (into, inserted m next o) at there)) as (λ _. j < next + 1) [
+      | inl here ↦ omega (arith, here)
+      | inr old ↦ omega (arith, below j old)
+    ]
+
+pub channel_whole : (m n n2 : Map Object) (next room room2 handles : ℕ) (d d2 : List ℕ) (o o2 : Object) → IsWhole m next d room → o ≡ end_of (next + 1) handles → o2 ≡ end_of next handles → d2 ≡ d → length m + 2 ≤ room2
+    → n ≡ insert_entry nat_cmp m next o → n2 ≡ insert_entry nat_cmp n (next + 1) o2 → IsWhole n2 (next + 1 + 1) d2 room2
+channel_whole m n n2 next room room2 handles d d2 o o2 whole first second same more into into2 = rw same record {
+  below = λ k there. below_second k (rw is_put2 at there);
+  peers = λ k q at. by_key k q (cases_Bool (next + 1 == k)) (cases_Bool (next == k)) (sym (get_second k) ∙ at);
+  enough = rw (channel_created m n n2 next o o2 whole.below into into2) (omega (arith, more, length-append (m ++ (next, o) ∷ []) ((next + 1, o2) ∷ []), length-append m ((next, o) ∷ [])));
+  none = whole.none;
+}
+  where
+    is_put : n ≡ put m next o
+    is_put = into ∙ inserted m next o
+
+    is_put2 : n2 ≡ put n (next + 1) o2
+    is_put2 = into2 ∙ inserted n (next + 1) o2
+
+    below_first : (j : ℕ) → IsTrue (has_key n j) → j < next + 1
+    below_first j there = elim (put_key m next o j (rw is_put at there)) as (λ _. j < next + 1) [
+      | inl here ↦ omega (arith, here)
+      | inr old ↦ omega (arith, whole.below j old)
+    ]
+
+    below_second : (j : ℕ) → IsTrue (has_key (put n (next + 1) o2) j) → j < next + 1 + 1
+    below_second j there = elim (put_key n (next + 1) o2 j there) as (λ _. j < next + 1 + 1) [
+      | inl here ↦ omega (arith, here)
+      | inr old ↦ omega (arith, below_first j old)
+    ]
+
+    get_second : (k : ℕ) → get n2 k ≡ (if next + 1 == k then Some o2 else (if next == k then Some o else get m k))
+    get_second k = rw (is_put2, get-put n (next + 1) o2 k, is_put, get-put m next o k) refl
+
+    first_there : IsTrue (is_end_at n2 next)
+    first_there = rw (get_second next, apart, here, first) refl
+      where
+        apart : (next + 1 == next) ≡ false
+        apart = grind (arith, nat_tests)
+
+        here : (next == next) ≡ true
+        here = eq-eqb next next refl
+
+    second_there : IsTrue (is_end_at n2 (next + 1))
+    second_there = rw (get_second (next + 1), here, second) refl
+      where
+        here : (next + 1 == next + 1) ≡ true
+        here = eq-eqb (next + 1) (next + 1) refl
+
+    by_key : (k : ℕ) (q : Object) → IsTrue (next + 1 == k) ⊎ ((next + 1 == k) ≡ false) → IsTrue (next == k) ⊎ ((next == k) ≡ false)
+        → (if next + 1 == k then Some o2 else (if next == k then Some o else get m k)) ≡ Some q → HasPeer n2 (next + 1 + 1) q.body
+    by_key k q (inl last) other read = subst (λ (x : Object). HasPeer n2 (next + 1 + 1) x.body) (sym second ∙ same_Some o2 q (rw last at read)) (omega arith, λ there. first_there)
+    by_key k q (inr apart) (inl here) read = subst (λ (x : Object). HasPeer n2 (next + 1 + 1) x.body) (sym first ∙ same_Some o q (rw (apart, here) at read)) (omega arith, λ there. second_there)
+    by_key k q (inr apart) (inr old) read =
+        rw is_put2 (later_peer n (next + 1) o2 q.body below_first (rw is_put (later_peer m next o q.body whole.below (whole.peers k q (rw (apart, old) at read)))))
+
+-- the first end is taken back where there is no memory for the second
+pub end_taken : (m n n2 n3 : Map Object) (next : ℕ) (o : Object) → ((j : ℕ) → IsTrue (has_key m j) → j < next) → n ≡ insert_entry nat_cmp m next o → n2 ≡ n → n3 ≡ remove_entry (is_at (nat_cmp next)) n2 → n3 ≡ m
+unfolding get
+end_taken m n n2 n3 next o below into still out = out ∙ (ap (remove_entry (is_at (nat_cmp next))) (still ∙ (into ∙ entry_inserted m next o below)) ∙ last_removed m below)
+  where
+    last_removed : (m : Map Object) → ((j : ℕ) → IsTrue (has_key m j) → j < next) → remove_entry (is_at (nat_cmp next)) (m ++ (next, o) ∷ []) ≡ m
+    last_removed [] below = grind (arith, nat_tests, unsigned_tied next next)
+    last_removed (e ∷ m) below =
+        let first : e.0 < next = below e.0 (rw (same e.0) refl) in
+        let rest : remove_entry (is_at (nat_cmp next)) (m ++ (next, o) ∷ []) ≡ m = last_removed m (λ j there. below j (later j there)) in
+        grind (arith, nat_tests, unsigned_tied next e.0)
+      where
+        same : (j : ℕ) → (j == j) ≡ true
+        same j = eq-eqb j j refl
+
+        later : (j : ℕ) → IsTrue (has_key m j) → IsTrue (has_key (e ∷ m) j)
+        later j there = elim (e.0 == j) as (λ b. IsTrue (is_some (cond b (Some e.1) (get m j)))) [ true ↦ refl | false ↦ there ]
+
+-- a result that is no fault
+pub unless_err : {A B : Type 0} (r : Result A B) (P : Type 0) → OnOk r P → is_err r ≡ false → P
+unless_err (Ok x) P h out = h
+unless_err (Err e) P h out = absurd (false≢true (sym out))
+
+-- a result that is a fault
+pub if_err : {A B : Type 0} (r : Result A B) (P : Type 0) → OnErr r P → is_err r ≡ true → P
+if_err (Ok x) P h out = absurd (false≢true out)
+if_err (Err e) P h out = h
+
+-- other room
+pub roomy_whole : (m n : Map Object) (next room room2 : ℕ) (d d2 : List ℕ) → IsWhole m next d room → n ≡ m → d2 ≡ d → room ≤ room2 → IsWhole n next d2 room2
+roomy_whole m n next room room2 d d2 whole is same more = rw (is, same) record { below = whole.below; peers = whole.peers; enough = omega (arith, whole.enough, more); none = whole.none }
+
+-- one message more, or the end as it was
+pub sent_or_same_whole : {A B : Type 0} (m n : Map Object) (next room k : ℕ) (d : List ℕ) (message : Message) (v w : Object) (r : Result A B) → IsWhole m next d room → OnOk r (w ≡ sent message v) → OnErr r (w ≡ v)
+    → Some v ≡ lookup (is_at (nat_cmp k)) m → n ≡ set_value (is_at (nat_cmp k)) m w → IsWhole n next d room
+sent_or_same_whole m n next room k d message v w (Ok x) whole is other there set = sent_whole m n next room k d message whole (written m n k (sent message) v w there is set)
+sent_or_same_whole m n next room k d message v w (Err e) whole other is there set = roomy_whole m n next room room d d whole (written_back m n k v w there is set) refl (omega arith)
+
+-- ---- the newest object less
+
+no_entries : (es : Map Object) → (0 < length es → false ≡ true) → es ≡ []
+no_entries [] some = refl
+no_entries (e ∷ es) some = absurd (false≢true (some (omega arith)))
+
+-- the object with the greatest koid is gone; it was no end, so it was no peer
+pub popped_whole : (m n : BTreeMap ℕ Object) (next koid room : ℕ) (d : List ℕ) (r : Option (ℕ × Object)) → IsWhole m.entries next d room → next ≡ koid + 1 → is_end_at m.entries koid ≡ false → IsTrue (has_key m.entries koid) → length n.entries ≤ length m.entries
+    → IsSome r ↔ (0 < length m.entries) → IfNone r (IsUnchanged m n) → IfSome r (λ p. lookup (is_at (nat_cmp p.0)) m.entries ≡ Some p.1) → IfSome r (λ p. IsUpperBound nat_cmp m p.0) → IfSome r (λ p. Updates nat_cmp m n p.0 None)
+    → IsWhole n.entries koid d room
+unfolding get
+popped_whole m n next koid room d None whole newest alone there fewer some unchanged value greatest updates = rw unchanged (none_whole m.entries koid room d (no_entries m.entries some.1) whole.none)
+popped_whole m n next koid room d (Some p) whole newest alone there fewer some unchanged value greatest updates = record {
+  below = λ j at. lower j (rw (read j) at at);
+  peers = λ j o at. peers j o at;
+  enough = omega (arith, fewer, whole.enough);
+  none = whole.none;
+}
+  where
+    last : p.0 < next
+    last = whole.below p.0 (rw (← looked_up m.entries p.0, value) refl)
+
+    read : (j : ℕ) → get n.entries j ≡ (if is_at (nat_cmp p.0) j then None else lookup (is_at (nat_cmp j)) m.entries)
+    read j = rw (← looked_up n.entries j, updates.0 j) refl
+
+    lower : (j : ℕ) → IsTrue (is_some (cond (is_at (nat_cmp p.0) j) None (lookup (is_at (nat_cmp j)) m.entries))) → j < koid
+    lower j at = elim (cases_Bool (is_at (nat_cmp p.0) j)) as (λ _. j < koid) [
+      | inl here ↦ absurd (false≢true (rw here at at))
+      | inr apart ↦ grind (arith, nat_tests, last, newest, greatest j (rw apart at at), unsigned_tied p.0 j)
+    ]
+
+    -- what is left was there before
+    was : (j : ℕ) (o : Object) → get n.entries j ≡ Some o → get m.entries j ≡ Some o
+    was j o at = by_test (is_at (nat_cmp p.0) j) (rw (read j) at at)
+      where
+        by_test : (b : Bool) → (if b then None else lookup (is_at (nat_cmp j)) m.entries) ≡ Some o → get m.entries j ≡ Some o
+        by_test true h = absurd (none-some o h)
+        by_test false h = sym (looked_up m.entries j) ∙ h
+
+    -- the newest object was no peer
+    not_newest : (q : ℕ) → q < next → (IsTrue (has_key m.entries q) → IsTrue (is_end_at m.entries q)) → q < koid
+    not_newest q given end = elim (cases_Bool (q == koid)) as (λ _. q < koid) [
+      | inl same ↦
+          let key : q ≡ koid = eqb-true q koid same in
+          absurd (false≢true (sym alone ∙ (ap (is_end_at m.entries) (sym key) ∙ end (rw key there))))
+      | inr apart ↦ grind (arith, nat_tests, given, newest, apart)
+    ]
+
+    end_left : (q : ℕ) (o : Option Object) → get n.entries q ≡ o → (IsTrue (has_key m.entries q) → IsTrue (is_end_at m.entries q)) → IsTrue (is_some o) → IsTrue (is_end_at n.entries q)
+    end_left q None is end at = absurd (false≢true at)
+    end_left q (Some o) is end at = rw is (rw (was q o is) at (end (rw (was q o is) refl)))
+
+    by_body : (b : Body) → HasPeer m.entries next b → HasPeer n.entries koid b
+    by_body body.RootJob has = has
+    by_body (body.Process job lives) has = has
+    by_body body.Event has = has
+    by_body (body.ChannelEnd q queue) has = (not_newest q has.0 has.1, λ at. end_left q (get n.entries q) refl has.1 at)
+
+    peers : (j : ℕ) (o : Object) → get n.entries j ≡ Some o → HasPeer n.entries koid o.body
+    peers j o at = by_body o.body (whole.peers j o (was j o at))
+
+-- what the methods of objects cite
+pub ruleset whole = (none_whole, more_whole, changed_whole, stopped_whole, sent_whole, received_whole, inserted_whole, roomy_whole)

@@ -1,0 +1,26 @@
+use Rattle.std.proofs.Common.{arith, ap, sym, ◌≡◌, ◌++◌, ◌∷◌, [], vec_capacity, ◌∙◌}
+use Rattle.zl_objects.specs.Dying.{LetsGo}
+use Rattle.zl_objects.proofs.Budget.{both_went}
+use Rattle.zl_objects.proofs.Released.{cascades_of, both_released, starts, whole_left}
+use Rattle.zl_objects.proofs.objects.Objects.end.Goals as goal
+
+pub remove_unkept-requires : goal.remove_unkept-requires
+remove_unkept-requires c = record { fits = starts c.self.inside.by_koid.entries c.self.inside.next_koid (vec_capacity c.self.inside.dying) c.self.inside.dying.items c.self.invariant }
+
+pub remove_unkept-requires-in-Some : goal.remove_unkept-requires-in-Some
+remove_unkept-requires-in-Some c = record { fits = omega (arith, starts c.self.inside.by_koid.entries c.self.inside.next_koid (vec_capacity c.self.inside.dying) c.self.inside.dying.items c.self.invariant, c.remove_unkept.ensures.less, c.remove_unkept.ensures.capacity) }
+
+pub remove_dying-requires : goal.remove_dying-requires
+remove_dying-requires c = record { fits = omega (arith, starts c.self.inside.by_koid.entries c.self.inside.next_koid (vec_capacity c.self.inside.dying) c.self.inside.dying.items c.self.invariant, c.remove_unkept.ensures.less, c.remove_unkept.ensures.capacity, c.remove_unkept-in-Some.ensures.less, c.remove_unkept-in-Some.ensures.capacity) }
+
+pub invariant_of-self : goal.invariant_of-self
+invariant_of-self c =
+    whole_left [] c.self.inside.by_koid.entries c.remove_dying.new.by_koid.entries c.self.inside.next_koid (vec_capacity c.self.inside.dying) (vec_capacity c.remove_dying.new.dying) c.self.inside.dying.items c.remove_dying.new.dying.items
+    ((both_released c.self.inside.by_koid.entries c.remove_unkept.new.by_koid.entries c.remove_unkept-in-Some.new.by_koid.entries c.remove_dying.new.by_koid.entries c.self.inside.next_koid c.args.pid c.in-Some.job c.self.inside.dying.items c.remove_unkept.new.dying.items c.remove_unkept-in-Some.new.dying.items c.remove_dying.new.dying.items
+    c.self.invariant.none c.remove_dying.ensures.none c.remove_unkept.ensures.goes c.remove_unkept-in-Some.ensures.goes c.remove_dying.ensures.goes).cascades) c.self.invariant c.remove_dying.ensures.none (c.remove_dying.ensures.capacity ∙ (c.remove_unkept-in-Some.ensures.capacity ∙ c.remove_unkept.ensures.capacity))
+
+pub returns-in-Some : goal.returns-in-Some
+returns-in-Some c =
+    rw (sym c.job_of.ensures ∙ c.in-Some.is) (rw (← c.stop.ensures, ← c.self.view_is)
+    (both_released c.self.inside.by_koid.entries c.remove_unkept.new.by_koid.entries c.remove_unkept-in-Some.new.by_koid.entries c.remove_dying.new.by_koid.entries c.self.inside.next_koid c.args.pid c.in-Some.job c.self.inside.dying.items c.remove_unkept.new.dying.items c.remove_unkept-in-Some.new.dying.items c.remove_dying.new.dying.items
+    c.self.invariant.none c.remove_dying.ensures.none c.remove_unkept.ensures.goes c.remove_unkept-in-Some.ensures.goes c.remove_dying.ensures.goes))

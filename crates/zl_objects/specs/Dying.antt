@@ -1,0 +1,53 @@
+-- How what goes is noted, without memory. No public clause cites this module.
+use Rattle.std.specs.Prelude.{ℕ, ◌≡◌, ◌+◌, ◌<◌, ◌≤◌, Bool, true, false, ◌==◌, nat_lt, not, IsTrue, List, [], ◌++◌, length, Option, Some, None, if◌then◌else◌}
+use Rattle.std.specs.List.{count_by}
+use Rattle.zl_rights.specs.Map.{Map, get, has_key, without}
+use Rattle.zl_objects.specs.declared.object.Body.{Body}
+use Rattle.zl_objects.specs.declared.object.Body.TheVariants as body
+use Rattle.zl_objects.specs.declared.object.Object.{Object}
+use Rattle.zl_objects.specs.Objects.{is_end_at, is_kept}
+use Rattle.zl_objects.specs.Release.{AreKeptBut, Cascades}
+
+-- one handle alone names the object that was found
+abbrev pub is_last : Option Object → Bool
+is_last None = false
+is_last (Some o) = o.handles == 1
+
+-- nothing keeps the object k that was found
+abbrev pub is_unkept : Map Object → ℕ → Option Object → Bool
+is_unkept m k None = false
+is_unkept m k (Some o) = not (is_kept m k o)
+
+-- the object k, if it is there and nothing keeps it
+abbrev pub unkept_at : Map Object → ℕ → Option Object
+unkept_at m k = if is_unkept m k (get m k) then get m k else None
+
+-- the objects without k, if nothing keeps it
+abbrev pub left_at : Map Object → ℕ → Map Object
+left_at m k = if is_unkept m k (get m k) then without m k else m
+
+-- an object that handles name
+abbrev pub is_named : ℕ × Object → Bool
+is_named e = nat_lt 0 e.1.handles
+
+-- the places that are taken or may still be
+unfoldable pub budget : Map Object → List ℕ → ℕ
+budget m dying = length dying + count_by is_named m
+
+-- handles to these koids went, and what nothing keeps was noted
+pub record LetsGo (ks : List ℕ) (m : Map Object) (dying : List ℕ) (m2 : Map Object) (dying2 : List ℕ) : Type 0 where
+  pub cheap : budget m2 dying2 ≤ budget m dying
+  pub notes : (others : List ℕ) → AreKeptBut (others ++ dying) m → AreKeptBut (others ++ dying2) m2
+  pub leads : (rest : List ℕ) (m3 : Map Object) → Cascades rest m2 m3 → Cascades (ks ++ rest) m m3
+
+-- the peer of an end has a koid that was given, and is an end while it is there
+abbrev pub HasPeer : Map Object → ℕ → Body → Type 0
+HasPeer m next_koid (body.ChannelEnd peer queue) = (peer < next_koid) × (IsTrue (has_key m peer) → IsTrue (is_end_at m peer))
+HasPeer m next_koid _ = Unit {0}
+
+-- all koids lie below the next one, peers are ends, there is room for each object, and none is noted
+pub record IsWhole (m : Map Object) (next_koid : ℕ) (dying : List ℕ) (room : ℕ) : Type 0 where
+  pub below : (k : ℕ) → IsTrue (has_key m k) → k < next_koid
+  pub peers : (k : ℕ) (o : Object) → get m k ≡ Some o → HasPeer m next_koid o.body
+  pub enough : length m ≤ room
+  pub none : dying ≡ []

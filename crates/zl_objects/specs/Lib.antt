@@ -1,0 +1,5 @@
+pub mod Objects
+pub mod Release
+pub mod Seen
+pub mod Dying
+pub mod Signals

@@ -1,0 +1,208 @@
+-- The objects by koid, each with its count of handles, and what each operation makes of them.
+use Rattle.std.specs.Prelude.{ℕ, ◌≡◌, ◌+◌, ◌-◌, ◌^◌, IsTrue, Bool, true, false, ◌&&◌, ◌||◌, ◌==◌, nat_le, nat_lt, List, [], ◌∷◌, ◌++◌, Option, Some, None, drop, length, take, if◌then◌else◌}
+use Rattle.std.specs.List.{list_any}
+use Rattle.zl_rights.specs.Map.{Map, get, update, has_key}
+use Rattle.zl_rights.specs.Numbers.{changed}
+use Rattle.zl_rights.specs.World.{Message}
+use Rattle.zl_objects.specs.declared.object.Body.{Body}
+use Rattle.zl_objects.specs.declared.object.Body.TheVariants as body
+use Rattle.zl_objects.specs.declared.object.Object.{Object}
+
+-- the objects by koid, and the least koid that was not given yet
+pub record Objects : Type 0 where
+  pub objects : Map Object
+  pub next_koid : ℕ
+
+-- ---- koids
+
+-- so many koids are left
+abbrev pub has_koids : ℕ → ℕ → Bool
+has_koids next_koid count = nat_le (next_koid + count) (2 ^ 62)
+
+-- the least koid that was not given yet, if one is left
+abbrev pub next_of : ℕ → Option ℕ
+next_of next_koid = if has_koids next_koid 1 then Some next_koid else None
+
+-- ---- counts of handles
+
+-- one handle more may name the object
+abbrev pub has_place : Option Object → Bool
+has_place None = false
+has_place (Some o) = nat_lt o.handles (2 ^ 62)
+
+-- one handle more names the object, if one may
+abbrev pub held_once_more : Object → Object
+held_once_more o = if nat_lt o.handles (2 ^ 62) then record o { handles = o.handles + 1 } else o
+
+-- one handle less names the object
+abbrev pub held_once_less : Object → Object
+held_once_less o = record o { handles = o.handles - 1 }
+
+-- ---- jobs and processes
+
+-- a job; the root job is the only one yet
+abbrev pub is_job_body : Body → Bool
+is_job_body body.RootJob = true
+is_job_body _ = false
+
+-- the object that was found is a job
+abbrev pub is_job_in : Option Object → Bool
+is_job_in None = false
+is_job_in (Some o) = is_job_body o.body
+
+-- the object k is a job
+abbrev pub is_job_at : Map Object → ℕ → Bool
+is_job_at objects k = is_job_in (get objects k)
+
+-- the job of a process
+abbrev pub job_of : Body → Option ℕ
+job_of (body.Process job lives) = Some job
+job_of _ = None
+
+-- the job of the process that was found
+abbrev pub job_in : Option Object → Option ℕ
+job_in None = None
+job_in (Some o) = job_of o.body
+
+-- what a process is once it has ended; nothing else changes
+abbrev pub stopped_body : Body → Body
+stopped_body (body.Process job lives) = body.Process job false
+stopped_body b = b
+
+-- the object of a process that has ended
+abbrev pub stopped : Object → Object
+stopped o = record o { body = stopped_body o.body }
+
+-- ---- channel ends
+
+-- the end of a channel
+abbrev pub is_end_body : Body → Bool
+is_end_body (body.ChannelEnd peer queue) = true
+is_end_body _ = false
+
+-- the object that was found is the end of a channel
+abbrev pub is_end_in : Option Object → Bool
+is_end_in None = false
+is_end_in (Some o) = is_end_body o.body
+
+-- the object k is the end of a channel
+abbrev pub is_end_at : Map Object → ℕ → Bool
+is_end_at objects k = is_end_in (get objects k)
+
+-- what is to be read at an end, the earliest first; nothing at other objects
+abbrev pub queue_of : Body → List Message
+queue_of (body.ChannelEnd peer queue) = queue
+queue_of _ = []
+
+-- what is to be read at the object that was found
+abbrev pub queue_in : Option Object → List Message
+queue_in None = []
+queue_in (Some o) = queue_of o.body
+
+-- the other end, if there is one
+abbrev pub peer_of : Body → Option ℕ
+peer_of (body.ChannelEnd peer queue) = Some peer
+peer_of _ = None
+
+-- the other end of the channel whose end was found
+abbrev pub peer_in : Option Object → Option ℕ
+peer_in None = None
+peer_in (Some o) = peer_of o.body
+
+-- the koid, where an object has it
+abbrev pub if_there : Map Object → Option ℕ → Option ℕ
+if_there objects None = None
+if_there objects (Some k) = if has_key objects k then Some k else None
+
+-- the peer of the end k, while it is there
+abbrev pub peer_at : Map Object → ℕ → Option ℕ
+peer_at objects k = if_there objects (peer_in (get objects k))
+
+-- a message goes last into the queue of an end
+abbrev pub sent_body : Message → Body → Body
+sent_body m (body.ChannelEnd peer queue) = body.ChannelEnd peer (queue ++ m ∷ [])
+sent_body m b = b
+
+-- the end with one message more
+abbrev pub sent : Message → Object → Object
+sent m o = record o { body = sent_body m o.body }
+
+-- the first message leaves the queue of an end
+abbrev pub received_body : Body → Body
+received_body (body.ChannelEnd peer queue) = body.ChannelEnd peer (drop 1 queue)
+received_body b = b
+
+-- the end without its first message
+abbrev pub received : Object → Object
+received o = record o { body = received_body o.body }
+
+-- ---- what keeps an object
+
+-- a living process of the job k
+abbrev pub lives_below : ℕ → Body → Bool
+lives_below k (body.Process job lives) = (job == k) && lives
+lives_below k _ = false
+
+-- the job k has a process that lives
+unfoldable pub has_living_child : Map Object → ℕ → Bool
+has_living_child objects k = list_any (λ e. lives_below k e.1.body) objects
+
+-- an object that stays without a handle
+abbrev pub stays_alone : Map Object → ℕ → Body → Bool
+stays_alone objects k body.RootJob = has_living_child objects k
+stays_alone objects k (body.Process job lives) = lives
+stays_alone objects k _ = false
+
+-- a handle names the object, or it stays without one
+abbrev pub is_kept : Map Object → ℕ → Object → Bool
+is_kept objects k o = nat_lt 0 o.handles || stays_alone objects k o.body
+
+-- ---- changes
+
+-- an object with no signals raised, which so many handles name
+abbrev pub new_object : Body → ℕ → Object
+new_object body handles = record { body = body; raised = record { 0 = 0 }; handles = handles }
+
+-- the objects with a new one, which gets the next koid
+abbrev pub with_new : Objects → Body → ℕ → Objects
+with_new r body handles = record {
+  objects = r.objects ++ (r.next_koid, new_object body handles) ∷ [];
+  next_koid = r.next_koid + 1;
+}
+
+-- the root job alone
+abbrev pub root_alone : Objects
+root_alone = record { objects = (1, new_object body.RootJob 0) ∷ []; next_koid = 2 }
+
+-- the objects with both ends of a new channel, which are peers of each other; the first has the lower koid
+abbrev pub with_channel : Objects → ℕ → Objects
+with_channel r handles =
+    with_new (with_new r (body.ChannelEnd (r.next_koid + 1) []) handles) (body.ChannelEnd r.next_koid []) handles
+
+-- the objects without the newest, which had the koid k
+abbrev pub without_newest : Objects → ℕ → Objects
+without_newest r k = record { objects = take (length r.objects - 1) r.objects; next_koid = k }
+
+-- the objects, where one handle more names the object k
+abbrev pub holding : Objects → ℕ → Objects
+holding r k = record r { objects = update r.objects k held_once_more }
+
+-- the object with the signals of one mask cleared, and then those of the other set
+abbrev pub raised_changed : ℕ → ℕ → Object → Object
+raised_changed clear set o = record o { raised = record { 0 = changed o.raised.0 clear set } }
+
+-- the objects, where the signals of the object k were changed
+abbrev pub changing : Objects → ℕ → ℕ → ℕ → Objects
+changing r k clear set = record r { objects = update r.objects k (raised_changed clear set) }
+
+-- the objects, where the process k has ended
+abbrev pub stopping : Objects → ℕ → Objects
+stopping r k = record r { objects = update r.objects k stopped }
+
+-- the objects, where the message was sent to the end k
+abbrev pub sending : Objects → ℕ → Message → Objects
+sending r k m = record r { objects = update r.objects k (sent m) }
+
+-- the objects, where the first message was read at the end k
+abbrev pub receiving : Objects → ℕ → Objects
+receiving r k = record r { objects = update r.objects k received }

@@ -1,0 +1,70 @@
+-- What the definitions of settling and of active signals see of the objects.
+use Rattle.std.specs.Prelude.{ℕ, ◌≡◌, ◌+◌, ◌<◌, IsTrue, Bool, true, false, not, ◌||◌, ◌==◌, List, [], map, Some}
+use Rattle.std.specs.List.{count_by}
+use Rattle.std.specs.Ordering.{nat_cmp}
+use Rattle.std.specs.FinMap.Entries.{is_sorted}
+use Rattle.zl_rights.specs.Counts.{handles_to}
+use Rattle.zl_rights.specs.Map.{Map, get, has_key}
+use Rattle.zl_rights.specs.World.{World, Object as ObjectValue, Body as BodyValue, ChannelEnd, EventBody, JobBody, ProcessBody}
+use Rattle.zl_rights.specs.Signals.{is_process, lives, runs}
+use Rattle.zl_rights.specs.Settle.{Settles, without_others}
+use Rattle.zl_objects.specs.declared.object.Body.{Body}
+use Rattle.zl_objects.specs.declared.object.Body.TheVariants as body
+use Rattle.zl_objects.specs.declared.object.Object.{Object}
+use Rattle.zl_objects.specs.Objects.{Objects, is_job_at}
+use Rattle.zl_objects.specs.Release.{AreKeptBut}
+
+-- ---- views
+
+-- what an object is; the root job has no parent, and no policy is set in it yet
+abbrev pub body_value : Body → BodyValue
+body_value body.RootJob = JobBody 0 1 [] false
+body_value (body.Process job lives) = ProcessBody job
+body_value body.Event = EventBody
+body_value (body.ChannelEnd peer queue) = ChannelEnd peer queue
+
+-- an object; how many handles name it isn't seen
+abbrev pub object_value : Object → ObjectValue
+object_value o = record { body = body_value o.body; raised = o.raised.0 }
+
+-- an object of the world under its koid
+abbrev pub object_entry : ℕ × Object → ℕ × ObjectValue
+object_entry e = (e.0, object_value e.1)
+
+-- the world with these objects in place of its own
+abbrev pub with_objects : World → Map Object → World
+with_objects w m = record w { objects = map object_entry m }
+
+-- the world with these objects, and of all else what settling leaves where each of them stays
+abbrev pub with_all : World → Map Object → World
+with_all w m = without_others (with_objects w m) (has_key (map object_entry m))
+
+-- ---- worlds that the objects fit
+
+-- the object of a process says whether the process runs, and it lives only where it runs; nothing else runs
+pub record AgreesOn (w : World) (k : ℕ) (lives_on : Bool) : Type 0 where
+  pub running : lives_on ≡ is_process w runs k
+  pub living : lives_on ≡ is_process w lives k
+
+abbrev pub Agrees : World → ℕ → Body → Type 0
+Agrees w k (body.Process job lives_on) = AgreesOn w k lives_on
+Agrees w k _ = is_process w runs k ≡ false
+
+-- the object of a process that lives names its job
+abbrev pub is_in_job : Map Object → Body → Bool
+is_in_job objects (body.Process job lives_on) = not lives_on || is_job_at objects job
+is_in_job objects _ = true
+
+-- the counts are right and each handle names an object, where handles to ks have gone and still count
+pub record IsExact (w : World) (ks : List ℕ) (m : Map Object) : Type 0 where
+  pub in_order : IsTrue (is_sorted nat_cmp m)
+  pub no_zero : (k : ℕ) → IsTrue (has_key m k) → 0 < k
+  pub counted : (k : ℕ) (o : Object) → get m k ≡ Some o → o.handles ≡ handles_to (with_objects w m) k + count_by (λ j. j == k) ks
+  pub named : (k : ℕ) → 0 < handles_to (with_objects w m) k + count_by (λ j. j == k) ks → IsTrue (has_key m k)
+  pub agrees : (k : ℕ) (o : Object) → get m k ≡ Some o → Agrees w k o.body
+  pub in_jobs : (k : ℕ) (o : Object) → get m k ≡ Some o → IsTrue (is_in_job m o.body)
+
+-- in each world that the objects fit, the largest held set is what is left, and the counts are right again
+pub record LeavesLargest (ks loose : List ℕ) (r r2 : Objects) : Type 0 where
+  pub settles : (w : World) → IsExact w ks r.objects → AreKeptBut loose r.objects → Settles (with_objects w r.objects) (with_all w r2.objects)
+  pub exact : (w : World) → IsExact w ks r.objects → IsExact w [] r2.objects

@@ -1,0 +1,18 @@
+//! The objects of a running lab by koid, each with its count of handles.
+//!
+//! It stands on `zl_rights` and `zl_channel`; of `zl_table` just proofs cite lemmas on maps. It
+//! promises the exact change of each operation, that `release` leaves the largest held set and
+//! nothing else in every world that the objects fit, and that nothing but making an object and
+//! sending takes memory. Where a method names no source, that of its type is meant.
+#![tactic(auto)]
+
+mod object;
+mod objects;
+mod releasing;
+mod signals;
+
+pub use object::{Body, Object};
+pub use objects::Objects;
+
+#[cfg(test)]
+mod tests;

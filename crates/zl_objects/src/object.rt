@@ -1,0 +1,150 @@
+//! One object.
+
+ghost use Rattle.std.specs.Prelude.{◌≡◌, ◌↔◌, IsTrue, IfErr, OnErr, OnOk, Err, Some, slice_get};
+ghost use Rattle.zl_objects.specs.Dying.{is_last};
+ghost use Rattle.zl_objects.specs.Objects.{has_place, held_once_more, held_once_less, is_end_body, job_of, lives_below, peer_of, queue_of, raised_changed, received, sent, stopped};
+ghost use Rattle.zl_channel.specs.Queue.{is_too_large, refused_message, front_sizes, front_entry};
+
+use crate::objects::Objects;
+use zl_channel::{ChannelEnd, Message, PushFault};
+use zl_rights::{Entry, Koid, Signals};
+
+/// What an object is.
+///
+/// Source: the page "Kernel objects" of the Fuchsia documentation.
+#[derive(Drop)]
+pub enum Body {
+    /// The job above all others.
+    RootJob,
+    /// A process of a job, living or ended.
+    Process { job: Koid, lives: bool },
+    Event,
+    /// One end of a channel, with what is to be read at it.
+    ChannelEnd { peer: Koid, queue: ChannelEnd },
+}
+
+/// An object, with the signals that calls set and clear and the number of its handles.
+#[derive(Drop)]
+pub struct Object {
+    pub body: Body,
+    pub raised: Signals,
+    pub handles: u64,
+}
+
+impl Object {
+    /// One handle more, if one may name the object. Says whether one may.
+    pub fn hold_more(&mut self) -> bool
+        ensures object { self.new ≡ held_once_more self.old }
+        ensures may { result ≡ has_place (Some self.old) }
+    {
+        let may = self.handles < Objects::MOST;
+        if may {
+            self.handles += 1;
+        }
+        may
+    }
+
+    /// One handle less. Says whether it was the only one.
+    pub fn hold_less(&mut self) -> bool
+        ensures object { self.new ≡ held_once_less self.old }
+        ensures last { result ≡ is_last (Some self.old) }
+    {
+        let last = self.handles == 1;
+        self.handles = self.handles.saturating_sub(1);
+        last
+    }
+
+    /// The signals `clear` go, and then the signals `set` come.
+    pub fn change(&mut self, clear: Signals, set: Signals)
+        ensures { self.new ≡ raised_changed clear.0 set.0 self.old }
+    {
+        self.raised = self.raised.changed(clear, set);
+    }
+
+    /// A process doesn't live any more.
+    pub fn stop(&mut self)
+        ensures { self.new ≡ stopped self.old }
+    {
+        if let Body::Process { lives, .. } = &mut self.body {
+            *lives = false;
+        }
+    }
+
+    /// The message goes last into the queue of a channel end.
+    pub fn send(&mut self, message: Message) -> Result<(), PushFault>
+        requires { IsTrue (is_end_body self.old.body) }
+        ensures ok { OnOk result (self.new ≡ sent message self.old) }
+        ensures unchanged { OnErr result (self.new ≡ self.old) }
+        ensures handed_back { IfErr result (λ fault. refused_message fault ≡ message) }
+        ensures out_of_range { (result ≡ Err (PushFault.OutOfRange message))
+            ↔ IsTrue (is_too_large message) }
+    {
+        match &mut self.body {
+            Body::ChannelEnd { queue, .. } => queue.push(message),
+            _ => Ok(()),
+        }
+    }
+
+    /// Takes the first message out of the queue of a channel end.
+    pub fn receive(&mut self) -> Option<Message>
+        ensures object { self.new ≡ received self.old }
+        ensures first { result ≡ slice_get (queue_of self.old.body) 0 }
+    {
+        match &mut self.body {
+            Body::ChannelEnd { queue, .. } => queue.take(),
+            _ => None,
+        }
+    }
+}
+
+impl Body {
+    /// The job of a process.
+    pub fn job(&self) -> Option<Koid>
+        ensures { result ≡ job_of self.now }
+    {
+        match self {
+            Body::Process { job, .. } => Some(*job),
+            _ => None,
+        }
+    }
+
+    /// Whether it is a process of the job that lives.
+    pub fn lives_below(&self, parent: Koid) -> bool
+        ensures { result ≡ lives_below parent self.now }
+    {
+        match self {
+            Body::Process { job, lives } => *job == parent && *lives,
+            _ => false,
+        }
+    }
+
+    /// The other end of a channel.
+    pub fn peer(&self) -> Option<Koid>
+        ensures { result ≡ peer_of self.now }
+    {
+        match self {
+            Body::ChannelEnd { peer, .. } => Some(*peer),
+            _ => None,
+        }
+    }
+
+    /// How many bytes and how many handles the first message has that is to be read.
+    pub fn front_sizes(&self) -> Option<(usize, usize)>
+        ensures { result ≡ front_sizes (queue_of self.now) }
+    {
+        match self {
+            Body::ChannelEnd { queue, .. } => queue.front_sizes(),
+            _ => None,
+        }
+    }
+
+    /// The handle at place `n`, from 0, of the first message that is to be read.
+    pub fn front_entry(&self, n: usize) -> Option<Entry>
+        ensures { result ≡ front_entry (queue_of self.now) n }
+    {
+        match self {
+            Body::ChannelEnd { queue, .. } => queue.front_entry(n),
+            _ => None,
+        }
+    }
+}

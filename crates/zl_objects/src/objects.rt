@@ -1,0 +1,315 @@
+ghost use Rattle.std.specs.Prelude.{[], Err, Some, false, ◌≡◌, ◌↔◌, ◌+◌, ◌<◌, ◌^◌, ◌∷◌, IsTrue, IfErr, IfOk, IfSome, OnErr, OnOk, slice_get};
+ghost use Rattle.zl_rights.specs.Map.{get, has_key};
+ghost use Rattle.zl_objects.specs.Objects.{changing, has_koids, has_place, holding, is_end_at, is_end_body, is_job_at, job_in, new_object, next_of, peer_at, queue_in, receiving, root_alone, sending, stopping, with_channel, with_new, without_newest};
+ghost use Rattle.zl_channel.specs.Queue.{front_entry, front_sizes, is_too_large, refused_message};
+ghost use Rattle.zl_objects.specs.Release.{Ends, Releases};
+ghost use Rattle.zl_objects.specs.Seen.{LeavesLargest};
+
+use crate::object::{Body, Object};
+use crate::releasing::{let_go, remove_dying, remove_unkept};
+use bitflags::Flags;
+use std::alloc::{AllocError, Global};
+use std::collections::BTreeMap;
+use std::marker::Model;
+use zl_channel::{ChannelEnd, Message, PushFault};
+use zl_rights::{Entry, Koid, Signals};
+
+/// The objects by koid, and the least koid that was not given yet.
+///
+/// Source: the pages "Kernel objects" and "Handles" of the Fuchsia documentation.
+#[derive(Drop)]
+pub struct Objects {
+    pub(crate) by_koid: BTreeMap<Koid, Object>,
+    next_koid: Koid,
+    // The objects that are to be looked at, as no handle names them. There is room for each object,
+    // so that none takes memory to go.
+    dying: Vec<Koid>,
+}
+
+impl Model for Objects {
+    ghost use Rattle.std.specs.Prelude.{vec_capacity};
+    ghost use Rattle.zl_objects.specs.Objects.{Objects as ObjectsValue};
+    ghost use Rattle.zl_objects.specs.Dying.{IsWhole};
+
+    ghost Value = { ObjectsValue };
+
+    ghost view = { λ o. record { objects = o.by_koid.entries; next_koid = o.next_koid } };
+
+    ghost invariant = { λ o.
+        IsWhole o.by_koid.entries o.next_koid o.dying.items (vec_capacity o.dying) };
+}
+
+#[tactic(auto, using(crate::proofs::ByKoid::by_koid, crate::proofs::Whole::whole))]
+impl Objects {
+    /// The koid of the root job.
+    pub const ROOT_JOB: Koid = 1;
+
+    /// No koid from this on is given, and no object has more handles (own profile).
+    pub const MOST: u64 = 1 << 62;
+
+    /// The root job alone.
+    pub fn new(alloc: Global) -> Result<Objects, AllocError>
+        ensures { IfOk result (λ objects. objects ≡ root_alone) }
+    {
+        let mut objects = Objects {
+            by_koid: BTreeMap::new(alloc),
+            next_koid: Objects::ROOT_JOB,
+            dying: Vec::new(alloc),
+        };
+        objects.create(Body::RootJob, 0)?;
+        Ok(objects)
+    }
+
+    /// So many koids are left.
+    pub fn has_koids(&self, count: u32) -> bool
+        ensures { result ≡ has_koids self.now.next_koid count }
+    {
+        self.next_koid <= Objects::MOST - u64::from(count)
+    }
+
+    /// The least koid that was not given yet, if one is left.
+    pub fn next_koid(&self) -> Option<Koid>
+        ensures { result ≡ next_of self.now.next_koid }
+    {
+        if self.has_koids(1) {
+            Some(self.next_koid)
+        } else {
+            None
+        }
+    }
+
+    /// Makes an object that so many handles name, and gives its koid. A koid has to be left, and
+    /// an end of a channel is made by `create_channel`.
+    pub fn create(&mut self, body: Body, handles: u64) -> Result<Koid, AllocError>
+        requires koid { IsTrue (has_koids self.old.next_koid 1) }
+        requires alone { is_end_body body ≡ false }
+        ensures koid { IfOk result (λ koid. koid ≡ self.old.next_koid) }
+        ensures created { OnOk result (self.new ≡ with_new self.old body handles) }
+        ensures there { IfOk result
+            (λ koid. get self.new.objects koid ≡ Some (new_object body handles)) }
+        ensures unchanged { OnErr result (self.new ≡ self.old) }
+    {
+        self.dying.reserve(self.by_koid.len() + 1)?;
+        let koid = self.next_koid;
+        self.by_koid.insert(
+            koid,
+            Object {
+                body,
+                raised: Signals::empty(),
+                handles,
+            },
+        )?;
+        self.next_koid = koid + 1;
+        Ok(koid)
+    }
+
+    /// Makes a channel and gives the koids of its ends, the lower first. They are peers of each
+    /// other, nothing is to be read at them, and so many handles name each. Two koids have to be
+    /// left.
+    ///
+    /// Source: the page "zx_channel_create" of the Fuchsia documentation.
+    pub fn create_channel(&mut self, handles: u64) -> Result<(Koid, Koid), AllocError>
+        requires { IsTrue (has_koids self.old.next_koid 2) }
+        ensures koids { IfOk result
+            (λ koids. koids ≡ (self.old.next_koid, self.old.next_koid + 1)) }
+        ensures created { OnOk result (self.new ≡ with_channel self.old handles) }
+        ensures unchanged { OnErr result (self.new ≡ self.old) }
+    {
+        let first = self.next_koid;
+        let second = first + 1;
+        let alloc = *self.dying.allocator();
+        self.dying.reserve(self.by_koid.len() + 2)?;
+        self.by_koid
+            .insert(first, channel_end(alloc, second, handles))?;
+        if self
+            .by_koid
+            .insert(second, channel_end(alloc, first, handles))
+            .is_err()
+        {
+            self.by_koid.remove(&first);
+            return Err(AllocError);
+        }
+        self.next_koid = second + 1;
+        Ok((first, second))
+    }
+
+    /// Takes the newest object back, with its koid, as if it had not been made. The koid has to be
+    /// the one given last, and that of no end of a channel.
+    pub fn take_back(&mut self, koid: Koid)
+        requires newest { self.old.next_koid ≡ koid + 1 }
+        requires there { IsTrue (has_key self.old.objects koid) }
+        requires alone { is_end_at self.old.objects koid ≡ false }
+        ensures { self.new ≡ without_newest self.old koid }
+    {
+        self.by_koid.pop_last();
+        self.next_koid = koid;
+    }
+
+    /// All objects are gone. It takes no memory.
+    pub fn clear(&mut self)
+        ensures { self.new ≡ record self.old { objects = [] } }
+    {
+        self.by_koid.clear();
+    }
+
+    /// Whether the koid is that of a job.
+    pub fn is_job(&self, koid: Koid) -> bool
+        ensures { result ≡ is_job_at self.now.objects koid }
+    {
+        match self.by_koid.get(&koid) {
+            Some(object) => matches!(object.body, Body::RootJob),
+            None => false,
+        }
+    }
+
+    /// Whether one handle more may name the object.
+    pub fn may_hold(&self, koid: Koid) -> bool
+        ensures { result ≡ has_place (get self.now.objects koid) }
+    {
+        match self.by_koid.get(&koid) {
+            Some(object) => object.handles < Objects::MOST,
+            None => false,
+        }
+    }
+
+    /// One handle more names the object, if one may. Says whether one may.
+    pub fn hold(&mut self, koid: Koid) -> bool
+        ensures held { self.new ≡ holding self.old koid }
+        ensures may { result ≡ has_place (get self.old.objects koid) }
+    {
+        let Some(object) = self.by_koid.get_mut(&koid) else {
+            return false;
+        };
+        object.hold_more()
+    }
+
+    /// The signals that calls set and clear at the object change.
+    pub fn change(&mut self, koid: Koid, clear: Signals, set: Signals)
+        ensures { self.new ≡ changing self.old koid clear.0 set.0 }
+    {
+        let Some(object) = self.by_koid.get_mut(&koid) else {
+            return;
+        };
+        object.change(clear, set);
+    }
+
+    /// The other end of the channel whose end it is, while it is an object.
+    ///
+    /// Source: the page "Channels" of the Fuchsia documentation.
+    pub fn peer(&self, koid: Koid) -> Option<Koid>
+        ensures peer { result ≡ peer_at self.now.objects koid }
+        ensures end { IfSome result (λ peer. IsTrue (is_end_at self.now.objects peer)) }
+    {
+        let peer = self.by_koid.get(&koid)?.body.peer()?;
+        if self.by_koid.contains_key(&peer) {
+            Some(peer)
+        } else {
+            None
+        }
+    }
+
+    /// Puts the message behind all others that are to be read at the end. No count of handles
+    /// changes. The koid has to be that of an end, as `peer` gives it.
+    ///
+    /// `OutOfRange` where it has more bytes or handles than a message may have, else `NoMemory`.
+    pub fn send(&mut self, koid: Koid, message: Message) -> Result<(), PushFault>
+        requires { IsTrue (is_end_at self.old.objects koid) }
+        ensures sent { OnOk result (self.new ≡ sending self.old koid message) }
+        ensures unchanged { OnErr result (self.new ≡ self.old) }
+        ensures handed_back { IfErr result (λ fault. refused_message fault ≡ message) }
+        ensures out_of_range { (result ≡ Err (PushFault.OutOfRange message))
+            ↔ IsTrue (is_too_large message) }
+    {
+        let Some(object) = self.by_koid.get_mut(&koid) else {
+            return Ok(());
+        };
+        object.send(message)
+    }
+
+    /// Takes the first message that is to be read at the end, with its handles. No count of handles
+    /// changes. Nothing where no message is there, or it is no end. It takes no memory.
+    pub fn receive(&mut self, koid: Koid) -> Option<Message>
+        ensures first { result ≡ slice_get (queue_in (get self.old.objects koid)) 0 }
+        ensures left { self.new ≡ receiving self.old koid }
+    {
+        self.by_koid.get_mut(&koid)?.receive()
+    }
+
+    /// How many bytes and how many handles the first message has that is to be read at the end.
+    pub fn front_sizes(&self, koid: Koid) -> Option<(usize, usize)>
+        ensures { result ≡ front_sizes (queue_in (get self.now.objects koid)) }
+    {
+        self.by_koid.get(&koid)?.body.front_sizes()
+    }
+
+    /// The handle at place `n`, from 0, of the first message that is to be read at the end.
+    pub fn front_entry(&self, koid: Koid, n: usize) -> Option<Entry>
+        ensures { result ≡ front_entry (queue_in (get self.now.objects koid)) n }
+    {
+        self.by_koid.get(&koid)?.body.front_entry(n)
+    }
+
+    /// A handle to the object has gone, and with it goes what isn't held any more: with the end of
+    /// a channel go its messages and the handles in them. It takes no memory.
+    ///
+    /// Source: the page "zx_handle_close" of the Fuchsia documentation.
+    pub fn release(&mut self, koid: Koid)
+        ensures releases { Releases (koid ∷ []) [] self.old self.new }
+        ensures largest { LeavesLargest (koid ∷ []) [] self.old self.new }
+    {
+        let_go(&mut self.by_koid, &mut self.dying, koid);
+        remove_dying(&mut self.by_koid, &mut self.dying);
+    }
+
+    /// The object goes if nothing keeps it, and what isn't held any more then. It takes no memory.
+    pub fn remove_unheld(&mut self, koid: Koid)
+        ensures releases { Releases [] (koid ∷ []) self.old self.new }
+        ensures largest { LeavesLargest [] (koid ∷ []) self.old self.new }
+    {
+        remove_unkept(&mut self.by_koid, &mut self.dying, koid);
+        remove_dying(&mut self.by_koid, &mut self.dying);
+    }
+
+    /// The process has ended, and what isn't held any more goes. It takes no memory.
+    pub fn end(&mut self, pid: Koid)
+        ensures { Ends pid self.old self.new }
+    {
+        if let Some(job) = self.job_of(pid) {
+            self.stop(pid);
+            remove_unkept(&mut self.by_koid, &mut self.dying, pid);
+            remove_unkept(&mut self.by_koid, &mut self.dying, job);
+            remove_dying(&mut self.by_koid, &mut self.dying);
+        }
+    }
+
+    /// The process doesn't live any more.
+    fn stop(&mut self, pid: Koid)
+        ensures { self.new ≡ stopping self.old pid }
+    {
+        let Some(object) = self.by_koid.get_mut(&pid) else {
+            return;
+        };
+        object.stop();
+    }
+
+    /// The job of the process.
+    fn job_of(&self, pid: Koid) -> Option<Koid>
+        ensures { result ≡ job_in (get self.now.objects pid) }
+    {
+        self.by_koid.get(&pid)?.body.job()
+    }
+}
+
+/// An end of a channel, at which nothing is to be read, and which so many handles name.
+fn channel_end(alloc: Global, peer: Koid, handles: u64) -> Object
+    ensures { result ≡ new_object (Body.ChannelEnd peer []) handles }
+{
+    Object {
+        body: Body::ChannelEnd {
+            peer,
+            queue: ChannelEnd::new(alloc),
+        },
+        raised: Signals::empty(),
+        handles,
+    }
+}

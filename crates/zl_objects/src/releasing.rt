@@ -1,0 +1,138 @@
+//! What goes once handles have gone, one object after another and without memory.
+//!
+//! An object that may have to go is noted in `dying`, which has room for each object. It stays with
+//! its queue until it is looked at again.
+
+ghost use Rattle.std.specs.Prelude.{◌≡◌, ◌≤◌, ◌++◌, ◌∷◌, [], vec_capacity};
+ghost use Rattle.zl_rights.specs.Map.{get, update};
+ghost use Rattle.zl_objects.specs.Objects.{has_living_child, held_once_less, is_kept};
+ghost use Rattle.zl_objects.specs.Release.{koids_of, named_in};
+ghost use Rattle.zl_objects.specs.Dying.{budget, is_last, is_unkept, left_at, unkept_at, LetsGo};
+
+use crate::object::{Body, Object};
+use std::collections::BTreeMap;
+use zl_channel::ChannelEnd;
+use zl_rights::{Entry, Koid};
+
+/// One handle less names the object. Says whether it was the only one.
+#[tactic(auto, using(crate::proofs::ByKoid::by_koid))]
+fn hold_less(by_koid: &mut BTreeMap<Koid, Object>, koid: Koid) -> bool
+    ensures objects { by_koid.new.entries ≡ update by_koid.old.entries koid held_once_less }
+    ensures last { result ≡ is_last (get by_koid.old.entries koid) }
+{
+    let Some(object) = by_koid.get_mut(&koid) else {
+        return false;
+    };
+    object.hold_less()
+}
+
+/// One handle less names the object, which is noted if no handle names it any more.
+pub fn let_go(by_koid: &mut BTreeMap<Koid, Object>, dying: &mut Vec<Koid>, koid: Koid)
+    requires fits { budget by_koid.old.entries dying.old.items ≤ vec_capacity dying.old }
+    ensures goes { LetsGo (koid ∷ [])
+        by_koid.old.entries dying.old.items by_koid.new.entries dying.new.items }
+    ensures capacity { vec_capacity dying.new ≡ vec_capacity dying.old }
+{
+    if hold_less(by_koid, koid) {
+        dying.push_reserved(koid);
+    }
+}
+
+/// One handle less for each of these.
+fn let_go_all(by_koid: &mut BTreeMap<Koid, Object>, dying: &mut Vec<Koid>, handles: &[Entry])
+    requires fits { budget by_koid.old.entries dying.old.items ≤ vec_capacity dying.old }
+    ensures goes { LetsGo (koids_of handles.now)
+        by_koid.old.entries dying.old.items by_koid.new.entries dying.new.items }
+    ensures capacity { vec_capacity dying.new ≡ vec_capacity dying.old }
+{
+    for handle in handles {
+        let_go(by_koid, dying, handle.koid);
+    }
+}
+
+/// One handle less for each handle in the messages.
+fn let_go_queue(by_koid: &mut BTreeMap<Koid, Object>, dying: &mut Vec<Koid>, mut queue: ChannelEnd)
+    requires fits { budget by_koid.old.entries dying.old.items ≤ vec_capacity dying.old }
+    ensures goes { LetsGo (named_in queue)
+        by_koid.old.entries dying.old.items by_koid.new.entries dying.new.items }
+    ensures capacity { vec_capacity dying.new ≡ vec_capacity dying.old }
+{
+    while let Some(message) = queue.take() {
+        let_go_all(by_koid, dying, message.handles.as_slice());
+    }
+}
+
+/// Whether a process of the job lives.
+pub fn has_living_child(by_koid: &BTreeMap<Koid, Object>, job: Koid) -> bool
+    ensures { result ≡ has_living_child by_koid.now.entries job }
+{
+    by_koid.values().any(|object| object.body.lives_below(job))
+}
+
+/// Whether a handle names the object, or it is a process that lives or a job with one.
+fn is_kept(by_koid: &BTreeMap<Koid, Object>, koid: Koid, object: &Object) -> bool
+    ensures { result ≡ is_kept by_koid.now.entries koid object.now }
+{
+    if object.handles > 0 {
+        return true;
+    }
+    match &object.body {
+        Body::RootJob => has_living_child(by_koid, koid),
+        Body::Process { lives, .. } => *lives,
+        Body::Event | Body::ChannelEnd { .. } => false,
+    }
+}
+
+/// Whether the object is there and nothing keeps it.
+#[tactic(auto, using(crate::proofs::ByKoid::by_koid))]
+fn is_unkept(by_koid: &BTreeMap<Koid, Object>, koid: Koid) -> bool
+    ensures { result ≡ is_unkept by_koid.now.entries koid (get by_koid.now.entries koid) }
+{
+    match by_koid.get(&koid) {
+        Some(object) => !is_kept(by_koid, koid, object),
+        None => false,
+    }
+}
+
+/// Takes the object out, unless something keeps it.
+#[tactic(auto, using(crate::proofs::ByKoid::by_koid))]
+fn take_unkept(by_koid: &mut BTreeMap<Koid, Object>, koid: Koid) -> Option<Object>
+    ensures taken { result ≡ unkept_at by_koid.old.entries koid }
+    ensures left { by_koid.new.entries ≡ left_at by_koid.old.entries koid }
+{
+    if is_unkept(by_koid, koid) {
+        by_koid.remove(&koid)
+    } else {
+        None
+    }
+}
+
+/// The object goes with its queue, unless something keeps it.
+pub fn remove_unkept(by_koid: &mut BTreeMap<Koid, Object>, dying: &mut Vec<Koid>, koid: Koid)
+    requires fits { budget by_koid.old.entries dying.old.items ≤ vec_capacity dying.old }
+    ensures goes { LetsGo [] by_koid.old.entries (dying.old.items ++ koid ∷ [])
+        by_koid.new.entries dying.new.items }
+    ensures less { budget by_koid.new.entries dying.new.items
+        ≤ budget by_koid.old.entries dying.old.items }
+    ensures capacity { vec_capacity dying.new ≡ vec_capacity dying.old }
+{
+    let Some(gone) = take_unkept(by_koid, koid) else {
+        return;
+    };
+    if let Body::ChannelEnd { queue, .. } = gone.body {
+        let_go_queue(by_koid, dying, queue);
+    }
+}
+
+/// The noted objects go, and what goes with them.
+pub fn remove_dying(by_koid: &mut BTreeMap<Koid, Object>, dying: &mut Vec<Koid>)
+    requires fits { budget by_koid.old.entries dying.old.items ≤ vec_capacity dying.old }
+    ensures goes { LetsGo []
+        by_koid.old.entries dying.old.items by_koid.new.entries dying.new.items }
+    ensures none { dying.new.items ≡ [] }
+    ensures capacity { vec_capacity dying.new ≡ vec_capacity dying.old }
+{
+    while let Some(koid) = dying.pop() {
+        remove_unkept(by_koid, dying, koid);
+    }
+}

@@ -1,5 +1,5 @@
 -- What keeps objects, once one of them was changed or has gone.
-use Rattle.zl_rights.proofs.Common.{◌≡◌, ℕ, Bool, true, false, not, ◌&&◌, ◌||◌, ◌==◌, [], ◌∷◌, refl, sym, ap, ◌∙◌, cond, Option, Some, None, inl, inr, IsTrue, eq-eqb, nat_lt, if◌then◌else◌, is_some, list_any, option_map, nat_cmp, is_sorted, cases_Bool, eqb-true, false≢true, none-some, same_Some, Map, get, has_key, update, without}
+use Rattle.zl_rights.proofs.Common.{◌≡◌, ℕ, Bool, true, false, ◌&&◌, ◌||◌, ◌==◌, [], ◌∷◌, refl, sym, ap, ◌∙◌, Option, Some, None, inl, inr, IsTrue, nat_lt, if◌then◌else◌, is_some, list_any, option_map, nat_cmp, is_sorted, cases_Bool, eqb-true, false≢true, none-some, same_Some, Map, get, has_key, update, without}
 use Rattle.std.proofs.lemmas.Bool.{or_parts}
 use Rattle.zl_rights.proofs.MapLaws.{get-update}
 use Rattle.zl_table.proofs.MapEdits.{get-without, sorted_parts, without_lower}

@@ -1,17 +1,15 @@
 -- What notes an object takes one place, and one object that handles name is fewer.
-use Rattle.zl_rights.proofs.Common.{◌≡◌, ◌+◌, ◌<◌, ◌≤◌, ℕ, true, false, not, ◌||◌, ◌==◌, List, [], ◌∷◌, ◌++◌, length, refl, sym, ap, ◌∙◌, cond, Option, Some, None, inl, inr, ◌⊎◌, IsTrue, arith, eq-eqb, nat_lt, if◌then◌else◌, count_by, drop, get_or, list_any, map-append, slice_get, take, take_more, length-append, append_assoc, cases_Bool, eqb-true, false≢true, or_left, or_right, nat_tests, none-some, same_Some, Map, get, update, without}
-use Rattle.std.proofs.lemmas.List.Sums.{count_by-le-length}
+use Rattle.zl_rights.proofs.Common.{◌≡◌, ◌+◌, ◌<◌, ◌≤◌, ℕ, true, false, ◌||◌, ◌==◌, List, [], ◌∷◌, ◌++◌, length, refl, sym, ap, ◌∙◌, cond, Option, Some, None, inl, inr, ◌⊎◌, IsTrue, arith, eq-eqb, nat_lt, if◌then◌else◌, count_by, drop, get_or, list_any, map-append, slice_get, take, take_more, length-append, append_assoc, cases_Bool, eqb-true, false≢true, or_left, or_right, nat_tests, none-some, same_Some, Map, get, update, without}
 use Rattle.std.proofs.lemmas.Bool.{or_cases, or_parts}
 use Rattle.std.proofs.lemmas.List.Concat.{flat_map-cons}
 use Rattle.zl_rights.specs.declared.entry.Entry.{Entry}
 use Rattle.zl_rights.specs.World.{Message}
-use Rattle.zl_rights.proofs.MapLaws.{get-update}
 use Rattle.zl_table.proofs.MapEdits.{is_sorted-update, sorted_without}
 use Rattle.zl_objects.specs.declared.object.Body.{Body}
 use Rattle.zl_objects.specs.declared.object.Body.TheVariants as body
 use Rattle.zl_objects.specs.declared.object.Object.{Object}
 use Rattle.zl_objects.specs.Objects.{held_once_less, is_kept, queue_of, stays_alone}
-use Rattle.zl_objects.specs.Release.{koids_of, named_in, Cascades, none_left, let_go, goes, AreKeptBut}
+use Rattle.zl_objects.specs.Release.{koids_of, named_in, let_go, goes, AreKeptBut}
 use Rattle.zl_objects.specs.Dying.{is_last, is_named, is_unkept, budget, left_at, unkept_at, LetsGo}
 use Rattle.zl_objects.proofs.Sums.{sum_fewer, sum_no_more, sum_left}
 use Rattle.zl_objects.proofs.Bodies.{Changed, changed, alone_updated, alone_left, found_left}

@@ -1,9 +1,8 @@
 -- What std's map from koids holds after a read or a write, in the words of the definitions.
-use Rattle.zl_rights.proofs.Common.{◌≡◌, ◌<◌, ◌+◌, ◌==◌, ℕ, true, false, ◌||◌, [], ◌∷◌, ◌++◌, length, refl, sym, ap, ◌∙◌, cond, Option, Some, None, inl, inr, arith, eq-eqb, IsTrue, is_some, IsSome, IfSome, IfNone, list_any, nat_cmp, cases_Bool, false≢true, nat_tests, Map, get, put, update, without, has_key}
-use Rattle.std.specs.Prelude.{◌↔◌}
+use Rattle.zl_rights.proofs.Common.{◌≡◌, ◌<◌, ◌==◌, ℕ, true, false, ◌||◌, [], ◌∷◌, ◌++◌, refl, sym, ap, ◌∙◌, cond, Some, None, arith, eq-eqb, IsTrue, is_some, list_any, nat_cmp, nat_tests, Map, get, put, update, without, has_key}
 use Rattle.std.specs.Cmp.{unsigned_tied}
 use Rattle.std.specs.Map.{lookup, set_value, remove_entry, values_of}
-use Rattle.std.specs.BTreeMap.{BTreeMap, is_at, insert_entry, IsUnchanged, IsUpperBound, Updates}
+use Rattle.std.specs.BTreeMap.{is_at, insert_entry}
 use Rattle.zl_table.proofs.MapEdits.{update_missing}
 use Rattle.zl_objects.specs.declared.object.Object.{Object}
 use Rattle.zl_objects.specs.Objects.{lives_below, has_living_child}

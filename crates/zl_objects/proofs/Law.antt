@@ -1,5 +1,5 @@
 -- Once no handle is left to go and nothing is left that nothing keeps, the largest held set is left.
-use Rattle.zl_rights.proofs.Common.{◌≡◌, ◌+◌, ◌<◌, ℕ, Bool, true, false, not, ◌&&◌, ◌||◌, ◌==◌, List, [], ◌∷◌, ◌++◌, map, refl, sym, ap, ◌∙◌, subst, cond, Option, Some, None, inl, inr, ◌⊎◌, IsTrue, arith, eq-eqb, nat_lt, is_some, list_any, count_by, sum_by, option_map, sum_by-cons, cases_Bool, eqb-true, false≢true, or_left, or_right, and_parts, and_from, nat_tests, none-some, Map, get, has_key, update, without, World, State, Created, Ready, Blocked, Ended, Gone, Process, is_process, runs, lives, state_passes, Koids, Settles, is_held, in_table, in_queue, has_living_child as living_child, queue_of as queue_value, without_others, ChannelEnd, EventBody, PortBody, JobBody, ProcessBody}
+use Rattle.zl_rights.proofs.Common.{◌≡◌, ◌+◌, ◌<◌, ℕ, Bool, true, false, not, ◌&&◌, ◌||◌, ◌==◌, List, [], ◌∷◌, ◌++◌, map, refl, sym, ap, ◌∙◌, subst, cond, Option, Some, None, inl, inr, ◌⊎◌, IsTrue, arith, eq-eqb, nat_lt, is_some, list_any, count_by, sum_by, option_map, sum_by-cons, cases_Bool, eqb-true, false≢true, or_left, or_right, and_parts, and_from, nat_tests, Map, get, has_key, update, without, World, State, Created, Ready, Blocked, Ended, Gone, Process, is_process, runs, lives, state_passes, Koids, Settles, is_held, in_table, in_queue, has_living_child as living_child, queue_of as queue_value, ChannelEnd, EventBody, PortBody, JobBody, ProcessBody}
 use Rattle.std.proofs.lemmas.List.Sums.{sum_by-append}
 use Rattle.std.proofs.lemmas.List.Concat.{flat_map-cons}
 use Rattle.std.proofs.lemmas.Bool.{or_cases, or_parts}

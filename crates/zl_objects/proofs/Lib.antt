@@ -8,3 +8,4 @@ pub mod Removing
 pub mod Law
 pub mod Released
 pub mod Showing
+pub mod Worked

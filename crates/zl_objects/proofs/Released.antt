@@ -1,13 +1,13 @@
 -- What is left of the objects once handles have gone: each as it was, and the invariant holds.
-use Rattle.zl_rights.proofs.Common.{◌≡◌, ◌+◌, ◌<◌, ◌≤◌, ℕ, true, false, ◌==◌, List, [], ◌∷◌, ◌++◌, length, if◌then◌else◌, refl, sym, ap, ◌∙◌, subst, Option, Some, None, inl, inr, IsTrue, arith, is_some, list_any, append-nil, or_left, or_right, cases_Bool, eqb-true, false≢true, Map, get, has_key, update, without}
+use Rattle.zl_rights.proofs.Common.{◌≡◌, ◌<◌, ◌≤◌, ℕ, true, false, ◌||◌, ◌==◌, ◌⊎◌, List, [], ◌∷◌, ◌++◌, length, if◌then◌else◌, refl, ap, ◌∙◌, subst, Option, Some, None, inl, inr, IsTrue, arith, is_some, list_any, append-nil, append_assoc, same_Some, or_left, or_right, cases_Bool, false≢true, Map, get, has_key, update, without}
 use Rattle.std.proofs.lemmas.Bool.{or_cases}
 use Rattle.std.proofs.lemmas.List.Sums.{count_by-le-length}
-use Rattle.zl_table.proofs.MapEdits.{length-update}
+use Rattle.zl_table.proofs.MapEdits.{is_sorted-update, length-update}
 use Rattle.zl_objects.specs.declared.object.Body.{Body}
 use Rattle.zl_objects.specs.declared.object.Body.TheVariants as body
 use Rattle.zl_objects.specs.declared.object.Object.{Object}
-use Rattle.zl_objects.specs.Objects.{Objects, held_once_less, is_end_at, is_end_body, stopping}
-use Rattle.zl_objects.specs.Release.{AreKeptBut, Cascades, none_left, let_go, goes, Releases}
+use Rattle.zl_objects.specs.Objects.{Objects, has_living_child, held_once_less, is_end_at, is_kept, job_in, job_of, lives_below, queue_of, stays_alone, stopped, stopped_body, stopping}
+use Rattle.zl_objects.specs.Release.{named_in, AreKeptBut, Cascades, none_left, let_go, goes, Releases}
 use Rattle.zl_objects.specs.Dying.{HasPeer, IsWhole, LetsGo, budget, is_named}
 use Rattle.zl_objects.proofs.Sums.{length_left}
 use Rattle.zl_objects.proofs.Bodies.{Changed, changed, changed_body, found_left}
@@ -119,3 +119,55 @@ both_released m m1 m2 m3 next pid job d d1 d2 d3 empty none first second rest = 
   keeps = λ kept. rw none at (rest.notes [] (second.notes [] (noted_first d1 job m1 (first.notes (job ∷ []) (rw empty kept)))));
   koids = refl;
 }
+
+-- ---- for callers
+
+cascades_then : (ks ls : List ℕ) (m m2 m3 : Map Object) → Cascades ks m m2 → Cascades ls m2 m3 → Cascades (ks ++ ls) m m3
+cascades_then _ ls _ _ m3 (none_left m) later = later
+cascades_then _ ls _ _ m3 (let_go k ks m m2 more) later = let_go k (ks ++ ls) m m3 (cascades_then ks ls (update m k held_once_less) m2 m3 more later)
+cascades_then _ ls _ _ m3 (goes k o ks m m2 there unkept more) later =
+    goes k o (ks ++ ls) m m3 there unkept (subst (λ (all : List ℕ). Cascades all (without m k) m3) (append_assoc (named_in (queue_of o.body)) ks ls) (cascades_then (named_in (queue_of o.body) ++ ks) ls (without m k) m2 m3 more later))
+
+-- handles go one after another
+pub releases_then : (ks ls loose : List ℕ) (r r2 r3 : Objects) → Releases ks loose r r2 → Releases ls [] r2 r3 → Releases (ks ++ ls) loose r r3
+releases_then ks ls loose r r2 r3 first later = record {
+  cascades = cascades_then ks ls r.objects r2.objects r3.objects first.cascades later.cascades;
+  keeps = λ kept. later.keeps (first.keeps kept);
+  koids = later.koids ∙ first.koids;
+}
+
+-- the end of a process may leave it and its job without what kept them
+module _ (r : Objects) (pid job : ℕ) (of : job_in (get r.objects pid) ≡ Some job) where
+  -- another job has no living child less
+  other_child : (k : ℕ) → (job == k) ≡ false → (m : Map Object) → job_in (get m pid) ≡ Some job → has_living_child (update m pid stopped) k ≡ has_living_child m k
+  unfolding get update has_living_child
+  other_child k apart [] is = refl
+  other_child k apart (e ∷ m) is = elim (cases_Bool (e.0 == pid)) as (λ _. list_any (λ x. lives_below k x.1.body) (update (e ∷ m) pid stopped) ≡ list_any (λ x. lives_below k x.1.body) (e ∷ m)) [
+    | inl here ↦ rw (here, by_body e.1.body (rw here at is)) refl
+    | inr there ↦ rw there (ap (λ b. lives_below k e.1.body || b) (other_child k apart m (rw there at is)))
+  ]
+    where
+      by_body : (b : Body) → job_of b ≡ Some job → lives_below k (stopped_body b) ≡ lives_below k b
+      by_body body.RootJob h = refl
+      by_body (body.Process j lives) h = rw (same_Some j job h, apart) refl
+      by_body body.Event h = refl
+      by_body (body.ChannelEnd p queue) h = refl
+
+  pub stopped_loose : AreKeptBut [] r.objects → AreKeptBut (job ∷ pid ∷ []) (stopping r pid).objects
+  stopped_loose kept = record {
+    in_order = rw (is_sorted-update r.objects pid stopped) kept.in_order;
+    noted = λ k o at unkept. by_key k o (changed stopped r.objects pid k o at) unkept (cases_Bool (job == k)) (cases_Bool (pid == k));
+  }
+    where
+      alone : (k : ℕ) (b : Body) → (job == k) ≡ false → stays_alone (update r.objects pid stopped) k b ≡ stays_alone r.objects k b
+      alone k body.RootJob apart = other_child k apart r.objects of
+      alone k (body.Process j lives) apart = refl
+      alone k body.Event apart = refl
+      alone k (body.ChannelEnd p queue) apart = refl
+
+      by_key : (k : ℕ) (o : Object) → Changed stopped r.objects pid k o → is_kept (update r.objects pid stopped) k o ≡ false → IsTrue (job == k) ⊎ ((job == k) ≡ false) → IsTrue (pid == k) ⊎ ((pid == k) ≡ false) → IsTrue (list_any (λ x. x == k) (job ∷ pid ∷ []))
+      by_key k o c unkept (inl parent) process = or_left (job == k) _ parent
+      by_key k o c unkept (inr other) (inl here) = or_right (job == k) _ (or_left (pid == k) _ here)
+      by_key k o c unkept (inr other) (inr apart) =
+          let same : o ≡ c.before = c.is ∙ rw apart refl in
+          absurd (false≢true (kept.noted k c.before c.there (rw (← same, ← alone k o.body other) unkept)))

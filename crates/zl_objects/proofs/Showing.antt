@@ -1,8 +1,8 @@
 -- What the objects show of active signals.
-use Rattle.zl_rights.proofs.Common.{◌≡◌, ◌<◌, ℕ, Bool, true, false, not, ◌&&◌, ◌||◌, ◌==◌, [], ◌∷◌, map, refl, sym, ap, ◌∙◌, subst, Option, Some, None, IsTrue, arith, list_any, and_parts, false≢true, nat_tests, is_empty, Map, get, has_key, World, is_process, lives, cases_Bool, inl, inr, option_map}
-use Rattle.std.specs.Prelude.{bit_or, if◌then◌else◌}
-use Rattle.zl_rights.specs.Numbers.{READABLE, WRITABLE, PEER_CLOSED, NO_JOBS, NO_PROCESSES}
-use Rattle.zl_rights.specs.Signals.{active, active_of, has_child_job, has_child_process, implied as implied_in, is_job_below, is_process_of, signal_if}
+use Rattle.zl_rights.proofs.Common.{◌≡◌, ◌<◌, ℕ, Bool, true, false, not, ◌&&◌, ◌==◌, [], ◌∷◌, map, refl, sym, ap, ◌∙◌, subst, Option, Some, None, IsTrue, arith, list_any, nat_tests, Map, get, World, is_process, lives}
+use Rattle.std.specs.Prelude.{bit_or}
+use Rattle.zl_rights.specs.Numbers.{NO_JOBS, NO_PROCESSES}
+use Rattle.zl_rights.specs.Signals.{active, has_child_job, has_child_process, implied as implied_in, is_job_below, is_process_of, signal_if}
 use Rattle.zl_objects.specs.declared.object.Body.{Body}
 use Rattle.zl_objects.specs.declared.object.Body.TheVariants as body
 use Rattle.zl_objects.specs.declared.object.Object.{Object}

@@ -1,5 +1,5 @@
 -- The invariant of the objects, after each change.
-use Rattle.zl_rights.proofs.Common.{◌≡◌, ◌<◌, ◌≤◌, ◌+◌, ◌^◌, ◌==◌, ◌⊎◌, ℕ, Bool, true, false, List, [], ◌∷◌, ◌++◌, length, refl, sym, ap, ◌∙◌, subst, cond, Option, Some, None, inl, inr, arith, eq-eqb, IsTrue, is_some, nat_lt, if◌then◌else◌, nat_cmp, cases_Bool, false≢true, nat_tests, none-some, same_Some, Map, get, put, update, without, has_key, length-append, option_map, eqb-true}
+use Rattle.zl_rights.proofs.Common.{◌≡◌, ◌<◌, ◌≤◌, ◌+◌, ◌^◌, ◌==◌, ◌⊎◌, ℕ, Bool, true, false, List, [], ◌∷◌, ◌++◌, length, refl, sym, ap, ◌∙◌, subst, cond, Option, Some, None, inl, inr, arith, eq-eqb, IsTrue, is_some, nat_lt, if◌then◌else◌, nat_cmp, cases_Bool, false≢true, nat_tests, none-some, same_Some, Map, get, put, update, has_key, length-append, option_map, eqb-true}
 use Rattle.std.specs.Prelude.{◌↔◌, IfNone, IfSome, IsSome, Result, Ok, Err, OnOk, OnErr, is_err}
 use Rattle.std.specs.Cmp.{unsigned_tied}
 use Rattle.std.specs.Map.{lookup, set_value, remove_entry}

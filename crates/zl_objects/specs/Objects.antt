@@ -1,5 +1,5 @@
 -- The objects by koid, each with its count of handles, and what each operation makes of them.
-use Rattle.std.specs.Prelude.{ℕ, ◌≡◌, ◌+◌, ◌-◌, ◌^◌, IsTrue, Bool, true, false, ◌&&◌, ◌||◌, ◌==◌, nat_le, nat_lt, List, [], ◌∷◌, ◌++◌, Option, Some, None, drop, length, take, if◌then◌else◌}
+use Rattle.std.specs.Prelude.{ℕ, ◌+◌, ◌-◌, ◌^◌, Bool, true, false, ◌&&◌, ◌||◌, ◌==◌, nat_le, nat_lt, List, [], ◌∷◌, ◌++◌, Option, Some, None, drop, length, take, if◌then◌else◌}
 use Rattle.std.specs.List.{list_any}
 use Rattle.zl_rights.specs.Map.{Map, get, update, has_key}
 use Rattle.zl_rights.specs.Numbers.{changed}

@@ -33,7 +33,7 @@ pub struct Object {
 
 impl Object {
     /// One handle more, if one may name the object. Says whether one may.
-    pub fn hold_more(&mut self) -> bool
+    pub(crate) fn hold_more(&mut self) -> bool
         ensures object { self.new ≡ held_once_more self.old }
         ensures may { result ≡ has_place (Some self.old) }
     {
@@ -45,7 +45,7 @@ impl Object {
     }
 
     /// One handle less. Says whether it was the only one.
-    pub fn hold_less(&mut self) -> bool
+    pub(crate) fn hold_less(&mut self) -> bool
         ensures object { self.new ≡ held_once_less self.old }
         ensures last { result ≡ is_last (Some self.old) }
     {
@@ -55,14 +55,14 @@ impl Object {
     }
 
     /// The signals `clear` go, and then the signals `set` come.
-    pub fn change(&mut self, clear: Signals, set: Signals)
+    pub(crate) fn change(&mut self, clear: Signals, set: Signals)
         ensures { self.new ≡ raised_changed clear.0 set.0 self.old }
     {
         self.raised = self.raised.changed(clear, set);
     }
 
     /// A process doesn't live any more.
-    pub fn stop(&mut self)
+    pub(crate) fn stop(&mut self)
         ensures { self.new ≡ stopped self.old }
     {
         if let Body::Process { lives, .. } = &mut self.body {
@@ -71,7 +71,7 @@ impl Object {
     }
 
     /// The message goes last into the queue of a channel end.
-    pub fn send(&mut self, message: Message) -> Result<(), PushFault>
+    pub(crate) fn send(&mut self, message: Message) -> Result<(), PushFault>
         requires { IsTrue (is_end_body self.old.body) }
         ensures ok { OnOk result (self.new ≡ sent message self.old) }
         ensures unchanged { OnErr result (self.new ≡ self.old) }
@@ -86,7 +86,7 @@ impl Object {
     }
 
     /// Takes the first message out of the queue of a channel end.
-    pub fn receive(&mut self) -> Option<Message>
+    pub(crate) fn receive(&mut self) -> Option<Message>
         ensures object { self.new ≡ received self.old }
         ensures first { result ≡ slice_get (queue_of self.old.body) 0 }
     {
@@ -99,7 +99,7 @@ impl Object {
 
 impl Body {
     /// The job of a process.
-    pub fn job(&self) -> Option<Koid>
+    pub(crate) fn job(&self) -> Option<Koid>
         ensures { result ≡ job_of self.now }
     {
         match self {
@@ -109,7 +109,7 @@ impl Body {
     }
 
     /// Whether it is a process of the job that lives.
-    pub fn lives_below(&self, parent: Koid) -> bool
+    pub(crate) fn lives_below(&self, parent: Koid) -> bool
         ensures { result ≡ lives_below parent self.now }
     {
         match self {
@@ -119,7 +119,7 @@ impl Body {
     }
 
     /// The other end of a channel.
-    pub fn peer(&self) -> Option<Koid>
+    pub(crate) fn peer(&self) -> Option<Koid>
         ensures { result ≡ peer_of self.now }
     {
         match self {
@@ -129,7 +129,7 @@ impl Body {
     }
 
     /// How many bytes and how many handles the first message has that is to be read.
-    pub fn front_sizes(&self) -> Option<(usize, usize)>
+    pub(crate) fn front_sizes(&self) -> Option<(usize, usize)>
         ensures { result ≡ front_sizes (queue_of self.now) }
     {
         match self {
@@ -139,7 +139,7 @@ impl Body {
     }
 
     /// The handle at place `n`, from 0, of the first message that is to be read.
-    pub fn front_entry(&self, n: usize) -> Option<Entry>
+    pub(crate) fn front_entry(&self, n: usize) -> Option<Entry>
         ensures { result ≡ front_entry (queue_of self.now) n }
     {
         match self {

@@ -220,10 +220,10 @@ impl Objects {
         ensures out_of_range { (result ≡ Err (PushFault.OutOfRange message))
             ↔ IsTrue (is_too_large message) }
     {
-        let Some(object) = self.by_koid.get_mut(&koid) else {
+        let Some(end) = self.by_koid.get_mut(&koid) else {
             return Ok(());
         };
-        object.send(message)
+        end.send(message)
     }
 
     /// Takes the first message that is to be read at the end, with its handles. No count of handles

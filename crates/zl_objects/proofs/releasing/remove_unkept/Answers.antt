@@ -1,5 +1,4 @@
-use Rattle.zl_rights.proofs.Common.{arith, ◌≡◌, [], sym, ◌∙◌, ap, subst, List, Map, without, None, Some, refl}
-use Rattle.zl_objects.specs.declared.object.Object.{Object}
+use Rattle.zl_rights.proofs.Common.{arith, ◌≡◌, [], sym, ◌∙◌, without, None, refl}
 use Rattle.zl_objects.specs.Objects.{queue_of}
 use Rattle.zl_objects.specs.Release.{named_in}
 use Rattle.zl_objects.specs.Dying.{unkept_at, LetsGo}

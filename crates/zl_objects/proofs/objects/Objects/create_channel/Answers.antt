@@ -1,4 +1,4 @@
-use Rattle.std.proofs.Common.{arith, refl, sym, ap, ◌≡◌, ◌∙◌, vec_capacity}
+use Rattle.std.proofs.Common.{arith, refl, sym, vec_capacity}
 use Rattle.zl_objects.proofs.Whole.{channel_created, channel_whole, end_taken, if_err, roomy_whole, unless_err}
 use Rattle.zl_objects.proofs.objects.Objects.create_channel.Goals as goal
 

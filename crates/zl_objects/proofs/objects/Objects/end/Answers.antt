@@ -1,7 +1,5 @@
-use Rattle.std.proofs.Common.{arith, ap, sym, ◌≡◌, ◌++◌, ◌∷◌, [], vec_capacity, ◌∙◌}
-use Rattle.zl_objects.specs.Dying.{LetsGo}
-use Rattle.zl_objects.proofs.Budget.{both_went}
-use Rattle.zl_objects.proofs.Released.{cascades_of, both_released, starts, whole_left}
+use Rattle.std.proofs.Common.{arith, sym, [], vec_capacity, ◌∙◌}
+use Rattle.zl_objects.proofs.Released.{both_released, starts, whole_left}
 use Rattle.zl_objects.proofs.objects.Objects.end.Goals as goal
 
 pub remove_unkept-requires : goal.remove_unkept-requires

@@ -1,6 +1,5 @@
 use Rattle.std.proofs.Common.{arith, ◌∷◌, [], vec_capacity, ◌∙◌}
 use Rattle.zl_objects.specs.Dying.{LetsGo}
-use Rattle.zl_objects.specs.Release.{Releases}
 use Rattle.zl_objects.proofs.Budget.{both_went}
 use Rattle.zl_objects.proofs.Law.{leaves_largest}
 use Rattle.zl_objects.proofs.Released.{cascades_of, released, starts, whole_left}

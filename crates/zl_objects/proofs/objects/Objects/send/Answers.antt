@@ -7,6 +7,6 @@ use Rattle.zl_objects.proofs.objects.Objects.send.Goals as goal
 
 pub invariant_of-self-2 : goal.invariant_of-self-2
 invariant_of-self-2 c =
-    let there : Some c.in-Some.object.now ≡ lookup (is_at (nat_cmp c.args.koid)) c.self.inside.by_koid.entries = search rules in
+    let there : Some c.in-Some.end.now ≡ lookup (is_at (nat_cmp c.args.koid)) c.self.inside.by_koid.entries = search rules in
     let set : (c.get_mut.follows.lender c.send.new.self).entries ≡ set_value (is_at (nat_cmp c.args.koid)) c.self.inside.by_koid.entries c.send.new.self = search rules in
-    sent_or_same_whole c.self.inside.by_koid.entries (c.get_mut.follows.lender c.send.new.self).entries c.self.inside.next_koid (vec_capacity c.self.inside.dying) c.args.koid c.self.inside.dying.items c.args.message c.in-Some.object.now c.send.new.self c.send.result c.self.invariant c.send.ensures.ok c.send.ensures.unchanged there set
+    sent_or_same_whole c.self.inside.by_koid.entries (c.get_mut.follows.lender c.send.new.self).entries c.self.inside.next_koid (vec_capacity c.self.inside.dying) c.args.koid c.self.inside.dying.items c.args.message c.in-Some.end.now c.send.new.self c.send.result c.self.invariant c.send.ensures.ok c.send.ensures.unchanged there set

@@ -1,0 +1,288 @@
+-- The rules of the calls at a state and at one below it.
+use Rattle.std.proofs.Common.{◌≡◌, ℕ, ◌+◌, ◌≤◌, Bool, true, false, not, ◌&&◌, ◌||◌, List, [], ◌∷◌, Option, Some, None, Ok, refl, IsTrue, arith, eqb}
+use Rattle.std.specs.Prelude.{if◌then◌else◌, bit_and, zip, is_some}
+use Rattle.std.proofs.lemmas.Bool.Decides.{nat_tests}
+use Rattle.zl_rights.specs.declared.kind.Kind.{Kind}
+use Rattle.zl_rights.specs.declared.rights.Rights.{Rights}
+use Rattle.zl_rights.specs.declared.policy.Condition.{Condition}
+use Rattle.zl_rights.specs.Numbers.{bits, rights_of, within, SAME_RIGHTS, KNOWN_RIGHTS}
+use Rattle.zl_code.specs.declared.instr.CallInstr.{CallInstr}
+use Rattle.zl_code.specs.declared.instr.CallInstr.TheVariants as call
+use Rattle.zl_code.specs.Image.{Image}
+use Rattle.zl_code.specs.Instructions.{Row, row_of}
+use Rattle.zl_code.specs.Spells.{Parts, call_parts}
+use Rattle.zl_code.specs.Tests.{Operand}
+use Rattle.zl_abs.specs.declared.value.AbsVal.{AbsVal}
+use Rattle.zl_abs.specs.declared.value.AbsVal.TheVariants.{Word, Has, KindOf, RightsOf}
+use Rattle.zl_abs.specs.declared.cause.Cause.{Cause}
+use Rattle.zl_abs.specs.declared.cause.Cause.TheVariants as cause
+use Rattle.zl_abs.specs.Values.{ANY, below, kind_below, is_has, bound_of}
+use Rattle.zl_abs.specs.States.{State, all_below, value_at, bound_at, with_value, with_all}
+use Rattle.zl_abs.specs.Rule.{passes}
+use Rattle.zl_abs.specs.CallRules.{takes_any, fault_of, taken_from, examined_by, examined, examined_all, are_words, sum_fits, range_fits, is_declared, is_result, are_distinct, has_one, uses, answers, finished, state_after, uses_by, uses_in, uses_of, narrowed_value, values_of, goes_on, stops, call_rule_by, call_rule}
+use Rattle.zl_abs.proofs.Order.{below_refl, same_kind_is, within_trans, within_refl}
+use Rattle.zl_abs.proofs.StateOrder.{both, and, all_below_refl}
+use Rattle.zl_abs.proofs.Lowering.{Lowers, IsBelow, WaysBelow, lowers_then, lowers_unless, not_kept, value_below, with_below, no_has, leb_le, le_leb}
+use Rattle.zl_abs.proofs.TestLowering.{has_parts, has_from, zero_of, tag_there}
+use Rattle.zl_abs.proofs.LocalLowering.{true_of, no_some}
+
+-- ---- handle operands
+
+any_kept : (kinds : List Kind) (k j : Option Kind) → kind_below k j ≡ true → takes_any kinds j ≡ true → takes_any kinds k ≡ true
+any_kept kinds None None h e = e
+any_kept [] (Some k) None h e = refl
+any_kept (x ∷ kinds) (Some k) None h e = cc
+any_kept kinds None (Some j) h e = cc
+any_kept kinds (Some k) (Some j) h e = let p : k ≡ j = same_kind_is k j h in rw p e
+
+three_faults : (p q r : Bool) (c d f : Cause) → (if p then Some c else (if q then Some d else (if r then Some f else None))) ≡ None → (p ≡ false) × (q ≡ false) × (r ≡ false)
+three_faults true q r c d f e = cc
+three_faults false true r c d f e = cc
+three_faults false false true c d f e = cc
+three_faults false false false c d f e = (refl, refl, refl)
+
+maybe_kept : (m m2 z : Bool) → (not m || m2) ≡ true → (m2 && not z) ≡ false → (m && not z) ≡ false
+maybe_kept true true z h e = e
+maybe_kept true false z h e = cc
+maybe_kept false m2 z h e = refl
+
+has_passes : (o : Operand) (m m2 : Bool) (k k2 : Option Kind) (r r2 : Rights) → IsTrue (below (Has m k r) (Has m2 k2 r2)) → fault_of o (Has m2 k2 r2) ≡ None → fault_of o (Has m k r) ≡ None
+has_passes o m m2 k k2 r r2 h e =
+    let p = has_parts m m2 k k2 r r2 h in
+    let f = three_faults (m2 && not o.may_be_zero) (not (takes_any o.kinds k2)) (not (within o.needed (bits r2))) cause.NotLive cause.WrongKind cause.LacksRight e in
+    let a = maybe_kept m m2 o.may_be_zero p.0 f.0 in
+    let b = any_kept o.kinds k k2 p.1 (true_of _ f.1) in
+    let c = within_trans (bits r) (bits r2) o.needed p.2 (true_of _ f.2) in
+    rw (a, b, c) refl
+
+zero_passes : (z m : Bool) → m ≡ true → (m && not z) ≡ false → z ≡ true
+zero_passes true m h e = refl
+zero_passes false true h e = cc
+zero_passes false false h e = cc
+
+word_passes : (t : Bool) → (if t then None else Some cause.NotLive) ≡ None → t ≡ true
+word_passes true e = refl
+word_passes false e = cc
+
+fault_below : (o : Operand) (v w : AbsVal) → IsTrue (below v w) → fault_of o w ≡ None → fault_of o v ≡ None
+unfolding below
+fault_below o (Has m k r) (Has m2 k2 r2) h e = has_passes o m m2 k k2 r r2 h e
+fault_below o (Has _ _ _) (Word _) h e = cc
+fault_below o (Has _ _ _) (KindOf _) h e = cc
+fault_below o (Has _ _ _) (RightsOf _) h e = cc
+fault_below o (Word n) (Has m2 k2 r2) h e =
+    let z = zero_of n m2 k2 r2 h in
+    let f = three_faults (m2 && not o.may_be_zero) (not (takes_any o.kinds k2)) (not (within o.needed (bits r2))) cause.NotLive cause.WrongKind cause.LacksRight e in
+    rw (z.0, zero_passes o.may_be_zero m2 z.1 f.0) refl
+fault_below o (Word m) (Word n) h e =
+    let p = both o.may_be_zero (eqb n 0) (word_passes (o.may_be_zero && eqb n 0) e) in
+    let q : eqb m 0 ≡ true = grind (arith, nat_tests) in
+    rw (p.0, q) refl
+fault_below o (Word _) (KindOf _) h e = cc
+fault_below o (Word _) (RightsOf _) h e = cc
+fault_below o (KindOf _) (Word n) h e = absurd (tag_there n h ((both o.may_be_zero (eqb n 0) (word_passes (o.may_be_zero && eqb n 0) e)).1))
+fault_below o (KindOf _) (Has _ _ _) h e = cc
+fault_below o (KindOf _) (KindOf _) h e = cc
+fault_below o (KindOf _) (RightsOf _) h e = cc
+fault_below o (RightsOf _) (Word n) h e = absurd (tag_there n h ((both o.may_be_zero (eqb n 0) (word_passes (o.may_be_zero && eqb n 0) e)).1))
+fault_below o (RightsOf _) (Has _ _ _) h e = cc
+fault_below o (RightsOf _) (KindOf _) h e = cc
+fault_below o (RightsOf _) (RightsOf _) h e = cc
+
+taken_below : (s t : State) (o : Operand) → IsBelow s t → IsBelow (taken_from s o) (taken_from t o)
+taken_below s t o h = by o.is_taken
+  where
+    by : (b : Bool) → IsBelow (if b then with_value s o.value (Word 0) else s) (if b then with_value t o.value (Word 0) else t)
+    by true = with_below s t o.value _ _ h (below_refl (Word 0))
+    by false = h
+
+examined_by_below : (s t : State) (o : Operand) (x y : Option Cause) → IsBelow s t → (y ≡ None → x ≡ None) → Lowers IsBelow (examined_by s o x) (examined_by t o y)
+examined_by_below s t o x (Some c) h k = tt
+examined_by_below s t o None None h k = taken_below s t o h
+examined_by_below s t o (Some c) None h k = absurd (no_some c (k refl))
+
+examined_below : (s t : State) (o : Operand) → IsBelow s t → Lowers IsBelow (examined s o) (examined t o)
+examined_below s t o h = examined_by_below s t o _ _ h (fault_below o (value_at s o.value) (value_at t o.value) (value_below s t o.value h))
+
+examined_all_below : (os : List Operand) (s t : State) → IsBelow s t → Lowers IsBelow (examined_all s os) (examined_all t os)
+unfolding examined_all
+examined_all_below [] s t h = h
+examined_all_below (o ∷ os) s t h =
+    lowers_then IsBelow IsBelow (examined s o) (examined t o) _ _ (examined_below s t o h) (λ u v k. examined_all_below os u v k)
+
+-- ---- words
+
+bound_kept : (v w : AbsVal) → IsTrue (below v w) → is_some (bound_of w) ≡ true → is_some (bound_of v) ≡ true
+unfolding below
+bound_kept v (Has _ _ _) h e = cc
+bound_kept (Word _) w h e = refl
+bound_kept (KindOf _) w h e = refl
+bound_kept (RightsOf _) w h e = refl
+bound_kept (Has _ _ _) (Word _) h e = cc
+bound_kept (Has _ _ _) (KindOf _) h e = cc
+bound_kept (Has _ _ _) (RightsOf _) h e = cc
+
+words_kept : (s t : State) (rs : List ℕ) → IsBelow s t → are_words t rs ≡ true → are_words s rs ≡ true
+words_kept s t [] h e = refl
+words_kept s t (r ∷ rs) h e =
+    let p = both (is_some (bound_at t r)) (are_words t rs) e in
+    and _ _ (bound_kept _ _ (value_below s t r h) p.0) (words_kept s t rs h p.1)
+
+abbrev BoundBelow : Option ℕ → Option ℕ → Type 0
+BoundBelow o None = Unit {0}
+BoundBelow None (Some n) = ⊥
+BoundBelow (Some m) (Some n) = m ≤ n
+
+bound_below : (v w : AbsVal) → IsTrue (below v w) → BoundBelow (bound_of v) (bound_of w)
+unfolding below
+bound_below v (Has _ _ _) h = tt
+bound_below (Word m) (Word n) h = leb_le m n h
+bound_below (Has _ _ _) (Word n) h = cc
+bound_below (KindOf _) (Word n) h = leb_le ANY n h
+bound_below (RightsOf _) (Word n) h = leb_le ANY n h
+bound_below (Word m) (KindOf _) h = cc
+bound_below (Has _ _ _) (KindOf _) h = cc
+bound_below (KindOf _) (KindOf _) h = omega arith
+bound_below (RightsOf _) (KindOf _) h = cc
+bound_below (Word m) (RightsOf _) h = cc
+bound_below (Has _ _ _) (RightsOf _) h = cc
+bound_below (KindOf _) (RightsOf _) h = cc
+bound_below (RightsOf _) (RightsOf _) h = omega arith
+
+sum_kept : (most : ℕ) (a b c d : Option ℕ) → BoundBelow a c → BoundBelow b d → sum_fits most c d ≡ true → sum_fits most a b ≡ true
+sum_kept most a b None d h k e = cc
+sum_kept most a b (Some m) None h k e = cc
+sum_kept most None b (Some m) (Some n) h k e = absurd h
+sum_kept most (Some x) None (Some m) (Some n) h k e = absurd k
+sum_kept most (Some x) (Some y) (Some m) (Some n) h k e = le_leb _ _ (let p = leb_le (m + n) most e in omega arith)
+
+range_kept : (i : Image) (s t : State) (o : Option (ℕ × ℕ)) → IsBelow s t → range_fits i t o ≡ true → range_fits i s o ≡ true
+range_kept i s t None h e = refl
+range_kept i s t (Some x) h e =
+    sum_kept i.memory _ _ _ _ (bound_below _ _ (value_below s t (x.0) h)) (bound_below _ _ (value_below s t (x.1) h)) e
+
+-- ---- destinations
+
+-- the same registers with values below
+abbrev ResultsBelow : List (ℕ × AbsVal) → List (ℕ × AbsVal) → Type 0
+ResultsBelow [] [] = Unit {0}
+ResultsBelow (x ∷ xs) (y ∷ ys) = (x.0 ≡ y.0) × IsTrue (below (x.1) (y.1)) × ResultsBelow xs ys
+ResultsBelow [] (y ∷ ys) = ⊥
+ResultsBelow (x ∷ xs) [] = ⊥
+
+same_result : (r : ℕ) (xs ys : List (ℕ × AbsVal)) → ResultsBelow xs ys → is_result xs r ≡ is_result ys r
+same_result r [] [] h = refl
+same_result r [] (y ∷ ys) h = absurd h
+same_result r (x ∷ xs) [] h = absurd h
+same_result r (x ∷ xs) (y ∷ ys) h = rw (h.0, same_result r xs ys (h.2)) refl
+
+same_distinct : (xs ys : List (ℕ × AbsVal)) → ResultsBelow xs ys → are_distinct xs ≡ are_distinct ys
+unfolding are_distinct
+same_distinct [] [] h = refl
+same_distinct [] (y ∷ ys) h = absurd h
+same_distinct (x ∷ xs) [] h = absurd h
+same_distinct (x ∷ xs) (y ∷ ys) h = rw (h.0, same_result (y.0) xs ys (h.2), same_distinct xs ys (h.2)) refl
+
+or_false : (a b : Bool) → (a || b) ≡ false → (a ≡ false) × (b ≡ false)
+or_false false false e = (refl, refl)
+or_false false true e = cc
+or_false true b e = cc
+
+none_kept : (s t : State) (xs ys : List (ℕ × AbsVal)) → IsBelow s t → ResultsBelow xs ys → has_one t ys ≡ false → has_one s xs ≡ false
+none_kept s t [] [] h k e = refl
+none_kept s t [] (y ∷ ys) h k e = absurd k
+none_kept s t (x ∷ xs) [] h k e = absurd k
+none_kept s t (x ∷ xs) (y ∷ ys) h k e =
+    let p = or_false (is_has (value_at t (y.0))) (has_one t ys) e in
+    let q = no_has (value_at s (y.0)) (value_at t (y.0)) (value_below s t (y.0) h) (p.0) in
+    rw (k.0, q, none_kept s t xs ys h (k.2) (p.1)) refl
+
+with_all_below : (xs ys : List (ℕ × AbsVal)) (s t : State) → IsBelow s t → ResultsBelow xs ys → IsBelow (with_all s xs) (with_all t ys)
+unfolding with_all
+with_all_below [] [] s t h k = h
+with_all_below [] (y ∷ ys) s t h k = absurd k
+with_all_below (x ∷ xs) [] s t h k = absurd k
+with_all_below (x ∷ xs) (y ∷ ys) s t h k = with_all_below xs ys (with_value s (x.0) (x.1)) (with_value t (y.0) (y.1)) (rw (k.0) (with_below s t (y.0) (x.1) (y.1) h (k.1))) (k.2)
+
+answers_below : (s t : State) (xs ys : List (ℕ × AbsVal)) → IsBelow s t → ResultsBelow xs ys → Lowers IsBelow (answers s xs) (answers t ys)
+answers_below s t xs ys h k =
+    lowers_unless IsBelow (not (are_distinct xs)) (not (are_distinct ys)) _ _ _ _ (λ e. rw (same_distinct xs ys k) e)
+    (lowers_unless IsBelow (has_one s xs) (has_one t ys) (Ok (with_all s xs)) (Ok (with_all t ys)) _ _ (none_kept s t xs ys h k) (with_all_below xs ys s t h k))
+
+-- ---- the rule
+
+finished_below : (i : Image) (s t u v : State) (operands : List Operand) (words : List ℕ) (range : Option (ℕ × ℕ)) (condition : Option Condition) (xs ys : List (ℕ × AbsVal))
+    → IsBelow s t → IsBelow u v → ResultsBelow xs ys → Lowers IsBelow (finished i s u (uses operands words range condition xs)) (finished i t v (uses operands words range condition ys))
+finished_below i s t u v operands words range condition xs ys h k l =
+    lowers_unless IsBelow (not (are_words s words)) (not (are_words t words)) _ _ _ _ (not_kept _ _ (words_kept s t words h))
+    (lowers_unless IsBelow (not (range_fits i s range)) (not (range_fits i t range)) _ _ _ _ (not_kept _ _ (range_kept i s t range h))
+    (lowers_unless IsBelow (not (is_declared i condition)) (not (is_declared i condition)) _ _ _ _ (λ e. e)
+    (answers_below u v xs ys k l)))
+
+state_after_below : (i : Image) (s t : State) (operands : List Operand) (words : List ℕ) (range : Option (ℕ × ℕ)) (condition : Option Condition) (xs ys : List (ℕ × AbsVal))
+    → IsBelow s t → ResultsBelow xs ys → Lowers IsBelow (state_after i s (uses operands words range condition xs)) (state_after i t (uses operands words range condition ys))
+state_after_below i s t operands words range condition xs ys h l =
+    lowers_then IsBelow IsBelow (examined_all s operands) (examined_all t operands) _ _ (examined_all_below operands s t h)
+    (λ u v k. finished_below i s t u v operands words range condition xs ys h k l)
+
+-- ---- what an answer gives
+
+narrowed_below : (v w : AbsVal) (asked : ℕ) → IsTrue (below v w) → IsTrue (below (narrowed_value v asked) (narrowed_value w asked))
+unfolding below
+narrowed_below (Has m k r) (Has m2 k2 r2) asked h = let p = has_parts m m2 k k2 r r2 h in has_from true true k k2 _ _ refl p.1 (by (eqb asked SAME_RIGHTS) p.2)
+  where
+    by : (t : Bool) → within (bits r2) (bits r) ≡ true → within (bits (if t then r2 else rights_of (bit_and asked KNOWN_RIGHTS))) (bits (if t then r else rights_of (bit_and asked KNOWN_RIGHTS))) ≡ true
+    by true e = e
+    by false e = within_refl (bit_and asked KNOWN_RIGHTS)
+narrowed_below (Has _ _ _) (Word _) asked h = cc
+narrowed_below (Has _ _ _) (KindOf _) asked h = cc
+narrowed_below (Has _ _ _) (RightsOf _) asked h = cc
+narrowed_below (Word _) (Has _ _ _) asked h = refl
+narrowed_below (Word _) (Word _) asked h = refl
+narrowed_below (Word _) (KindOf _) asked h = cc
+narrowed_below (Word _) (RightsOf _) asked h = cc
+narrowed_below (KindOf _) (Has _ _ _) asked h = cc
+narrowed_below (KindOf _) (Word _) asked h = refl
+narrowed_below (KindOf _) (KindOf _) asked h = refl
+narrowed_below (KindOf _) (RightsOf _) asked h = cc
+narrowed_below (RightsOf _) (Has _ _ _) asked h = cc
+narrowed_below (RightsOf _) (Word _) asked h = refl
+narrowed_below (RightsOf _) (KindOf _) asked h = cc
+narrowed_below (RightsOf _) (RightsOf _) asked h = refl
+
+one_below : (v w : AbsVal) → IsTrue (below v w) → IsTrue (all_below (v ∷ []) (w ∷ []))
+unfolding all_below
+one_below v w h = and _ _ h refl
+
+values_below : (bounds : List ℕ) (s t : State) (c : CallInstr) → IsBelow s t → IsTrue (all_below (values_of bounds s c) (values_of bounds t c))
+values_below bounds s t (call.Dup a b c imm) h = one_below _ _ (narrowed_below (value_at s b) (value_at t b) imm (value_below s t b h))
+values_below bounds s t (call.Replace a b c imm) h = one_below _ _ (narrowed_below (value_at s b) (value_at t b) imm (value_below s t b h))
+values_below bounds s t _ h = all_below_refl _
+
+zip_below : (rs : List ℕ) (vs ws : List AbsVal) → IsTrue (all_below vs ws) → ResultsBelow (zip rs vs) (zip rs ws)
+unfolding all_below
+zip_below [] vs ws h = tt
+zip_below (r ∷ rs) [] [] h = tt
+zip_below (r ∷ rs) [] (w ∷ ws) h = cc
+zip_below (r ∷ rs) (v ∷ vs) [] h = cc
+zip_below (r ∷ rs) (v ∷ vs) (w ∷ ws) h = let p = both (below v w) (all_below vs ws) h in (refl, p.0, zip_below rs vs ws p.1)
+
+status_first : (vs ws : List AbsVal) → IsTrue (all_below vs ws) → IsTrue (all_below (Word 30 ∷ vs) (Word 30 ∷ ws))
+unfolding all_below
+status_first vs ws h = and _ _ (below_refl (Word 30)) h
+
+way_on : (on : Bool) (u v : State) → IsBelow u v → WaysBelow (if on then passes u else stops) (if on then passes v else stops)
+way_on true u v h = (tt, h)
+way_on false u v h = (tt, tt)
+
+by_row : (i : Image) (s t : State) (on : Bool) (o : Option Row) (p : Parts) (vs ws : List AbsVal) → IsBelow s t → IsTrue (all_below vs ws)
+    → Lowers WaysBelow (call_rule_by i s on (uses_in o p vs)) (call_rule_by i t on (uses_in o p ws))
+by_row i s t on None p vs ws h k = tt
+by_row i s t on (Some r) p vs ws h k =
+    lowers_then IsBelow WaysBelow (state_after i s (uses_by r p vs)) (state_after i t (uses_by r p ws)) _ _
+    (state_after_below i s t _ _ _ _ _ _ h (zip_below _ _ _ (status_first vs ws k)))
+    (λ u v l. way_on on u v l)
+
+pub call_below : (bounds : List ℕ) (i : Image) (c : CallInstr) (s t : State) → IsBelow s t → Lowers WaysBelow (call_rule bounds i c s) (call_rule bounds i c t)
+unfolding call_rule uses_of
+call_below bounds i c s t h = by_row i s t (goes_on c) (row_of (call_parts c).opcode) (call_parts c) _ _ h (values_below bounds s t c h)

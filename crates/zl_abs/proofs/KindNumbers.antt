@@ -1,0 +1,18 @@
+-- The kind with a number.
+use Rattle.std.proofs.Common.{◌≡◌, ◌≢◌, ℕ, Option, Some, None, refl, sym, ne_eqb, IfSome, IfNone}
+use Rattle.zl_rights.specs.declared.kind.Kind.{Kind}
+use Rattle.zl_rights.specs.declared.kind.Kind.TheVariants as kind
+use Rattle.zl_rights.specs.Numbers.{kind_number}
+use Rattle.zl_abs.specs.LocalRules.{kind_numbered}
+
+again : (k : Kind) → Some k ≡ kind_numbered (kind_number k)
+again kind.Process = refl
+again kind.Channel = refl
+again kind.Event = refl
+again kind.Port = refl
+again kind.Job = refl
+
+pub kind_found : (n : ℕ) (o : Option Kind) → IfSome o (λ k. kind_number k ≡ n) → IfNone o ((k : Kind) → kind_number k ≢ n) → o ≡ kind_numbered n
+kind_found n (Some k) found missing = rw (sym found) (again k)
+kind_found n None found missing =
+    rw (ne_eqb 1 n (missing kind.Process), ne_eqb 4 n (missing kind.Channel), ne_eqb 5 n (missing kind.Event), ne_eqb 6 n (missing kind.Port), ne_eqb 17 n (missing kind.Job)) refl

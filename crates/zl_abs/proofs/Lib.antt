@@ -1,0 +1,16 @@
+pub mod Rounding
+pub mod StateSteps
+mod Infer
+mod Rows
+pub mod KindNumbers
+pub mod CallSteps
+pub mod ListSteps
+pub mod Order
+pub mod StateOrder
+pub mod Lowering
+pub mod RightsLowering
+pub mod TestLowering
+pub mod LocalLowering
+pub mod CallLowering
+pub mod RuleSteps
+pub mod RuleLowering

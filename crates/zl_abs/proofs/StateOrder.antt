@@ -1,0 +1,73 @@
+-- The order of states, and that their join is the least above both.
+use Rattle.std.proofs.Common.{◌≡◌, Bool, true, false, ◌&&◌, List, [], ◌∷◌, Option, Some, None, refl, IsTrue}
+use Rattle.zl_abs.specs.declared.value.AbsVal.{AbsVal}
+use Rattle.zl_abs.specs.Values.{below, joined}
+use Rattle.zl_abs.specs.States.{all_below, all_joined, cons_if}
+use Rattle.zl_abs.specs.Laws.{IsAboveJoin, JoinIsAbove, AllAboveJoin, JoinIsAllAbove}
+use Rattle.zl_abs.proofs.Order.{below_refl, below_trans, joined_left, joined_right, joined_least}
+
+pub both : (a b : Bool) → (a && b) ≡ true → (a ≡ true) × (b ≡ true)
+both true true h = (refl, refl)
+both true false h = cc
+both false _ h = cc
+
+pub and : (a b : Bool) → a ≡ true → b ≡ true → (a && b) ≡ true
+and a b p q = rw (p, q) refl
+
+pub all_below_refl : (s : List AbsVal) → IsTrue (all_below s s)
+unfolding all_below
+all_below_refl [] = refl
+all_below_refl (a ∷ s) = and _ _ (below_refl a) (all_below_refl s)
+
+pub all_below_trans : (s t u : List AbsVal) → IsTrue (all_below s t) → IsTrue (all_below t u) → IsTrue (all_below s u)
+unfolding all_below
+all_below_trans [] [] u h k = k
+all_below_trans [] (b ∷ t) u h k = cc
+all_below_trans (a ∷ s) [] u h k = cc
+all_below_trans (a ∷ s) (b ∷ t) [] h k = cc
+all_below_trans (a ∷ s) (b ∷ t) (c ∷ u) h k =
+    let p = both (below a b) (all_below s t) h in
+    let q = both (below b c) (all_below t u) k in
+    and _ _ (below_trans a b c p.0 q.0) (all_below_trans s t u p.1 q.1)
+
+pub all_joined_left : (s t : List AbsVal) → JoinIsAllAbove s (all_joined s t)
+unfolding all_below all_joined
+all_joined_left [] [] = refl
+all_joined_left [] (b ∷ t) = tt
+all_joined_left (a ∷ s) [] = tt
+all_joined_left (a ∷ s) (b ∷ t) = by (joined a b) (all_joined s t) (joined_left a b) (all_joined_left s t)
+  where
+    by : (o : Option AbsVal) (p : Option (List AbsVal)) → JoinIsAbove a o → JoinIsAllAbove s p → JoinIsAllAbove (a ∷ s) (cons_if o p)
+    by None _ h k = tt
+    by (Some v) None h k = tt
+    by (Some v) (Some u) h k = and _ _ h k
+
+pub all_joined_right : (s t : List AbsVal) → JoinIsAllAbove t (all_joined s t)
+unfolding all_below all_joined
+all_joined_right [] [] = refl
+all_joined_right [] (b ∷ t) = tt
+all_joined_right (a ∷ s) [] = tt
+all_joined_right (a ∷ s) (b ∷ t) = by (joined a b) (all_joined s t) (joined_right a b) (all_joined_right s t)
+  where
+    by : (o : Option AbsVal) (p : Option (List AbsVal)) → JoinIsAbove b o → JoinIsAllAbove t p → JoinIsAllAbove (b ∷ t) (cons_if o p)
+    by None _ h k = tt
+    by (Some v) None h k = tt
+    by (Some v) (Some u) h k = and _ _ h k
+
+pub all_joined_least : (s t d : List AbsVal) → IsTrue (all_below s d) → IsTrue (all_below t d) → AllAboveJoin d (all_joined s t)
+unfolding all_below all_joined
+all_joined_least [] [] d h k = h
+all_joined_least [] (b ∷ t) [] h k = cc
+all_joined_least [] (b ∷ t) (c ∷ d) h k = cc
+all_joined_least (a ∷ s) [] [] h k = cc
+all_joined_least (a ∷ s) [] (c ∷ d) h k = cc
+all_joined_least (a ∷ s) (b ∷ t) [] h k = cc
+all_joined_least (a ∷ s) (b ∷ t) (c ∷ d) h k =
+    let p = both (below a c) (all_below s d) h in
+    let q = both (below b c) (all_below t d) k in
+    by (joined a b) (all_joined s t) (joined_least a b c p.0 q.0) (all_joined_least s t d p.1 q.1)
+  where
+    by : (o : Option AbsVal) (p : Option (List AbsVal)) → IsAboveJoin c o → AllAboveJoin d p → AllAboveJoin (c ∷ d) (cons_if o p)
+    by None _ h k = absurd h
+    by (Some v) None h k = absurd k
+    by (Some v) (Some u) h k = and _ _ h k

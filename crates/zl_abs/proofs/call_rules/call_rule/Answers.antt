@@ -1,0 +1,70 @@
+use Rattle.std.proofs.Common.{◌∙◌}
+use Rattle.zl_code.specs.Instructions.{row_of}
+use Rattle.zl_code.specs.Spells.{call_parts}
+use Rattle.zl_abs.specs.CallRules.{call_rule, uses_of}
+use Rattle.zl_abs.proofs.ListSteps.{read_rule, exit_rule}
+use Rattle.zl_abs.proofs.call_rules.call_rule.Goals as goal
+
+pub returns-in-ChanCreate : goal.returns-in-ChanCreate
+unfolding call_rule uses_of row_of call_parts
+returns-in-ChanCreate c = rw c.in-ChanCreate.is (rw (c.new.ensures, c.new-in-ChanCreate.ensures) at c.call-in-ChanCreate.ensures)
+
+pub returns-in-EventCreate : goal.returns-in-EventCreate
+unfolding call_rule uses_of row_of call_parts
+returns-in-EventCreate c = rw c.in-EventCreate.is (rw (c.new-in-EventCreate.ensures) at c.call-in-EventCreate.ensures)
+
+pub returns-in-Signal : goal.returns-in-Signal
+unfolding call_rule uses_of row_of call_parts
+returns-in-Signal c = rw c.in-Signal.is (rw (c.used-in-Signal.ensures) at c.call-in-Signal.ensures)
+
+pub returns-in-SignalPeer : goal.returns-in-SignalPeer
+unfolding call_rule uses_of row_of call_parts
+returns-in-SignalPeer c = rw c.in-SignalPeer.is (rw (c.used-in-SignalPeer.ensures) at c.call-in-SignalPeer.ensures)
+
+pub returns-in-WaitOne : goal.returns-in-WaitOne
+unfolding call_rule uses_of row_of call_parts
+returns-in-WaitOne c = rw c.in-WaitOne.is (rw (c.used-in-WaitOne.ensures) at c.call-in-WaitOne.ensures)
+
+pub returns-in-WaitPoll : goal.returns-in-WaitPoll
+unfolding call_rule uses_of row_of call_parts
+returns-in-WaitPoll c = rw c.in-WaitPoll.is (rw (c.used-in-WaitPoll.ensures) at c.call-in-WaitPoll.ensures)
+
+pub returns-in-WaitAsync : goal.returns-in-WaitAsync
+unfolding call_rule uses_of row_of call_parts
+returns-in-WaitAsync c = rw c.in-WaitAsync.is (rw (c.used-in-WaitAsync.ensures, c.used-in-WaitAsync-2.ensures) at c.call-in-WaitAsync.ensures)
+
+pub returns-in-PortCreate : goal.returns-in-PortCreate
+unfolding call_rule uses_of row_of call_parts
+returns-in-PortCreate c = rw c.in-PortCreate.is (rw (c.new-in-PortCreate.ensures) at c.call-in-PortCreate.ensures)
+
+pub returns-in-PortQueue : goal.returns-in-PortQueue
+unfolding call_rule uses_of row_of call_parts
+returns-in-PortQueue c = rw c.in-PortQueue.is (rw (c.used-in-PortQueue.ensures) at c.call-in-PortQueue.ensures)
+
+pub returns-in-ProcessCreate : goal.returns-in-ProcessCreate
+unfolding call_rule uses_of row_of call_parts
+returns-in-ProcessCreate c = rw c.in-ProcessCreate.is (rw (c.used-in-ProcessCreate.ensures, c.new-in-ProcessCreate.ensures) at c.call-in-ProcessCreate.ensures)
+
+pub returns-in-ProcessStart : goal.returns-in-ProcessStart
+unfolding call_rule uses_of row_of call_parts
+returns-in-ProcessStart c = rw c.in-ProcessStart.is (rw (c.used-in-ProcessStart.ensures, c.taken-in-ProcessStart.ensures) at c.call-in-ProcessStart.ensures)
+
+pub returns-in-JobCreate : goal.returns-in-JobCreate
+unfolding call_rule uses_of row_of call_parts
+returns-in-JobCreate c = rw c.in-JobCreate.is (rw (c.used-in-JobCreate.ensures, c.new-in-JobCreate.ensures) at c.call-in-JobCreate.ensures)
+
+pub returns-in-JobSetPolicy : goal.returns-in-JobSetPolicy
+unfolding call_rule uses_of row_of call_parts
+returns-in-JobSetPolicy c = rw c.in-JobSetPolicy.is (rw (c.used-in-JobSetPolicy.ensures) at c.call-in-JobSetPolicy.ensures)
+
+pub returns-in-PortCancel : goal.returns-in-PortCancel
+unfolding call_rule uses_of row_of call_parts
+returns-in-PortCancel c = rw c.in-PortCancel.is (rw (c.used-in-PortCancel.ensures, c.used-in-PortCancel-2.ensures, c.empty-in-PortCancel.ensures tt) at c.call-in-PortCancel.ensures)
+
+pub returns-in-ChanReadEtc : goal.returns-in-ChanReadEtc
+returns-in-ChanReadEtc c =
+    let r = c.in-ChanReadEtc in
+    rw c.in-ChanReadEtc.is ((rw (c.used-in-ChanReadEtc.ensures, c.received-results.ensures.value) at c.call-in-ChanReadEtc.ensures) ∙ read_rule _ c.args.image.now c.args.state.now r.status r.channel r.address r.room r.bytes r.handles r.first r.places)
+
+pub returns-in-ProcessExit : goal.returns-in-ProcessExit
+returns-in-ProcessExit c = rw c.in-ProcessExit.is (c.exit.ensures ∙ exit_rule _ c.args.image.now c.args.state.now c.in-ProcessExit.code)

@@ -1,0 +1,6 @@
+use Rattle.std.proofs.Common.{◌≡◌, ◌++◌, take, drop, map}
+use Rattle.zl_abs.specs.Values.{untagged}
+use Rattle.zl_abs.proofs.state.untag.Given as goal
+
+abbrev pub invariant-loop-value : goal.invariant-loop-value
+invariant-loop-value l = take l.value-index l.values ++ map (untagged l.register) (drop l.value-index l.values) ≡ map (untagged l.register) l.initial.values

@@ -1,0 +1,11 @@
+pub mod Values
+pub mod States
+pub mod Bounds
+pub mod Found
+pub mod Rule
+pub mod LocalRules
+pub mod CallRules
+pub mod Operands
+pub mod Typing
+pub mod Successors
+pub mod Laws

@@ -1,0 +1,34 @@
+//! Laws of the definitions: each function's contract is one law, and its body is empty.
+
+ghost use Rattle.std.specs.Prelude.{ℕ, IsTrue, List};
+ghost use Rattle.zl_code.specs.Image.{Image};
+ghost use Rattle.zl_abs.specs.States.{State, all_below, all_joined};
+ghost use Rattle.zl_abs.specs.Typing.{rule_with};
+ghost use Rattle.zl_abs.specs.Laws.{AllAboveJoin, JoinIsAllAbove, RuleBelow};
+
+/// A state is below itself.
+pub fn order_is_reflexive()
+    ensures { (s : State) → IsTrue (all_below s s) }
+{}
+
+/// What is below a state is below all that is above that.
+pub fn order_is_transitive()
+    ensures { (s t u : State)
+        → IsTrue (all_below s t) → IsTrue (all_below t u) → IsTrue (all_below s u) }
+{}
+
+/// A join is above both states, and below whatever is above both; there is none only where nothing
+/// is above both.
+pub fn join_is_least()
+    ensures left { (s t : State) → JoinIsAllAbove s (all_joined s t) }
+    ensures right { (s t : State) → JoinIsAllAbove t (all_joined s t) }
+    ensures least { (s t d : State)
+        → IsTrue (all_below s d) → IsTrue (all_below t d) → AllAboveJoin d (all_joined s t) }
+{}
+
+/// Where a rule holds at a state it holds at every state below, with no more edges that are followed
+/// and with states below at their ends.
+pub fn rules_are_monotone()
+    ensures { (bounds : List ℕ) (i : Image) (n : ℕ) (s t : State)
+        → IsTrue (all_below s t) → RuleBelow (rule_with bounds i n s) (rule_with bounds i n t) }
+{}

@@ -1,0 +1,155 @@
+//! The handle operands of calls.
+
+ghost use Rattle.std.specs.Prelude.{◌≡◌, [], true, ◌∷◌};
+ghost use Rattle.zl_rights.specs.Numbers.{bits};
+ghost use Rattle.zl_code.specs.Refusals.{needs, taking};
+ghost use Rattle.zl_abs.specs.Operands.{kinds_of};
+ghost use Rattle.zl_abs.specs.CallRules.{fault_of, takes_any, examined};
+
+use crate::cause::Cause;
+use crate::state::AbsState;
+use crate::value::{AbsVal, is_kind};
+use bitflags::Flags;
+use std::marker::Model;
+use zl_code::Register;
+use zl_rights::{Kind, Rights};
+
+/// The kinds of handles that an operand takes.
+#[derive(Clone, Copy)]
+pub(crate) enum Kinds {
+    Any,
+    Only(Kind),
+    /// A process or a job.
+    Tasks,
+}
+
+impl Kinds {
+    /// Whether a handle of which this is known of its kind will do.
+    fn take(self, known: Option<Kind>) -> bool
+        ensures { result ≡ takes_any (kinds_of self) known }
+    {
+        match self {
+            Kinds::Any => true,
+            Kinds::Only(kind) => match known {
+                Some(known) => is_kind(known, kind),
+                None => false,
+            },
+            Kinds::Tasks => match known {
+                Some(known) => is_kind(known, Kind::Process) || is_kind(known, Kind::Job),
+                None => false,
+            },
+        }
+    }
+}
+
+/// A register of a call that has to have a handle, and what is asked of it.
+#[derive(Drop)]
+pub(crate) struct Operand {
+    register: Register,
+    kinds: Kinds,
+    rights: Rights,
+    is_taken: bool,
+    may_be_zero: bool,
+}
+
+impl Model for Operand {
+    ghost use Rattle.zl_rights.specs.Numbers.{bits};
+    ghost use Rattle.zl_code.specs.Tests.{Operand as OperandValue};
+    ghost use Rattle.zl_abs.specs.Operands.{kinds_of};
+
+    ghost Value = { OperandValue };
+
+    ghost view = { λ o. record {
+      value = o.register;
+      kinds = kinds_of o.kinds;
+      needed = bits o.rights;
+      is_taken = o.is_taken;
+      may_be_zero = o.may_be_zero;
+    } };
+}
+
+impl Operand {
+    /// A handle that the call uses and leaves in the register.
+    pub fn used(register: Register, kinds: Kinds, rights: Rights) -> Operand
+        ensures { result ≡ needs register (kinds_of kinds) (bits rights) }
+    {
+        Operand {
+            register,
+            kinds,
+            rights,
+            is_taken: false,
+            may_be_zero: false,
+        }
+    }
+
+    /// A handle that leaves the register, however the call is answered.
+    pub fn taken(register: Register, kinds: Kinds, rights: Rights) -> Operand
+        ensures { result ≡ taking register (kinds_of kinds) (bits rights) }
+    {
+        Operand {
+            register,
+            kinds,
+            rights,
+            is_taken: true,
+            may_be_zero: false,
+        }
+    }
+
+    /// The same with any handle, where 0 passes too.
+    pub fn closed(register: Register) -> Operand
+        ensures { result ≡ record (taking register [] 0) { may_be_zero = true } }
+    {
+        Operand {
+            register,
+            kinds: Kinds::Any,
+            rights: Rights::empty(),
+            is_taken: true,
+            may_be_zero: true,
+        }
+    }
+
+    /// Why a register with this value can't be the operand, if it can't.
+    fn fault(&self, value: AbsVal) -> Option<Cause>
+        ensures { result ≡ fault_of self.now value }
+    {
+        match value {
+            AbsVal::Has {
+                maybe,
+                kind,
+                rights,
+            } => {
+                if maybe && !self.may_be_zero {
+                    Some(Cause::NotLive)
+                } else if !self.kinds.take(kind) {
+                    Some(Cause::WrongKind)
+                } else if !self.rights.within(rights) {
+                    Some(Cause::LacksRight)
+                } else {
+                    None
+                }
+            }
+            AbsVal::Word(most) => {
+                if self.may_be_zero && most == 0 {
+                    None
+                } else {
+                    Some(Cause::NotLive)
+                }
+            }
+            _ => Some(Cause::NotLive),
+        }
+    }
+
+    /// The state after the operand was examined, and taken where it is consumed.
+    pub fn examine(&self, state: &AbsState) -> Result<AbsState, Cause>
+        ensures { result ≡ examined state.now self.now }
+    {
+        if let Some(cause) = self.fault(state.get(self.register)) {
+            return Err(cause);
+        }
+        if self.is_taken {
+            Ok(state.with(self.register, AbsVal::Word(0)))
+        } else {
+            Ok(*state)
+        }
+    }
+}

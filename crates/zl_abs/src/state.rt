@@ -1,0 +1,213 @@
+ghost use Rattle.std.specs.Prelude.{◌≡◌, ◌≤◌, ◌<◌, length, map, replicate};
+ghost use Rattle.std.specs.Bool.{then_some};
+ghost use Rattle.std.specs.Result.{result_ok};
+ghost use Rattle.zl_code.specs.Limits.{register_count};
+ghost use Rattle.zl_abs.specs.declared.value.AbsVal.TheVariants as value;
+ghost use Rattle.zl_abs.specs.Values.{untagged, retagged};
+ghost use Rattle.zl_abs.specs.States.{all_below, all_joined, value_at, with_value, with_all, refined, starts_from, start_value, start_state};
+ghost use Rattle.zl_abs.specs.LocalRules.{moved};
+ghost use Rattle.zl_abs.specs.Rule.{word_at};
+
+use crate::cause::{Cause, Conflict};
+use crate::value::AbsVal;
+use std::marker::Model;
+use zl_code::{Image, Register, Start};
+
+/// What is known of each register at an instruction. Own profile.
+#[derive(Clone, Copy)]
+pub struct AbsState {
+    registers: [AbsVal; Register::COUNT],
+}
+
+impl Model for AbsState {
+    ghost use Rattle.std.specs.Prelude.{◌≡◌, List, length};
+    ghost use Rattle.zl_code.specs.Limits.{register_count};
+    ghost use Rattle.zl_abs.specs.declared.value.AbsVal.{AbsVal as V};
+
+    ghost Value = { List V };
+
+    ghost view = { λ s. s.registers };
+
+    ghost invariant = { λ s. length s.registers ≡ register_count };
+
+    ghost inverse = { λ values. record { registers = values } };
+}
+
+impl AbsState {
+    /// What a process of the program starts with: the first handle in register 0, any word in register
+    /// 1, further handles from register 2 on, and 0 everywhere else.
+    #[tactic(auto, unfolding(crate::specs::States::start_state, crate::specs::States::with_all))]
+    pub fn start(image: &Image) -> AbsState
+        ensures { result ≡ start_state image.now }
+    {
+        match image.starts() {
+            [] => AbsState::zero().with(register(1), AbsVal::Word(u64::MAX)),
+            [first, more @ ..] => AbsState::zero()
+                .with(register(0), start_value(first))
+                .with(register(1), AbsVal::Word(u64::MAX))
+                .with_starts(more),
+        }
+    }
+
+    /// Each register is 0.
+    fn zero() -> AbsState
+        ensures { result ≡ replicate register_count (value.Word 0) }
+    {
+        AbsState {
+            registers: [AbsVal::Word(0); Register::COUNT],
+        }
+    }
+
+    /// The state with handles as they are declared, from register 2 on.
+    fn with_starts(&self, starts: &[Start]) -> AbsState
+        requires { length starts.now ≤ 6 }
+        ensures { result ≡ with_all self.now (starts_from 2 starts.now) }
+    {
+        let mut state = *self;
+        for (place, start) in starts.iter().enumerate() {
+            state = state.with(register(2 + place), start_value(start));
+        }
+        state
+    }
+
+    /// The value of the register.
+    pub fn get(&self, register: Register) -> AbsVal
+        ensures { result ≡ value_at self.now register }
+    {
+        self.registers[usize::from(register.number())]
+    }
+
+    /// What the register is at most, if it has a word.
+    pub(crate) fn word(&self, register: Register) -> Result<u64, Cause>
+        ensures { result ≡ word_at self.now register }
+    {
+        match self.get(register).bound() {
+            Some(most) => Ok(most),
+            None => Err(Cause::NotWord),
+        }
+    }
+
+    /// The state where more is known of the register. Tags on it stay.
+    pub(crate) fn refined(&self, register: Register, value: AbsVal) -> AbsState
+        ensures { result ≡ refined self.now register value }
+    {
+        let mut state = *self;
+        state.registers[usize::from(register.number())] = value;
+        state
+    }
+
+    /// The state after the register was written: no tag names it any more.
+    #[tactic(auto, unfolding(crate::specs::States::with_value))]
+    pub(crate) fn with(&self, register: Register, value: AbsVal) -> AbsState
+        ensures { result ≡ with_value self.now register value }
+    {
+        let mut state = self.refined(register, value);
+        untag(&mut state.registers, register);
+        state
+    }
+
+    /// The state after the registers were written, one after another.
+    pub(crate) fn with_all(&self, results: &[(Register, AbsVal)]) -> AbsState
+        ensures { result ≡ with_all self.now results.now }
+    {
+        let mut state = *self;
+        for (register, value) in results {
+            state = state.with(*register, *value);
+        }
+        state
+    }
+
+    /// The state after the value of `source` went to `destination`, and its tags with it.
+    pub(crate) fn moved(&self, destination: Register, source: Register, value: AbsVal) -> AbsState
+        ensures { result ≡ moved self.now destination source value }
+    {
+        let mut state = self.with(destination, value);
+        retag(&mut state.registers, source, destination);
+        state.refined(source, AbsVal::Word(0))
+    }
+}
+
+/// No tag names the register any more.
+fn untag(values: &mut [AbsVal], register: Register)
+    ensures { values.new ≡ map (untagged register) values.old }
+{
+    for value in values.iter_mut() {
+        *value = value.untagged(register);
+    }
+}
+
+/// Tags that name the source name the destination.
+fn retag(values: &mut [AbsVal], source: Register, destination: Register)
+    ensures { values.new ≡ map (retagged source destination) values.old }
+{
+    for value in values.iter_mut() {
+        *value = value.retagged(source, destination);
+    }
+}
+
+/// Whether the first state is below the second: what it says of each register, the second says too.
+pub fn below(state: &AbsState, other: &AbsState) -> bool
+    ensures { result ≡ all_below state.now other.now }
+{
+    are_below(&state.registers, &other.registers)
+}
+
+fn are_below(values: &[AbsVal], others: &[AbsVal]) -> bool
+    requires { length values.now ≡ length others.now }
+    ensures { result ≡ all_below values.now others.now }
+{
+    for (i, value) in values.iter().enumerate() {
+        if !value.is_below(others[i]) {
+            return false;
+        }
+    }
+    true
+}
+
+/// The least state above both; a conflict where no state is above both.
+pub fn join(state: &AbsState, other: &AbsState) -> Result<AbsState, Conflict>
+    ensures { result_ok result ≡ all_joined state.now other.now }
+{
+    let mut joined = *state;
+    if join_all(&mut joined.registers, &other.registers) {
+        Ok(joined)
+    } else {
+        Err(Conflict)
+    }
+}
+
+/// Joins each value with the other in its place, as long as they have a join.
+fn join_all(values: &mut [AbsVal], others: &[AbsVal]) -> bool
+    requires { length values.old ≡ length others.now }
+    ensures { then_some result values.new ≡ all_joined values.old others.now }
+{
+    for (i, other) in others.iter().enumerate() {
+        let Some(value) = values[i].join(*other) else {
+            return false;
+        };
+        values[i] = value;
+    }
+    true
+}
+
+/// The register of this number.
+fn register(number: usize) -> Register
+    requires { number < register_count }
+    ensures { result ≡ number }
+{
+    match Register::new(number as u8) {
+        Some(register) => register,
+        None => unreachable!(),
+    }
+}
+
+/// A handle as it is declared.
+fn start_value(start: &Start) -> AbsVal
+    ensures { result ≡ start_value start.now }
+{
+    AbsVal::Has {
+        maybe: false,
+        kind: start.kind,
+        rights: start.rights,
+    }
+}

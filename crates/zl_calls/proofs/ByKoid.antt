@@ -1,8 +1,8 @@
 -- What std's map from koids holds after a read or a write, in the words of the definitions.
-use Rattle.zl_calls.proofs.Common.{◌≡◌, ◌<◌, ◌+◌, ℕ, true, false, ◌||◌, [], ◌∷◌, ◌++◌, length, refl, sym, ap, ◌∙◌, cond, Option, Some, None, inl, inr, arith, IsTrue, is_some, IsSome, IfSome, IfNone, list_any, nat_cmp, cases_Bool, false≢true, nat_tests, Map, get, put, update, without, has_key, update_missing, put_key, AreBelow, lives_below, values_of}
+use Rattle.zl_calls.proofs.Common.{◌≡◌, ◌<◌, ◌+◌, ℕ, true, false, ◌||◌, [], ◌∷◌, ◌++◌, length, refl, sym, ap, ◌∙◌, cond, Option, Some, None, inl, inr, arith, IsTrue, is_some, IsSome, IfSome, IfNone, list_any, nat_cmp, cases_Bool, false≢true, nat_tests, Map, get, put, update, without, has_key, update_missing, put_key, AreBelow, lives_below}
 use Rattle.std.specs.Prelude.{◌↔◌}
 use Rattle.std.specs.Cmp.{unsigned_tied}
-use Rattle.std.specs.Map.{lookup, set_value, remove_entry}
+use Rattle.std.specs.Map.{lookup, set_value, remove_entry, values_of}
 use Rattle.std.specs.BTreeMap.{BTreeMap, is_at, insert_entry, IsUnchanged, IsUpperBound, Updates}
 use Rattle.zl_calls.specs.declared.objects.Object.{Object}
 use Rattle.zl_calls.specs.Objects.{has_living_child}

@@ -26,8 +26,8 @@ pub fn join_is_least()
         → IsTrue (all_below s d) → IsTrue (all_below t d) → AllAboveJoin d (all_joined s t) }
 {}
 
-/// Where a rule holds at a state it holds at every state below, with no more edges that are followed
-/// and with states below at their ends.
+/// Where a rule holds at a state it holds at every state below, with no more edges that are
+/// followed and with states below at their ends.
 pub fn rules_are_monotone()
     ensures { (bounds : List ℕ) (i : Image) (n : ℕ) (s t : State)
         → IsTrue (all_below s t) → RuleBelow (rule_with bounds i n s) (rule_with bounds i n t) }

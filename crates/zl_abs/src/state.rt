@@ -34,8 +34,8 @@ impl Model for AbsState {
 }
 
 impl AbsState {
-    /// What a process of the program starts with: the first handle in register 0, any word in register
-    /// 1, further handles from register 2 on, and 0 everywhere else.
+    /// What a process of the program starts with: the first handle in register 0, any word in
+    /// register 1, further handles from register 2 on, and 0 everywhere else.
     #[tactic(auto, unfolding(crate::specs::States::start_state, crate::specs::States::with_all))]
     pub fn start(image: &Image) -> AbsState
         ensures { result ≡ start_state image.now }

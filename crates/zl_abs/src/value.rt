@@ -11,8 +11,8 @@ use zl_rights::{Kind, Rights};
 pub enum AbsVal {
     /// A number that is at most this, and no handle.
     Word(u64),
-    /// A live handle of this kind with at least these rights, owned by this register alone; or 0, if
-    /// `maybe`.
+    /// A live handle of this kind with at least these rights, owned by this register alone; or 0,
+    /// if `maybe`.
     Has {
         maybe: bool,
         /// `None` where the kind isn't known.

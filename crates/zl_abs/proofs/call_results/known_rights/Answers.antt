@@ -1,6 +1,6 @@
 use Rattle.std.proofs.Common.{◌∙◌, refl}
 use Rattle.bitflags.specs.Sets.{known_from}
-use Rattle.zl_abs.proofs.call_rules.known_rights.Goals as goal
+use Rattle.zl_abs.proofs.call_results.known_rights.Goals as goal
 
 pub returns : goal.returns
 unfolding known_from

@@ -2,7 +2,7 @@ use Rattle.std.proofs.Common.{◌∙◌, ◌+◌, List, ℕ, ap, sym, arith}
 use Rattle.zl_abs.specs.declared.value.AbsVal.{AbsVal}
 use Rattle.zl_abs.specs.CallRules.{is_result}
 use Rattle.zl_abs.proofs.CallSteps.{distinct_end, distinct_stop, distinct_more, rest_of}
-use Rattle.zl_abs.proofs.call_rules.are_distinct.Goals as goal
+use Rattle.zl_abs.proofs.call_tests.are_distinct.Goals as goal
 
 pub returns-then-is_result : goal.returns-then-is_result
 returns-then-is_result c =

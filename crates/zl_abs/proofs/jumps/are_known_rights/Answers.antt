@@ -1,6 +1,6 @@
 use Rattle.std.proofs.Common.{◌∙◌, refl}
 use Rattle.bitflags.specs.Sets.{known_from}
-use Rattle.zl_abs.proofs.local_rules.are_known_rights.Goals as goal
+use Rattle.zl_abs.proofs.jumps.are_known_rights.Goals as goal
 
 pub returns : goal.returns
 unfolding known_from

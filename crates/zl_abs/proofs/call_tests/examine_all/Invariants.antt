@@ -1,6 +1,6 @@
 use Rattle.std.proofs.Common.{◌≡◌, drop}
 use Rattle.zl_abs.specs.CallRules.{examined_all}
-use Rattle.zl_abs.proofs.call_rules.examine_all.Given as goal
+use Rattle.zl_abs.proofs.call_tests.examine_all.Given as goal
 
 abbrev pub invariant-loop-operand : goal.invariant-loop-operand
 invariant-loop-operand l = examined_all l.state l.operands ≡ examined_all l.after (drop l.operand-index l.operands)

@@ -1,6 +1,6 @@
 use Rattle.std.proofs.Common.{◌≡◌, ◌+◌, ◌*◌, ◌-◌, ◌++◌, take, length}
 use Rattle.zl_abs.specs.CallRules.{triple_results, read_results}
-use Rattle.zl_abs.proofs.call_rules.received.Given as goal
+use Rattle.zl_abs.proofs.call_results.received.Given as goal
 
 abbrev pub invariant-loop-place : goal.invariant-loop-place
 invariant-loop-place l =

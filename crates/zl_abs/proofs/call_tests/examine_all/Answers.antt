@@ -1,7 +1,7 @@
 use Rattle.std.proofs.Common.{◌∙◌, sym, arith}
 use Rattle.zl_code.proofs.Common.{err_from_is_err_and}
 use Rattle.zl_abs.proofs.CallSteps.{examined_step, examined_end, and_then_ok, and_then_err}
-use Rattle.zl_abs.proofs.call_rules.examine_all.Goals as goal
+use Rattle.zl_abs.proofs.call_tests.examine_all.Goals as goal
 
 pub returns-in_err-after : goal.returns-in_err-after
 returns-in_err-after c =

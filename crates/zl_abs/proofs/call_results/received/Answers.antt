@@ -3,7 +3,7 @@ use Rattle.std.proofs.Math.ListN.{length-set}
 use Rattle.zl_abs.specs.declared.value.AbsVal.{AbsVal}
 use Rattle.std.proofs.Common.{ℕ}
 use Rattle.zl_abs.proofs.ListSteps.{triples_step}
-use Rattle.zl_abs.proofs.call_rules.received.Goals as goal
+use Rattle.zl_abs.proofs.call_results.received.Goals as goal
 
 pub loop-place-preserved : goal.loop-place-preserved
 loop-place-preserved c =

@@ -1,0 +1,264 @@
+//! The rules of the jumps, and what a test teaches.
+
+ghost use Rattle.std.specs.Prelude.{◌≡◌};
+ghost use Rattle.zl_rights.specs.Numbers.{within, KNOWN_RIGHTS};
+ghost use Rattle.zl_abs.specs.LocalRules.{becomes, below_ways, equal_ways, has_ways, kind_numbered, kind_ways, known_kind, known_other, known_rights, known_there, known_zero, unless, zero_ways};
+
+use crate::cause::Cause;
+use crate::state::AbsState;
+use crate::value::{AbsVal, is_kind, is_kind_below};
+use crate::ways::Ways;
+use bitflags::Flags;
+use zl_code::Register;
+use zl_rights::{Kind, Rights};
+
+/// The state where the register, which has this value, turns out to be 0; nothing where it can't.
+fn known_zero(state: &AbsState, register: Register, value: &AbsVal) -> Option<AbsState>
+    ensures { result ≡ known_zero state.now register value.now }
+{
+    match value {
+        AbsVal::Has { maybe, .. } => {
+            if *maybe {
+                Some(state.refined(register, AbsVal::Word(0)))
+            } else {
+                None
+            }
+        }
+        _ => Some(*state),
+    }
+}
+
+/// The state where it turns out to have a handle.
+fn known_there(state: &AbsState, register: Register, value: &AbsVal) -> Option<AbsState>
+    ensures { result ≡ known_there state.now register value.now }
+{
+    match value {
+        AbsVal::Has { kind, rights, .. } => {
+            let there = AbsVal::Has {
+                maybe: false,
+                kind: *kind,
+                rights: *rights,
+            };
+            Some(state.refined(register, there))
+        }
+        AbsVal::Word(most) => { if *most == 0 { None } else { Some(*state) } }
+        _ => Some(*state),
+    }
+}
+
+/// The state where its handle turns out to be of the kind.
+fn known_kind(
+    state: &AbsState,
+    register: Register,
+    kind: Option<Kind>,
+    value: &AbsVal,
+) -> Option<AbsState>
+    ensures { result ≡ known_kind state.now register kind value.now }
+{
+    let Some(kind) = kind else {
+        return None;
+    };
+    match value {
+        AbsVal::Has {
+            kind: known,
+            rights,
+            ..
+        } => {
+            if is_kind_below(Some(kind), *known) {
+                let of_kind = AbsVal::Has {
+                    maybe: false,
+                    kind: Some(kind),
+                    rights: *rights,
+                };
+                Some(state.refined(register, of_kind))
+            } else {
+                None
+            }
+        }
+        _ => None,
+    }
+}
+
+/// The state where it turns out to have no handle of the kind.
+fn known_other(state: &AbsState, kind: Option<Kind>, value: &AbsVal) -> Option<AbsState>
+    ensures { result ≡ known_other state.now kind value.now }
+{
+    let Some(kind) = kind else {
+        return Some(*state);
+    };
+    match value {
+        AbsVal::Has {
+            maybe,
+            kind: Some(known),
+            ..
+        } => {
+            if !*maybe && is_kind(kind, *known) {
+                None
+            } else {
+                Some(*state)
+            }
+        }
+        _ => Some(*state),
+    }
+}
+
+/// Whether each bit is a known right.
+fn are_known_rights(bits: u32) -> bool
+    ensures { result ≡ within bits KNOWN_RIGHTS }
+{
+    Rights::from_bits_retain(bits).within(Rights::all())
+}
+
+/// The state where its handle turns out to have the rights.
+fn known_rights(state: &AbsState, register: Register, bits: u32, value: AbsVal) -> Option<AbsState>
+    ensures { result ≡ known_rights state.now register bits value }
+{
+    match value {
+        AbsVal::Has { kind, rights, .. } => {
+            if are_known_rights(bits) {
+                let with_rights = AbsVal::Has {
+                    maybe: false,
+                    kind,
+                    rights: rights.union(Rights::from_bits_retain(bits)),
+                };
+                Some(state.refined(register, with_rights))
+            } else {
+                None
+            }
+        }
+        _ => None,
+    }
+}
+
+/// The state of an edge, if it is followed, where the register is this number.
+fn becoming(register: Register, number: u32, state: Option<AbsState>) -> Option<AbsState>
+    ensures { result ≡ becomes register number state }
+{
+    match state {
+        Some(state) => Some(state.refined(register, AbsVal::Word(u64::from(number)))),
+        None => None,
+    }
+}
+
+/// Jumps where the register, which has this value, is the number.
+pub(crate) fn jump_equal(
+    state: &AbsState,
+    register: Register,
+    number: u32,
+    value: AbsVal,
+) -> Result<Ways, Cause>
+    ensures { result ≡ equal_ways state.now register number value }
+{
+    match value {
+        AbsVal::Has { .. } => Err(Cause::NotWord),
+        AbsVal::Word(most) => {
+            let jumped = if most < u64::from(number) {
+                None
+            } else {
+                becoming(register, number, Some(*state))
+            };
+            let passed = if most == 0 && number == 0 {
+                None
+            } else {
+                Some(*state)
+            };
+            Ok(Ways { jumped, passed })
+        }
+        AbsVal::RightsOf(_) => Ok(Ways {
+            jumped: becoming(register, number, Some(*state)),
+            passed: Some(*state),
+        }),
+        AbsVal::KindOf(tagged) => Ok(kind_ways(state, register, number, tagged)),
+    }
+}
+
+/// The kind with this number, or nothing where no kind has it.
+fn kind_numbered(number: u32) -> Option<Kind>
+    ensures { result ≡ kind_numbered number }
+{
+    Kind::from_number(number)
+}
+
+/// Jumps where the register, which has the number of the kind of the handle in `tagged`, is this
+/// number.
+fn kind_ways(state: &AbsState, register: Register, number: u32, tagged: Register) -> Ways
+    ensures { result ≡ kind_ways state.now register number tagged }
+{
+    let value = state.get(tagged);
+    if number == 0 {
+        Ways {
+            jumped: becoming(register, 0, known_zero(state, tagged, &value)),
+            passed: known_there(state, tagged, &value),
+        }
+    } else {
+        let kind = kind_numbered(number);
+        Ways {
+            jumped: becoming(register, number, known_kind(state, tagged, kind, &value)),
+            passed: known_other(state, kind, &value),
+        }
+    }
+}
+
+/// Jumps where the register, which has this value, is 0.
+pub(crate) fn jump_zero(state: &AbsState, register: Register, value: AbsVal) -> Result<Ways, Cause>
+    ensures { result ≡ zero_ways state.now register value }
+{
+    match value {
+        AbsVal::Has { .. } => Ok(Ways {
+            jumped: known_zero(state, register, &value),
+            passed: known_there(state, register, &value),
+        }),
+        _ => jump_equal(state, register, 0, value),
+    }
+}
+
+/// Jumps where the register is below the number.
+pub(crate) fn jump_below(state: &AbsState, register: Register, number: u32) -> Result<Ways, Cause>
+    ensures { result ≡ below_ways state.now register number }
+{
+    let most = state.word(register)?;
+    let number = u64::from(number);
+    let jumped = if number == 0 {
+        None
+    } else {
+        let below = number - 1;
+        let bound = if most <= below { most } else { below };
+        Some(state.refined(register, AbsVal::Word(bound)))
+    };
+    let passed = if most < number { None } else { Some(*state) };
+    Ok(Ways { jumped, passed })
+}
+
+/// Jumps where all the bits are in the register, which has this value.
+pub(crate) fn jump_has(state: &AbsState, bits: u32, value: AbsVal) -> Result<Ways, Cause>
+    ensures { result ≡ has_ways state.now bits value }
+{
+    match value {
+        AbsVal::Has { .. } => Err(Cause::NotWord),
+        AbsVal::RightsOf(tagged) => {
+            let jumped = if bits == 0 {
+                Some(*state)
+            } else {
+                known_rights(state, tagged, bits, state.get(tagged))
+            };
+            Ok(Ways {
+                jumped,
+                passed: Some(*state),
+            })
+        }
+        _ => Ok(Ways {
+            jumped: Some(*state),
+            passed: Some(*state),
+        }),
+    }
+}
+
+/// The same jump where the test fails.
+pub(crate) fn turned(ways: Result<Ways, Cause>) -> Result<Ways, Cause>
+    ensures { result ≡ unless ways }
+{
+    match ways {
+        Ok(ways) => Ok(ways.turned()),
+        Err(cause) => Err(cause),
+    }
+}

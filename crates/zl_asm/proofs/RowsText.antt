@@ -50,18 +50,18 @@ a_loop_says = refl
 
 -- The lists of chan_write and the room of chan_read_etc.
 lists_say : listing_of (codes "chan_write r2, r3, r0, r0, r6, r7\nchan_read_etc r2, r0, r10, r10, r11, r12, r13, 1\nchan_write r2, r3, r0, r0") ≡ Some (record {
-    raw = false;
-    memory = 0;
-    budget = 1;
-    needs = [];
-    starts = [];
-    slots = [];
-    code =
-    (68 ∷ 2 ∷ 3 ∷ 0 ∷ 0 ∷ 0 ∷ 0 ∷ 0 ∷ 6 ∷ 7 ∷ 255 ∷ 255 ∷ 255 ∷ 255 ∷ 255 ∷ 255 ∷ [])
-    ∷ (69 ∷ 2 ∷ 0 ∷ 10 ∷ 10 ∷ 11 ∷ 12 ∷ 13 ∷ 1 ∷ 0 ∷ 0 ∷ 0 ∷ 0 ∷ 0 ∷ 0 ∷ 0 ∷ [])
-    ∷ (68 ∷ 2 ∷ 3 ∷ 0 ∷ 0 ∷ 0 ∷ 0 ∷ 0 ∷ 255 ∷ 255 ∷ 255 ∷ 255 ∷ 255 ∷ 255 ∷ 255 ∷ 255 ∷ [])
-    ∷ [];
-    })
+  raw = false;
+  memory = 0;
+  budget = 1;
+  needs = [];
+  starts = [];
+  slots = [];
+  code =
+      (68 ∷ 2 ∷ 3 ∷ 0 ∷ 0 ∷ 0 ∷ 0 ∷ 0 ∷ 6 ∷ 7 ∷ 255 ∷ 255 ∷ 255 ∷ 255 ∷ 255 ∷ 255 ∷ [])
+      ∷ (69 ∷ 2 ∷ 0 ∷ 10 ∷ 10 ∷ 11 ∷ 12 ∷ 13 ∷ 1 ∷ 0 ∷ 0 ∷ 0 ∷ 0 ∷ 0 ∷ 0 ∷ 0 ∷ [])
+      ∷ (68 ∷ 2 ∷ 3 ∷ 0 ∷ 0 ∷ 0 ∷ 0 ∷ 0 ∷ 255 ∷ 255 ∷ 255 ∷ 255 ∷ 255 ∷ 255 ∷ 255 ∷ 255 ∷ [])
+      ∷ [];
+})
 unfolding reading
 lists_say = refl
 

@@ -58,14 +58,14 @@ rows_of_close :
     (Refuses bare (close 5) (outcome.Answered status.BadHandle))
     -- The status goes to its register, and the closed register becomes 0 all the same.
     × (told (turn (call.Close 0 1) bare Refused)
-        ≡ Some (item.Call 2 name.Close (outcome.Answered status.BadHandle), 11 ∷ 0 ∷ 9 ∷ 0 ∷ 0 ∷ 0 ∷ []))
+    ≡ Some (item.Call 2 name.Close (outcome.Answered status.BadHandle), 11 ∷ 0 ∷ 9 ∷ 0 ∷ 0 ∷ 0 ∷ []))
     -- A value that isn't live isn't the value removed last.
     × (last_of (after bare (turn (call.Close 0 1) bare Refused)) 2 ≡ None)
     -- 0 is no handle, and closing it is no fault.
     × (Passes bare (close 0))
     -- Closing 0 is answered OK.
     × (told (turn (call.Close 0 3) bare (Values []))
-        ≡ Some (item.Call 2 name.Close (outcome.Answered status.Ok), 0 ∷ 5 ∷ 9 ∷ 0 ∷ 0 ∷ 0 ∷ []))
+    ≡ Some (item.Call 2 name.Close (outcome.Answered status.Ok), 0 ∷ 5 ∷ 9 ∷ 0 ∷ 0 ∷ 0 ∷ []))
     -- Where the policy kills for a bad handle, the process ends with -1026.
     × (Refuses (bare_under condition.BadHandle action.Kill) (close 5) (outcome.Ended (negsuc 1025)))
     -- It has ended then.
@@ -78,10 +78,10 @@ rows_of_close :
     × (Passes (with_rights 0) (close 7))
     -- Closing a live handle is answered OK, and its register becomes 0.
     × (told (turn (call.Close 0 1) (with_rights 0) (Values []))
-        ≡ Some (item.Call 2 name.Close (outcome.Answered status.Ok), 0 ∷ 0 ∷ 9 ∷ 0 ∷ 0 ∷ 0 ∷ []))
+    ≡ Some (item.Call 2 name.Close (outcome.Answered status.Ok), 0 ∷ 0 ∷ 9 ∷ 0 ∷ 0 ∷ 0 ∷ []))
     -- Where the status goes to the closed register, the status stands.
     × (told (turn (call.Close 1 1) bare Refused)
-        ≡ Some (item.Call 2 name.Close (outcome.Answered status.BadHandle), 9 ∷ 11 ∷ 9 ∷ 0 ∷ 0 ∷ 0 ∷ []))
+    ≡ Some (item.Call 2 name.Close (outcome.Answered status.BadHandle), 9 ∷ 11 ∷ 9 ∷ 0 ∷ 0 ∷ 0 ∷ []))
 unfolding computing
 rows_of_close = (refl, refl, refl, refl, refl, refl, refl, refl, refl, refl, refl, refl)
 
@@ -113,7 +113,7 @@ rows_of_dup :
     (Refuses bare (dup 5 SAME_RIGHTS) (outcome.Answered status.BadHandle))
     -- The status goes to its register, and the register of the copy becomes 0.
     × (told (turn (call.Dup 0 1 2 SAME_RIGHTS) bare Refused)
-        ≡ Some (item.Call 2 name.Dup (outcome.Answered status.BadHandle), 11 ∷ 5 ∷ 0 ∷ 0 ∷ 0 ∷ 0 ∷ []))
+    ≡ Some (item.Call 2 name.Dup (outcome.Answered status.BadHandle), 11 ∷ 5 ∷ 0 ∷ 0 ∷ 0 ∷ 0 ∷ []))
     -- 0 is no handle, and only close takes it.
     × (Refuses bare (dup 0 SAME_RIGHTS) (outcome.Answered status.BadHandle))
     -- Where the policy kills for a bad handle, the process ends with -1026.
@@ -122,7 +122,7 @@ rows_of_dup :
     × (Refuses (with_rights SIGNAL) (dup 7 SAME_RIGHTS) (outcome.Answered status.AccessDenied))
     -- The handle stays.
     × (told (turn (call.Dup 0 1 2 SAME_RIGHTS) (with_rights SIGNAL) Refused)
-        ≡ Some (item.Call 2 name.Dup (outcome.Answered status.AccessDenied), 30 ∷ 7 ∷ 0 ∷ 0 ∷ 0 ∷ 0 ∷ []))
+    ≡ Some (item.Call 2 name.Dup (outcome.Answered status.AccessDenied), 30 ∷ 7 ∷ 0 ∷ 0 ∷ 0 ∷ 0 ∷ []))
     -- A copy can't have a right that the handle hasn't.
     × (Refuses (with_rights DUPLICATE) (dup 7 SIGNAL) (outcome.Answered status.InvalidArgs))
     -- The mark for the same rights stands alone.
@@ -143,10 +143,10 @@ rows_of_dup :
     × (Refuses (with_many 1024) (dup 2000 0x1_0000) (outcome.Answered status.BadHandle))
     -- A copy gets a value that isn't used.
     × (told (turn (call.Dup 0 1 2 SIGNAL) (with_rights FIRST_RIGHTS) (Values (65535 ∷ [])))
-        ≡ Some (item.Call 2 name.Dup (outcome.Answered status.Ok), 0 ∷ 7 ∷ 65535 ∷ 0 ∷ 0 ∷ 0 ∷ []))
+    ≡ Some (item.Call 2 name.Dup (outcome.Answered status.Ok), 0 ∷ 7 ∷ 65535 ∷ 0 ∷ 0 ∷ 0 ∷ []))
     -- The copy has the rights that were asked for, and the handle keeps its own.
     × (table_of (after bare (turn (call.Dup 0 1 2 SIGNAL) (with_rights FIRST_RIGHTS) (Values (65535 ∷ [])))) 2
-        ≡ (7, event_with FIRST_RIGHTS) ∷ (65535, event_with SIGNAL) ∷ [])
+    ≡ (7, event_with FIRST_RIGHTS) ∷ (65535, event_with SIGNAL) ∷ [])
     -- No copy gets a value that is used.
     × (may_choose (with_rights FIRST_RIGHTS) (with_rights FIRST_RIGHTS) 2 (dup 7 SIGNAL) (7 ∷ []) ≡ false)
     -- No copy gets the value 0.
@@ -155,7 +155,7 @@ rows_of_dup :
     × (may_choose (with_rights FIRST_RIGHTS) (with_rights FIRST_RIGHTS) 2 (dup 7 SIGNAL) (65536 ∷ []) ≡ false)
     -- Where memory is wanted, no handle is made.
     × (told (turn (call.Dup 0 1 2 SIGNAL) (with_rights FIRST_RIGHTS) WantsMemory)
-        ≡ Some (item.Call 2 name.Dup (outcome.Answered status.NoMemory), 4 ∷ 7 ∷ 0 ∷ 0 ∷ 0 ∷ 0 ∷ []))
+    ≡ Some (item.Call 2 name.Dup (outcome.Answered status.NoMemory), 4 ∷ 7 ∷ 0 ∷ 0 ∷ 0 ∷ 0 ∷ []))
 unfolding computing
 rows_of_dup = (refl, refl, refl, refl, refl, refl, refl, refl, refl, refl, refl, refl, refl, refl, refl, refl, refl, refl, refl, refl, refl)
 
@@ -168,7 +168,7 @@ rows_of_event_create :
     × (Refuses (bare_under condition.NewEvent action.Deny) event_create (outcome.Answered status.AccessDenied))
     -- The register of the event becomes 0.
     × (told (turn (call.EventCreate 0 1) (bare_under condition.NewEvent action.Deny) Refused)
-        ≡ Some (item.Call 2 name.EventCreate (outcome.Answered status.AccessDenied), 30 ∷ 0 ∷ 9 ∷ 0 ∷ 0 ∷ 0 ∷ []))
+    ≡ Some (item.Call 2 name.EventCreate (outcome.Answered status.AccessDenied), 30 ∷ 0 ∷ 9 ∷ 0 ∷ 0 ∷ 0 ∷ []))
     -- The policy kills for new events.
     × (Refuses (bare_under condition.NewEvent action.Kill) event_create (outcome.Ended (negsuc 1025)))
     -- It has ended then.
@@ -193,10 +193,10 @@ rows_of_event_create :
     × (Refuses (world_of ((condition_number condition.NewEvent, action.Deny) ∷ []) (process_of [] (times 1024 (event_with FIRST_RIGHTS)) None)) event_create (outcome.Answered status.AccessDenied))
     -- The event's handle gets a value that isn't used.
     × (told (turn (call.EventCreate 0 1) bare (Values (6 ∷ [])))
-        ≡ Some (item.Call 2 name.EventCreate (outcome.Answered status.Ok), 0 ∷ 6 ∷ 9 ∷ 0 ∷ 0 ∷ 0 ∷ []))
+    ≡ Some (item.Call 2 name.EventCreate (outcome.Answered status.Ok), 0 ∷ 6 ∷ 9 ∷ 0 ∷ 0 ∷ 0 ∷ []))
     -- It names object 4, the next koid, with the rights of a first handle.
     × (table_of (after bare (turn (call.EventCreate 0 1) bare (Values (6 ∷ [])))) 2
-        ≡ (6, record (event_with FIRST_RIGHTS) { koid = 4 }) ∷ [])
+    ≡ (6, record (event_with FIRST_RIGHTS) { koid = 4 }) ∷ [])
 unfolding computing
 rows_of_event_create = (refl, refl, refl, refl, refl, refl, refl, refl, refl, refl, refl, refl, refl, refl, refl, refl)
 
@@ -241,7 +241,7 @@ rows_of_signal_2 :
     × (Passes with_job (signal 7 0 0x100_0000))
     -- The answer is a status alone.
     × (told (turn (call.Signal 0 1 3 4) (record bare { processes = (2, process_of (9 ∷ 7 ∷ 9 ∷ 0 ∷ SIGNALED ∷ []) ((7, event_with SIGNAL) ∷ []) None) ∷ [] }) (Values []))
-        ≡ Some (item.Call 2 name.Signal (outcome.Answered status.Ok), 0 ∷ 7 ∷ 9 ∷ 0 ∷ 8 ∷ 0 ∷ []))
+    ≡ Some (item.Call 2 name.Signal (outcome.Answered status.Ok), 0 ∷ 7 ∷ 9 ∷ 0 ∷ 8 ∷ 0 ∷ []))
     -- What is cleared and set stays set, as set comes last.
     × (active (effect [] (with_rights SIGNAL) (with_rights SIGNAL) 2 (signal 7 SIGNALED SIGNALED)) 3 ≡ SIGNALED)
 unfolding computing

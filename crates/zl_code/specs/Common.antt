@@ -25,4 +25,5 @@ pub use Rattle.zl_code.specs.Spells.{Reading, Spells, are_needs, are_registers, 
 unfoldable pub use Rattle.zl_code.specs.Spells.{call_parts, first_fault, header_fault, instr_fault, local_parts, pieces, slot_fault, start_fault}
 pub use Rattle.zl_code.specs.Steps.{Acts, AtCall, IsLegalHistory, IsStuck, Moves, Next, Step, calls_at, next_for, pid_of, single}
 pub use Rattle.zl_code.specs.Tests.{answer_if, any, body_in, body_of, by_look_up, copy_of, entry_at, object_at, operand_of, table_of, with_rights}
-unfoldable pub use Rattle.zl_code.specs.Tests.{examined, handles_to, has_koids, has_room, operand}
+unfoldable pub use Rattle.zl_code.specs.Tests.{examined, has_koids, has_room, operand}
+unfoldable pub use Rattle.zl_rights.specs.Counts.{handles_to}

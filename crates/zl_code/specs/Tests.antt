@@ -1,7 +1,7 @@
 -- The words in which the table of calls is written.
-use Rattle.std.specs.List.{list_any, sum_by, count_by}
+use Rattle.std.specs.List.{list_any}
 use Rattle.std.specs.Bool.{then_some}
-use Rattle.zl_rights.specs.Common.{SIGNALED, within, narrowed, condition_number, Map, get, World, Process, Object, Body, ChannelEnd, EventBody, JobBody, ProcessBody}
+use Rattle.zl_rights.specs.Common.{SIGNALED, within, narrowed, condition_number, Map, get, World, Process, Object, Body, EventBody, JobBody, ProcessBody}
 use Rattle.std.specs.Prelude.{ℕ, ◌+◌, ◌^◌, Bool, ◌&&◌, ◌==◌, nat_le, List, [], ◌∷◌, length, Option, Some, None, Result, Ok, Err, if◌then◌else◌, unwrap_or}
 use Rattle.zl_code.specs.First.{first_some}
 use Rattle.zl_rights.specs.declared.rights.Rights.{Rights}
@@ -163,17 +163,6 @@ has_room w p n = nat_le (length (table_of w p) + n) 1024
 -- n koids are left
 unfoldable pub has_koids : World → ℕ → Bool
 has_koids w n = nat_le (w.next_koid + n) (2 ^ 62)
-
--- how many handles in the messages that wait at a channel end name the object k
-abbrev pub queued_to : ℕ → Body → ℕ
-queued_to k (ChannelEnd peer queue) = sum_by (λ m. count_by (λ h. h.koid == k) m.handles) queue
-queued_to k _ = 0
-
--- how many handles, in tables and in queues, name the object k
-unfoldable pub handles_to : World → ℕ → ℕ
-handles_to w k =
-    sum_by (λ p. count_by (λ h. h.1.koid == k) p.1.handles) w.processes
-    + sum_by (λ o. queued_to k o.1.body) w.objects
 
 -- ---- signals
 

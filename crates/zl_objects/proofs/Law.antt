@@ -60,7 +60,7 @@ sum_seen n (e ∷ m) = omega (arith, sum_by-cons n (object_entry e) (map object_
 -- ---- counts
 
 -- a queue in which a handle names k counts
-queue_named : (k : ℕ) (b : BodyValue) → IsTrue (names k (queue_value b)) → 0 < queued_to k b
+pub queue_named : (k : ℕ) (b : BodyValue) → IsTrue (names k (queue_value b)) → 0 < queued_to k b
 queue_named k (ChannelEnd peer queue) h = any_summed (λ m. count_by (λ h. h.koid == k) m.handles) (λ m. list_any (λ h. h.koid == k) m.handles) (λ m. any_counted (λ h. h.koid == k) m.handles) queue h
 queue_named k EventBody h = absurd (false≢true h)
 queue_named k (PortBody packets) h = absurd (false≢true h)
@@ -68,7 +68,7 @@ queue_named k (JobBody parent depth policy killed) h = absurd (false≢true h)
 queue_named k (ProcessBody job) h = absurd (false≢true h)
 
 -- and back
-named_queue : (k : ℕ) (b : BodyValue) → names k (queue_value b) ≡ false → ◌≡◌ {A = ℕ} (queued_to k b) 0
+pub named_queue : (k : ℕ) (b : BodyValue) → names k (queue_value b) ≡ false → ◌≡◌ {A = ℕ} (queued_to k b) 0
 named_queue k (ChannelEnd peer queue) h = no_sum queue h
   where
     no_count : (es : List Entry) → list_any (λ (h : Entry). h.koid == k) es ≡ false → ◌≡◌ {A = ℕ} (count_by (λ (h : Entry). h.koid == k) es) 0
@@ -364,17 +364,21 @@ module _ (w : World) (m : Map Object) (exact : IsExact w [] m) (kept : (k : ℕ)
               by_part (positive_part _ _ (omega (arith, positive, exact.counted k o there)))
           by_reason (inr stays) = alone o.body refl stays
 
-kept_all : (m : Map Object) → AreKeptBut [] m → (k : ℕ) (o : Object) → get m k ≡ Some o → IsTrue (is_kept m k o)
+pub kept_all : (m : Map Object) → AreKeptBut [] m → (k : ℕ) (o : Object) → get m k ≡ Some o → IsTrue (is_kept m k o)
 kept_all m all k o at = elim (cases_Bool (is_kept m k o)) as (λ _. IsTrue (is_kept m k o)) [
   | inl kept ↦ kept
   | inr unkept ↦ absurd (false≢true (all.noted k o at unkept))
 ]
 
+-- once something keeps each object that is left, the largest held set is left
+pub settles_left : (w : World) (ks : List ℕ) (m m2 : Map Object) → IsExact w ks m → Cascades ks m m2 → AreKeptBut [] m2 → Settles (with_objects w m) (with_all w m2)
+settles_left w ks m m2 exact cascades kept =
+    let left : IsLeft w m m2 = cascaded w ks m m2 exact cascades in
+    left.leads (with_all w m2) (settles_all (with_objects w m2) (all_held w m2 left.exact (kept_all m2 kept)))
+
 -- the largest held set is what is left, and the counts are right again
 pub leaves_largest : (ks loose : List ℕ) (r r2 : Objects) → Releases ks loose r r2 → LeavesLargest ks loose r r2
 leaves_largest ks loose r r2 releases = record {
-  settles = λ w exact kept.
-      let left : IsLeft w r.objects r2.objects = cascaded w ks r.objects r2.objects exact releases.cascades in
-      left.leads (with_all w r2.objects) (settles_all (with_objects w r2.objects) (all_held w r2.objects left.exact (kept_all r2.objects (releases.keeps kept))));
+  settles = λ w exact kept. settles_left w ks r.objects r2.objects exact releases.cascades (releases.keeps [] kept);
   exact = λ w exact. (cascaded w ks r.objects r2.objects exact releases.cascades).exact;
 }

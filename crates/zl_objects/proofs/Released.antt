@@ -93,13 +93,13 @@ cascades_of ks m m2 d d2 went = rw (append-nil ks) at (went.leads [] m2 (none_le
 pub released : (ks loose : List ℕ) (m m2 : Map Object) (next : ℕ) (d d2 : List ℕ) → LetsGo ks m d m2 d2 → d ≡ loose → d2 ≡ [] → Releases ks loose (record { objects = m; next_koid = next }) (record { objects = m2; next_koid = next })
 released ks loose m m2 next d d2 went noted none = record {
   cascades = cascades_of ks m m2 d d2 went;
-  keeps = λ kept. rw none at (went.notes [] (rw noted kept));
+  keeps = λ others kept. rw (none, append-nil others) at (went.notes others (rw noted kept));
   koids = refl;
 }
 
 -- the same koids are noted in another order
-pub noted_first : (d : List ℕ) (j : ℕ) (m : Map Object) → AreKeptBut (j ∷ d) m → AreKeptBut (d ++ j ∷ []) m
-noted_first d j m kept = record { in_order = kept.in_order; noted = λ k o at unkept. moved k d (kept.noted k o at unkept) }
+pub noted_last : (others d : List ℕ) (j : ℕ) (m : Map Object) → AreKeptBut ((others ++ j ∷ []) ++ d) m → AreKeptBut (others ++ (d ++ j ∷ [])) m
+noted_last others d j m kept = record { in_order = kept.in_order; noted = λ k o at unkept. behind k others (kept.noted k o at unkept) }
   where
     moved : (k : ℕ) (d : List ℕ) → IsTrue (list_any (λ x. x == k) (j ∷ d)) → IsTrue (list_any (λ x. x == k) (d ++ j ∷ []))
     moved k [] h = h
@@ -111,18 +111,26 @@ noted_first d j m kept = record { in_order = kept.in_order; noted = λ k o at un
       ]
     ]
 
+    behind : (k : ℕ) (xs : List ℕ) → IsTrue (list_any (λ x. x == k) ((xs ++ j ∷ []) ++ d)) → IsTrue (list_any (λ x. x == k) (xs ++ (d ++ j ∷ [])))
+    behind k [] h = moved k d h
+    behind k (x ∷ xs) h = elim (or_cases (x == k) _ h) as (λ _. IsTrue (list_any (λ y. y == k) (x ∷ xs ++ (d ++ j ∷ [])))) [
+      | inl here ↦ or_left (x == k) _ here
+      | inr later ↦ or_right (x == k) _ (behind k xs later)
+    ]
+
 -- a process that has ended and then its job are looked at
 pub both_released : (m m1 m2 m3 : Map Object) (next pid job : ℕ) (d d1 d2 d3 : List ℕ) → d ≡ [] → d3 ≡ [] → LetsGo [] m (d ++ pid ∷ []) m1 d1 → LetsGo [] m1 (d1 ++ job ∷ []) m2 d2 → LetsGo [] m2 d2 m3 d3
     → Releases [] (job ∷ pid ∷ []) (record { objects = m; next_koid = next }) (record { objects = m3; next_koid = next })
 both_released m m1 m2 m3 next pid job d d1 d2 d3 empty none first second rest = record {
   cascades = first.leads [] m3 (second.leads [] m3 (rest.leads [] m3 (none_left m3)));
-  keeps = λ kept. rw none at (rest.notes [] (second.notes [] (noted_first d1 job m1 (first.notes (job ∷ []) (rw empty kept)))));
+  keeps = λ others kept. rw (none, append-nil others) at
+      (rest.notes others (second.notes others (noted_last others d1 job m1 (first.notes (others ++ job ∷ []) (rw (empty, append_assoc others (job ∷ []) (pid ∷ [])) kept)))));
   koids = refl;
 }
 
 -- ---- for callers
 
-cascades_then : (ks ls : List ℕ) (m m2 m3 : Map Object) → Cascades ks m m2 → Cascades ls m2 m3 → Cascades (ks ++ ls) m m3
+pub cascades_then : (ks ls : List ℕ) (m m2 m3 : Map Object) → Cascades ks m m2 → Cascades ls m2 m3 → Cascades (ks ++ ls) m m3
 cascades_then _ ls _ _ m3 (none_left m) later = later
 cascades_then _ ls _ _ m3 (let_go k ks m m2 more) later = let_go k (ks ++ ls) m m3 (cascades_then ks ls (update m k held_once_less) m2 m3 more later)
 cascades_then _ ls _ _ m3 (goes k o ks m m2 there unkept more) later =
@@ -132,7 +140,7 @@ cascades_then _ ls _ _ m3 (goes k o ks m m2 there unkept more) later =
 pub releases_then : (ks ls loose : List ℕ) (r r2 r3 : Objects) → Releases ks loose r r2 → Releases ls [] r2 r3 → Releases (ks ++ ls) loose r r3
 releases_then ks ls loose r r2 r3 first later = record {
   cascades = cascades_then ks ls r.objects r2.objects r3.objects first.cascades later.cascades;
-  keeps = λ kept. later.keeps (first.keeps kept);
+  keeps = λ others kept. later.keeps others (rw (append-nil others) (first.keeps others kept));
   koids = later.koids ∙ first.koids;
 }
 

@@ -1,6 +1,9 @@
 -- The objects by koid, each with its count of handles, and what each operation makes of them.
 use Rattle.std.specs.Prelude.{ℕ, ◌+◌, ◌-◌, ◌^◌, Bool, true, false, ◌&&◌, ◌||◌, ◌==◌, nat_le, nat_lt, List, [], ◌∷◌, ◌++◌, Option, Some, None, drop, length, take, if◌then◌else◌}
 use Rattle.std.specs.List.{list_any}
+use Rattle.std.specs.Option.{option_map}
+use Rattle.zl_rights.specs.declared.kind.Kind.{Kind}
+use Rattle.zl_rights.specs.declared.kind.Kind.TheVariants as kind
 use Rattle.zl_rights.specs.Map.{Map, get, update, has_key}
 use Rattle.zl_rights.specs.Numbers.{changed}
 use Rattle.zl_rights.specs.World.{Message}
@@ -18,10 +21,6 @@ pub record Objects : Type 0 where
 -- so many koids are left
 abbrev pub has_koids : ℕ → ℕ → Bool
 has_koids next_koid count = nat_le (next_koid + count) (2 ^ 62)
-
--- the least koid that was not given yet, if one is left
-abbrev pub next_of : ℕ → Option ℕ
-next_of next_koid = if has_koids next_koid 1 then Some next_koid else None
 
 -- ---- counts of handles
 
@@ -135,6 +134,19 @@ received_body b = b
 -- the end without its first message
 abbrev pub received : Object → Object
 received o = record o { body = received_body o.body }
+
+-- ---- kinds
+
+-- the kind of an object with this body
+abbrev pub kind_in : Body → Kind
+kind_in body.RootJob = kind.Job
+kind_in (body.Process job lives) = kind.Process
+kind_in body.Event = kind.Event
+kind_in (body.ChannelEnd peer queue) = kind.Channel
+
+-- the kind of the object k, if it is there
+abbrev pub kind_at : Map Object → ℕ → Option Kind
+kind_at objects k = option_map (λ o. kind_in o.body) (get objects k)
 
 -- ---- what keeps an object
 

@@ -30,10 +30,11 @@ pub record AreKeptBut (loose : List ℕ) (m : Map Object) : Type 0 where
   pub in_order : IsTrue (is_sorted nat_cmp m)
   pub noted : (k : ℕ) (o : Object) → get m k ≡ Some o → is_kept m k o ≡ false → IsTrue (list_any (λ x. x == k) loose)
 
--- handles to ks went, and with them what nothing keeps any more; before, nothing may have kept these
+-- handles to ks went, and with them what nothing keeps any more, but perhaps for others that nothing kept before;
+-- nothing may have kept the loose ones either
 pub record Releases (ks loose : List ℕ) (r r2 : Objects) : Type 0 where
   pub cascades : Cascades ks r.objects r2.objects
-  pub keeps : AreKeptBut loose r.objects → AreKeptBut [] r2.objects
+  pub keeps : (others : List ℕ) → AreKeptBut (others ++ loose) r.objects → AreKeptBut others r2.objects
   pub koids : r2.next_koid ≡ r.next_koid
 
 -- the process k of the job that was found has ended, and with it went what nothing keeps any more

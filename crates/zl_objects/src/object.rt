@@ -2,12 +2,12 @@
 
 ghost use Rattle.std.specs.Prelude.{◌≡◌, ◌↔◌, IsTrue, IfErr, OnErr, OnOk, Err, Some, slice_get};
 ghost use Rattle.zl_objects.specs.Dying.{is_last};
-ghost use Rattle.zl_objects.specs.Objects.{has_place, held_once_more, held_once_less, is_end_body, job_of, lives_below, peer_of, queue_of, raised_changed, received, sent, stopped};
+ghost use Rattle.zl_objects.specs.Objects.{has_place, held_once_more, held_once_less, is_end_body, job_of, kind_in, lives_below, peer_of, queue_of, raised_changed, received, sent, stopped};
 ghost use Rattle.zl_channel.specs.Queue.{is_too_large, refused_message, front_sizes, front_entry};
 
 use crate::objects::Objects;
 use zl_channel::{ChannelEnd, Message, PushFault};
-use zl_rights::{Entry, Koid, Signals};
+use zl_rights::{Entry, Kind, Koid, Signals};
 
 /// What an object is.
 ///
@@ -98,6 +98,18 @@ impl Object {
 }
 
 impl Body {
+    /// The kind of the object.
+    pub(crate) fn kind(&self) -> Kind
+        ensures { result ≡ kind_in self.now }
+    {
+        match self {
+            Body::RootJob => Kind::Job,
+            Body::Process { .. } => Kind::Process,
+            Body::Event => Kind::Event,
+            Body::ChannelEnd { .. } => Kind::Channel,
+        }
+    }
+
     /// The job of a process.
     pub(crate) fn job(&self) -> Option<Koid>
         ensures { result ≡ job_of self.now }

@@ -1,6 +1,6 @@
 ghost use Rattle.std.specs.Prelude.{[], Err, Some, false, ◌≡◌, ◌↔◌, ◌+◌, ◌<◌, ◌^◌, ◌∷◌, IsTrue, IfErr, IfOk, IfSome, OnErr, OnOk, slice_get};
 ghost use Rattle.zl_rights.specs.Map.{get, has_key};
-ghost use Rattle.zl_objects.specs.Objects.{changing, has_koids, has_place, holding, is_end_at, is_end_body, is_job_at, job_in, new_object, next_of, peer_at, queue_in, receiving, root_alone, sending, stopping, with_channel, with_new, without_newest};
+ghost use Rattle.zl_objects.specs.Objects.{changing, has_koids, has_place, holding, is_end_at, is_end_body, is_job_at, job_in, kind_at, new_object, peer_at, queue_in, receiving, root_alone, sending, stopping, with_channel, with_new, without_newest};
 ghost use Rattle.zl_channel.specs.Queue.{front_entry, front_sizes, is_too_large, refused_message};
 ghost use Rattle.zl_objects.specs.Release.{Ends, Releases};
 ghost use Rattle.zl_objects.specs.Seen.{LeavesLargest};
@@ -12,7 +12,7 @@ use std::alloc::{AllocError, Global};
 use std::collections::BTreeMap;
 use std::marker::Model;
 use zl_channel::{ChannelEnd, Message, PushFault};
-use zl_rights::{Entry, Koid, Signals};
+use zl_rights::{Entry, Kind, Koid, Signals};
 
 /// The objects by koid, and the least koid that was not given yet.
 ///
@@ -67,15 +67,11 @@ impl Objects {
         self.next_koid <= Objects::MOST - u64::from(count)
     }
 
-    /// The least koid that was not given yet, if one is left.
-    pub fn next_koid(&self) -> Option<Koid>
-        ensures { result ≡ next_of self.now.next_koid }
+    /// The least koid that was not given yet.
+    pub fn next_koid(&self) -> Koid
+        ensures { result ≡ self.now.next_koid }
     {
-        if self.has_koids(1) {
-            Some(self.next_koid)
-        } else {
-            None
-        }
+        self.next_koid
     }
 
     /// Makes an object that so many handles name, and gives its koid. A koid has to be left, and
@@ -159,6 +155,16 @@ impl Objects {
         match self.by_koid.get(&koid) {
             Some(object) => matches!(object.body, Body::RootJob),
             None => false,
+        }
+    }
+
+    /// The kind of the object, if there is one of this koid.
+    pub fn kind_of(&self, koid: Koid) -> Option<Kind>
+        ensures { result ≡ kind_at self.now.objects koid }
+    {
+        match self.by_koid.get(&koid) {
+            Some(object) => Some(object.body.kind()),
+            None => None,
         }
     }
 

@@ -10,12 +10,12 @@ use Rattle.zl_code.specs.declared.boot.BootCause.{BootCause}
 use Rattle.zl_code.specs.declared.boot.BootCause.TheVariants as cause
 use Rattle.zl_code.specs.declared.boot.Grant.{Grant}
 use Rattle.zl_code.specs.declared.boot.Statement.TheVariants as statement
-use Rattle.zl_calls.specs.declared.objects.Body.{Body}
-use Rattle.zl_calls.specs.declared.objects.Body.TheVariants as body
-use Rattle.zl_calls.specs.declared.objects.Object.{Object}
+use Rattle.zl_objects.specs.declared.object.Body.{Body}
+use Rattle.zl_objects.specs.declared.object.Body.TheVariants as body
+use Rattle.zl_objects.specs.declared.object.Object.{Object}
 use Rattle.zl_calls.specs.declared.process.Process.{Process}
-use Rattle.zl_calls.specs.Objects.{is_job_in as is_job_object, is_job_body as is_job_here}
-use Rattle.zl_calls.proofs.Labs.{get_seen}
+use Rattle.zl_objects.specs.Objects.{is_job_in as is_job_object, is_job_body as is_job_here}
+use Rattle.zl_objects.proofs.Law.{get_seen}
 
 -- ---- jobs
 
@@ -30,6 +30,7 @@ job_seen ps r k = rw (get_seen r.objects k) (by_object (get r.objects k))
         by_body body.RootJob = refl
         by_body (body.Process job lives) = refl
         by_body body.Event = refl
+        by_body (body.ChannelEnd peer queue) = refl
 
 -- ---- handles
 
@@ -64,6 +65,7 @@ module _ (objects : Map Object) where
       kind_is body.RootJob = refl
       kind_is (body.Process job lives) = refl
       kind_is body.Event = refl
+      kind_is (body.ChannelEnd peer queue) = refl
 
       by_object : (o : Option Object) → if_default (handle_given g (body_in (option_map object_value o))) ≡ with_kind g (option_map (λ (x : Object). kind_in x.body) o)
       by_object None = refl

@@ -1,5 +1,5 @@
 -- The handles of a statement enter the table of its process, one after another.
-use Rattle.zl_calls.proofs.Common.{◌≡◌, ◌<◌, ◌≤◌, ◌+◌, ◌*◌, ◌^◌, ◌&&◌, ◌==◌, ℕ, zero, suc, Bool, true, false, List, [], ◌∷◌, ◌++◌, map, length, get_or, take, take_more, take_all, refl, sym, ap, ◌∙◌, subst, cond, Option, Some, None, inl, inr, IsTrue, arith, nat_lt, is_some, count_by, slice_set, cases_Bool, eqb-true, false≢true, none-some, same_Some, and_parts, and_from, append-nil, nat_tests, within, bits, default_rights_of, kind_of, nat_cmp, Map, get, put, has_key, Cpu, is_process, runs, handles_to, body_in, has_default_rights, may_get, process_with, list_all, get-put, may_get_all, Handles, IsTable, Inserts, is_sorted-update, has_key-update, length-put_new, Objects, held_once_more, holding, process_value, object_entry, object_value, body_value, world_value, IsNamed, AgreesOn, is_in_job, IsSound, IsMaking, seen, allowed, if_default, IsBare, process_given, Gives, World, length-append, length-take-le, all_known, handle_given, handles_given, process_with_all, register_set, handle_register, option_map, then_some}
+use Rattle.zl_calls.proofs.Common.{◌≡◌, ◌<◌, ◌≤◌, ◌+◌, ◌*◌, ◌^◌, ◌&&◌, ◌==◌, ℕ, zero, suc, Bool, true, false, List, [], ◌∷◌, ◌++◌, map, length, get_or, take, take_more, take_all, refl, sym, ap, ◌∙◌, subst, cond, Option, Some, None, inl, inr, IsTrue, arith, nat_lt, is_some, count_by, slice_set, cases_Bool, eqb-true, false≢true, none-some, same_Some, and_parts, and_from, append-nil, nat_tests, within, bits, default_rights_of, kind_of, nat_cmp, Map, get, put, has_key, Cpu, is_process, runs, handles_to, body_in, has_default_rights, may_get, process_with, list_all, get-put, may_get_all, Handles, IsTable, Inserts, is_sorted-update, has_key-update, length-put_new, Objects, held_once_more, holding, process_value, object_entry, object_value, body_value, world_value, IsNamed, Agrees, is_in_job, IsSound, IsMaking, seen, allowed, if_default, IsBare, process_given, Gives, World, length-append, length-take-le, all_known, handle_given, handles_given, process_with_all, register_set, handle_register, option_map, then_some}
 use Rattle.zl_code.proofs.Common.{Process as ProcessValue, Object as ObjectValue, Body as BodyValue}
 use Rattle.std.specs.Option.{option_to_list}
 use Rattle.std.proofs.lemmas.List.Sums.{count_by-le-length}
@@ -7,14 +7,14 @@ use Rattle.zl_rights.specs.declared.entry.Entry.{Entry}
 use Rattle.zl_code.specs.declared.boot.Grant.{Grant}
 use Rattle.zl_code.specs.Starting.{set_from, with_handles}
 use Rattle.zl_calls.specs.declared.booting.Made.{Made}
-use Rattle.zl_calls.specs.declared.objects.Object.{Object}
+use Rattle.zl_objects.specs.declared.object.Object.{Object}
 use Rattle.zl_calls.specs.declared.process.Process.{Process}
 use Rattle.zl_calls.proofs.Answered.{may_get_inserted}
-use Rattle.zl_calls.proofs.Counting.{count_put}
-use Rattle.zl_calls.proofs.Labs.{get_seen}
-use Rattle.zl_calls.proofs.SameBodies.{found_updated, named_updated, in_job_updated}
+use Rattle.zl_objects.proofs.Bodies.{in_job_updated}
+use Rattle.zl_objects.proofs.Law.{get_seen}
+use Rattle.zl_calls.proofs.Counting.{count_put, queues_updated, same_tables}
+use Rattle.zl_calls.proofs.SameBodies.{found_updated, named_updated, queued_updated, still_agrees}
 use Rattle.zl_calls.proofs.Tables.{inserted_table, found_inserted}
-use Rattle.zl_calls.proofs.Unheld.{tables_alone}
 use Rattle.zl_calls.proofs.Updates.{update_unseen}
 
 -- ---- one handle more names the object k
@@ -38,6 +38,9 @@ module _ (ps : List Process) (m : Map Entry) (r : Objects) (sound : IsSound ps m
   counts : (j : ℕ) → count_by (λ h. h.1.koid == j) (put m v e) ≡ count_by (λ h. h.1.koid == j) m + cond (k == j) 1 0
   counts j = count_put (λ h. h.1.koid == j) m v e free
 
+  more_tables : (j : ℕ) → handles_to (world_value ps more) j ≡ handles_to (world_value ps r) j
+  more_tables j = same_tables ps r more j (queues_updated held_once_more held_body r.objects k j)
+
   holding_sound : IsSound ps (put m v e) more
   unfolding is_process
   holding_sound = record {
@@ -50,18 +53,19 @@ module _ (ps : List Process) (m : Map Entry) (r : Objects) (sound : IsSound ps m
     no_zero = λ j has. sound.no_zero j (sym (has_key-update r.objects k held_once_more j) ∙ has);
     tables = sound.tables;
     named = λ j p value q here in_it. named_updated held_once_more held_body r.objects k q (sound.named j p value q here in_it);
+    queued = queued_updated held_once_more held_body r.objects k sound.queued;
     counted = λ j q at. found_updated held_once_more r.objects k (q.handles ≡ handles_to (world_value ps more) j + count_by (λ h. h.1.koid == j) (put m v e)) j q at
         (λ o old here is.
         let one : ◌≡◌ {A = ℕ} (cond (k == j) 1 0) 1 = rw here refl in
         let there : get r.objects k ≡ Some o = ap (get r.objects) (eqb-true k j here) ∙ old in
         let more_is : q.handles ≡ o.handles + 1 = ap (λ (x : Object). x.handles) (sym is) ∙ held_more o (room o there) in
-        omega (arith, more_is, sound.counted j o old, counts j, one, tables_alone ps r more j))
+        omega (arith, more_is, sound.counted j o old, counts j, one, more_tables j))
         (λ apart old.
         let none : ◌≡◌ {A = ℕ} (cond (k == j) 1 0) 0 = rw apart refl in
-        omega (arith, sound.counted j q old, counts j, none, tables_alone ps r more j));
-    agrees = λ j q at. found_updated held_once_more r.objects k (AgreesOn q.body (is_process (world_value ps r) runs j)) j q at
-        (λ o old here is. subst (λ (x : Object). AgreesOn x.body (is_process (world_value ps r) runs j)) is (rw (held_body o) (sound.agrees j o old)))
-        (λ apart old. sound.agrees j q old);
+        omega (arith, sound.counted j q old, counts j, none, more_tables j));
+    agrees = λ j q at. still_agrees (world_value ps r) (world_value ps more) j q.body (λ test. refl) (found_updated held_once_more r.objects k (Agrees (world_value ps r) j q.body) j q at
+        (λ o old here is. subst (λ (x : Object). Agrees (world_value ps r) j x.body) is (rw (held_body o) (sound.agrees j o old)))
+        (λ apart old. sound.agrees j q old));
     in_jobs = λ j q at. found_updated held_once_more r.objects k (IsTrue (is_in_job more.objects q.body)) j q at
         (λ o old here is. subst (λ (x : Object). IsTrue (is_in_job more.objects x.body)) is (rw (held_body o, in_job_updated held_once_more held_body r.objects k o.body) (sound.in_jobs j o old)))
         (λ apart old. rw (in_job_updated held_once_more held_body r.objects k q.body) (sound.in_jobs j q old));
@@ -222,7 +226,7 @@ module _ (gs : List Grant) (old new : Made) (p p2 : Process) (so_far : Gives gs 
     named = λ v x at. named_updated held_once_more held_body r.objects e.koid x (found_inserted (IsNamed r.objects x) p2.table e value t inserts v x at (λ is. subst (IsNamed r.objects) is is_allowed.named) (so_far.named v x));
     making = record {
       sound = rw inserts.entries (holding_sound ps p2.table.entries r so_far.making.sound value e inserts.unused room);
-      few = λ k. omega (arith, so_far.making.few k, tables_alone ps r r3 k);
+      few = λ k. omega (arith, so_far.making.few k, same_tables ps r r3 k (queues_updated held_once_more held_body r.objects e.koid k));
     };
     processes = so_far.processes;
     same = ap (λ (os : Map ObjectValue). record (seen new) { objects = os }) (update_unseen object_value r.objects e.koid held_once_more held_value) ∙ so_far.same;

@@ -1,43 +1,56 @@
 -- What a boot has made meets the invariant of the world, once what isn't held is gone.
-use Rattle.zl_calls.proofs.Common.{◌≡◌, ◌<◌, ◌+◌, ℕ, Bool, true, false, not, ◌&&◌, ◌==◌, List, [], refl, IsTrue, arith, nat_tests, nat_lt, false≢true, get, has_key, Some, Settles, Objects, without_unheld, world_value, IsConsistent, IsSound, IsMaking}
-use Rattle.zl_calls.specs.declared.objects.Object.{Object}
+use Rattle.zl_calls.proofs.Common.{◌≡◌, ◌<◌, ◌+◌, ◌==◌, ◌++◌, ◌⊎◌, false, false≢true, ℕ, zero, suc, List, [], ◌∷◌, refl, ◌∙◌, subst, IsTrue, arith, list_any, or_left, or_right, inl, inr, cases_Bool, nat_tests, get, Some, none-some, Objects, AreKeptBut, Cascades, Releases, none_left, IsMaking}
+use Rattle.zl_objects.specs.declared.object.Object.{Object}
+use Rattle.zl_objects.proofs.Released.{cascades_then}
 use Rattle.zl_calls.specs.declared.process.Process.{Process}
-use Rattle.zl_calls.proofs.Closing.{KeepsBut, Leads, IsCleared, cleared}
-use Rattle.zl_calls.proofs.Closed.{lab_of, settles_to}
+use Rattle.zl_calls.proofs.Settled.{IsSettled, settled}
 
--- the objects with koids from bound on are kept, after those of them that nothing keeps went
-pub record IsSwept (ps : List Process) (r r2 : Objects) (bound : ℕ) : Type 0 where
-  pub sound : IsSound ps [] r2
-  pub keeps : KeepsBut (λ j. nat_lt j bound) r2
-  pub leads : Leads ps r r2
+-- all koids below n
+abbrev below : ℕ → List ℕ
+below zero = []
+below (suc n) = below n ++ n ∷ []
 
-pub none_swept : (ps : List Process) (r : Objects) → IsMaking ps [] r → IsSwept ps r r r.next_koid
+is_below : (k n : ℕ) → k < n → IsTrue (list_any (λ x. x == k) (below n))
+is_below k zero less = absurd (omega (arith, less))
+is_below k (suc n) less = by_last (below n) (by_order (λ h. is_below k n h) (cases_Bool (n == k)))
+  where
+    by_order : (k < n → IsTrue (list_any (λ x. x == k) (below n))) → IsTrue (n == k) ⊎ ((n == k) ≡ false) → IsTrue (list_any (λ x. x == k) (below n)) ⊎ IsTrue (n == k)
+    by_order before (inl here) = inr here
+    by_order before (inr apart) = let other : k < n = grind (arith, nat_tests, apart, less) in inl (before other)
+
+    by_last : (xs : List ℕ) → IsTrue (list_any (λ x. x == k) xs) ⊎ IsTrue (n == k) → IsTrue (list_any (λ x. x == k) (xs ++ n ∷ []))
+    by_last [] (inl none) = absurd (false≢true none)
+    by_last [] (inr here) = or_left (n == k) _ here
+    by_last (x ∷ xs) some = elim (cases_Bool (x == k)) as (λ _. IsTrue (list_any (λ y. y == k) (x ∷ xs ++ n ∷ []))) [
+      | inl first ↦ or_left (x == k) _ first
+      | inr later ↦ or_right (x == k) _ (by_last xs (elim some as (λ _. IsTrue (list_any (λ y. y == k) xs) ⊎ IsTrue (n == k)) [
+        | inl there ↦ inl (rw later at there)
+        | inr here ↦ inr here
+      ]))
+    ]
+
+-- what is left of the objects, of which nothing may keep those with koids below the bound
+pub record IsSwept (r r2 : Objects) (bound : ℕ) : Type 0 where
+  pub cascades : Cascades [] r.objects r2.objects
+  pub kept : AreKeptBut (below bound) r2.objects
+  pub koids : r2.next_koid ≡ r.next_koid
+
+pub none_swept : (ps : List Process) (r : Objects) → IsMaking ps [] r → IsSwept r r r.next_koid
 none_swept ps r making = record {
-  sound = making.sound;
-  keeps = record { kept = λ j o tight at. absurd (past j tight (making.sound.given_objects j (rw at refl))) };
-  leads = λ x settles. settles;
+  cascades = none_left r.objects;
+  kept = record { in_order = making.sound.objects_in_order; noted = λ k o at unkept. is_below k r.next_koid (making.sound.given_objects k (rw at refl)) };
+  koids = refl;
 }
-  where
-    past : (j : ℕ) → nat_lt j r.next_koid ≡ false → j < r.next_koid → ⊥
-    past j tight below = grind (arith, nat_tests, tight, below)
 
-pub one_swept : (ps : List Process) (r r2 : Objects) (k : ℕ) → IsSwept ps r r2 (k + 1) → IsSwept ps r (without_unheld r2 k) k
-one_swept ps r r2 k so_far =
-    let clear : IsCleared ps [] r2 so_far.sound (λ j. nat_lt j (k + 1)) so_far.keeps k (without_unheld r2 k) = cleared ps [] r2 so_far.sound (λ j. nat_lt j (k + 1)) so_far.keeps k in
+pub one_swept : (r r2 r3 : Objects) (k : ℕ) → IsSwept r r2 (k + 1) → Releases [] (k ∷ []) r2 r3 → IsSwept r r3 k
+one_swept r r2 r3 k so_far releases =
+    let next : k + 1 ≡ suc k = omega arith in
     record {
-      sound = clear.sound_left;
-      keeps = record { kept = λ j o tight at. clear.keeps_left.kept j o (behind j tight) at };
-      leads = λ x settles. so_far.leads x (clear.leads x settles);
+      cascades = cascades_then [] [] r.objects r2.objects r3.objects so_far.cascades releases.cascades;
+      kept = releases.keeps (below k) (subst (λ (n : ℕ). AreKeptBut (below n) r2.objects) next so_far.kept);
+      koids = releases.koids ∙ so_far.koids;
     }
-  where
-    behind : (j : ℕ) → nat_lt j k ≡ false → (nat_lt j (k + 1) && not (k == j)) ≡ false
-    behind j tight = grind (arith, nat_tests, tight)
 
-pub swept_lab : (ps : List Process) (r r2 : Objects) → IsSwept ps r r2 0 → IsConsistent ps r2
-swept_lab ps r r2 swept = lab_of ps r2 swept.sound (record { kept = λ j o tight at. swept.keeps.kept j o (none_below j) at })
-  where
-    none_below : (j : ℕ) → nat_lt j 0 ≡ false
-    none_below j = grind (arith, nat_tests)
-
-pub swept_settles : (ps : List Process) (r r2 : Objects) → IsSwept ps r r2 0 → Settles (world_value ps r) (world_value ps r2)
-swept_settles ps r r2 swept = settles_to ps r r2 (swept_lab ps r r2 swept) swept.leads
+pub all_swept : (ps : List Process) (r r2 : Objects) → IsMaking ps [] r → IsSwept r r2 0 → IsSettled ps r r2
+unfolding get
+all_swept ps r r2 making swept = settled ps [] r making.sound refl (λ v e at. absurd (none-some e at)) [] (λ k. refl) r2 swept.cascades swept.kept swept.koids

@@ -1,6 +1,6 @@
 -- One process more, with its handles: what was made goes on being what the definitions make.
-use Rattle.zl_calls.proofs.Common.{cases_Bool, eqb-true, eq-eqb, false≢true, ◌==◌, cond, if◌then◌else◌, ◌≡◌, ◌<◌, ◌≤◌, ◌+◌, ◌*◌, ◌^◌, ◌⊎◌, ℕ, zero, suc, Bool, true, false, List, [], ◌∷◌, ◌++◌, map, refl, sym, ap, ◌∙◌, subst, Option, Some, None, Result, Ok, Err, OnOk, ⊤, inl, inr, IsTrue, arith, length, is_some, slice_get, slice_set, list_any, sum_by, count_by, sum_by-cons, map-append, none-some, same_Some, nat_tests, Map, get, put, has_key, Cpu, State, Ready, ProcessBody, is_process, runs, state_passes, in_table, handles_to, Image, Library, Program, with_object, boot_fault, boot_effect, process_with, body_in, get-put, may_get_all, IsTable, sorted_put, put_key, Objects, new_object, with_new, is_job_at, is_job_in, process_entry, process_value, state_value, object_entry, object_value, world_value, IsNamed, AgreesOn, is_in_job, IsSound, IsMaking, root_job, root_alone, Makes, seen, IsBare, process_given, Gives, World, length-append, started_process, process_with_all, handles_given, with_process, started_cpu}
-use Rattle.zl_code.proofs.Common.{Process as ProcessValue, Object as ObjectValue, is_job_body}
+use Rattle.zl_calls.proofs.Common.{cases_Bool, eqb-true, eq-eqb, false≢true, ◌==◌, cond, if◌then◌else◌, ◌≡◌, ◌<◌, ◌≤◌, ◌+◌, ◌*◌, ◌^◌, ◌⊎◌, ℕ, zero, suc, Bool, true, false, List, [], ◌∷◌, ◌++◌, map, refl, sym, ap, ◌∙◌, subst, Option, Some, None, Result, Ok, Err, OnOk, ⊤, inl, inr, IsTrue, arith, length, is_some, slice_get, slice_set, list_any, sum_by, count_by, sum_by-cons, map-append, none-some, same_Some, nat_tests, Map, get, put, has_key, Cpu, State, Ready, ProcessBody, is_process, runs, state_passes, handles_to, Image, Library, Program, with_object, boot_fault, boot_effect, process_with, body_in, get-put, may_get_all, IsTable, sorted_put, put_key, Objects, new_object, with_new, is_job_at, is_job_in, process_entry, process_value, state_value, object_entry, object_value, world_value, IsNamed, Agrees, AreNamed, All, All-nil, lives, is_in_job, IsSound, IsMaking, root_alone, Makes, seen, IsBare, process_given, Gives, World, length-append, started_process, process_with_all, handles_given, with_process, started_cpu}
+use Rattle.zl_code.proofs.Common.{Process as ProcessValue, Object as ObjectValue, State as StateValue, is_job_body}
 use Rattle.std.specs.Result.{is_err}
 use Rattle.std.proofs.lemmas.List.Sums.{count_by-le-length, sum_by-append}
 use Rattle.zl_rights.specs.declared.entry.Entry.{Entry}
@@ -8,17 +8,23 @@ use Rattle.zl_code.specs.declared.boot.Grant.{Grant}
 use Rattle.zl_code.specs.declared.boot.Statement.TheVariants as statement
 use Rattle.zl_code.specs.Starting.{set_from, with_handles, cpu_given, blank_cpu, created_process, started_with}
 use Rattle.zl_code.proofs.CanStart.{CanStart, can_start, started_with_all, started_may_get}
-use Rattle.zl_calls.specs.declared.objects.Body.{Body}
-use Rattle.zl_calls.specs.declared.objects.Body.TheVariants as body
-use Rattle.zl_calls.specs.declared.objects.Object.{Object}
+use Rattle.zl_objects.specs.declared.object.Body.{Body}
+use Rattle.zl_objects.specs.declared.object.Body.TheVariants as body
+use Rattle.zl_objects.specs.declared.object.Object.{Object}
 use Rattle.zl_calls.specs.declared.process.Process.{Process}
+use Rattle.zl_calls.specs.declared.process.State.{State as OwnState}
 use Rattle.zl_calls.specs.declared.process.State.TheVariants as state
 use Rattle.zl_calls.specs.declared.booting.Made.{Made}
 use Rattle.zl_calls.proofs.BootFaults.{job_seen}
-use Rattle.zl_calls.proofs.Counting.{counted_any, no_queues}
-use Rattle.zl_calls.proofs.Grown.{never_named}
-use Rattle.zl_calls.proofs.Labs.{Found, any_found, has_seen}
-use Rattle.zl_calls.proofs.Updates.{put_last}
+use Rattle.zl_rights.specs.World.{Message}
+use Rattle.zl_objects.specs.Objects.{queue_of}
+use Rattle.zl_objects.proofs.ByKoid.{put_last}
+use Rattle.zl_objects.proofs.Found.{Found, any_found}
+use Rattle.zl_objects.proofs.Law.{has_seen}
+use Rattle.zl_objects.proofs.Sums.{counted_any}
+use Rattle.zl_calls.proofs.Counted.{never_named}
+use Rattle.zl_calls.proofs.Counting.{queues_grown}
+use Rattle.zl_calls.proofs.SameBodies.{still_agrees, still_named}
 
 -- ---- one process more
 
@@ -98,6 +104,7 @@ module _ (ps : List Process) (p : Process) (r : Objects) (making : IsMaking ps p
   still_in_job (body.Process j false) h = refl
   still_in_job (body.Process j true) h = job_grown j h
   still_in_job body.Event h = refl
+  still_in_job (body.ChannelEnd peer queue) h = refl
 
   -- ---- counts
 
@@ -107,10 +114,10 @@ module _ (ps : List Process) (p : Process) (r : Objects) (making : IsMaking ps p
       let tables : sum_by (λ (q : ℕ × ProcessValue). count_by (λ h. h.1.koid == j) q.1.handles) (map process_entry ps ++ process_entry p ∷ []) ≡ sum_by (λ (q : ℕ × ProcessValue). count_by (λ h. h.1.koid == j) q.1.handles) (map process_entry ps) + sum_by (λ (q : ℕ × ProcessValue). count_by (λ h. h.1.koid == j) q.1.handles) (process_entry p ∷ [])
       = sum_by-append (λ q. count_by (λ h. h.1.koid == j) q.1.handles) (map process_entry ps) (process_entry p ∷ []) in
       let one = sum_by-cons (λ (q : ℕ × ProcessValue). count_by (λ h. h.1.koid == j) q.1.handles) (process_entry p) [] in
-      rw (no_queues grown.objects j, no_queues r.objects j, map-append process_entry ps (p ∷ [])) (omega (arith, tables, one))
+      rw (map-append process_entry ps (p ∷ [])) (omega (arith, tables, one, queues_grown r (body.Process job true) 0 j refl))
 
   none_to_new : ◌≡◌ {A = ℕ} (handles_to (world_value after grown) n) 0
-  none_to_new = omega (arith, counts n, never_named ps r sound.processes_in_order sound.tables sound.named sound.given_objects, none_of_its_own)
+  none_to_new = omega (arith, counts n, never_named ps p.table.entries r sound n (λ there. omega (arith, sound.given_objects n there)), none_of_its_own)
     where
       named_new : IsTrue (list_any (λ h. h.1.koid == n) p.table.entries) → ⊥
       named_new some =
@@ -131,9 +138,17 @@ module _ (ps : List Process) (p : Process) (r : Objects) (making : IsMaking ps p
   unfolding is_process
   runs_new = rw (get_process n, eq-eqb n n refl) ready
 
-  runs_old : (j : ℕ) → (n == j) ≡ false → is_process (world_value after grown) runs j ≡ is_process (world_value ps r) runs j
+  lives_new : is_process (world_value after grown) lives n ≡ true
   unfolding is_process
-  runs_old j apart = rw (get_process j, apart) refl
+  lives_new = rw (get_process n, eq-eqb n n refl) (alive p.state ready)
+    where
+      alive : (s : OwnState) → runs (state_value s) ≡ true → lives (state_value s) ≡ true
+      alive state.Ready h = refl
+      alive (state.Ended code) h = absurd (false≢true h)
+
+  others_as_before : (j : ℕ) → (n == j) ≡ false → (test : StateValue → Bool) → is_process (world_value after grown) test j ≡ is_process (world_value ps r) test j
+  unfolding is_process
+  others_as_before j apart test = rw (get_process j, apart) refl
 
   below : {P : Type 0} {k : ℕ} → (k ≡ n) ⊎ P → (P → k < n) → k < n + 1
   below (inl same) old = omega (arith, same)
@@ -153,12 +168,15 @@ module _ (ps : List Process) (p : Process) (r : Objects) (making : IsMaking ps p
     ];
     tables = λ k q at. found_process (IsTable (record { entries = q.handles; last = q.last })) k q at (λ is. subst (λ (x : ProcessValue). IsTable (record { entries = x.handles; last = x.last })) is table) (sound.tables k q);
     named = λ k q v e at there. named_grown e (found_process (IsNamed r.objects e) k q at (λ is. names v e (ap (λ (x : ProcessValue). get x.handles v) is ∙ there)) (λ old. sound.named k q v e old there));
+    queued = λ j q at. found_object (AreNamed grown.objects (queue_of q.body)) j q at
+        (λ here is. subst (λ (x : Object). AreNamed grown.objects (queue_of x.body)) is (All-nil (λ (x : Message). All (IsNamed grown.objects) x.handles)))
+        (λ apart old. still_named r.objects grown.objects named_grown (queue_of q.body) (sound.queued j q old));
     counted = λ j q at. found_object (q.handles ≡ handles_to (world_value after grown) j + 0) j q at
         (λ here is. let same : n ≡ j = eqb-true n j here in omega (arith, ap (λ (x : Object). x.handles) is, subst (λ (i : ℕ). ◌≡◌ {A = ℕ} (handles_to (world_value after grown) i) 0) same none_to_new))
         (λ apart old. omega (arith, sound.counted j q old, counts j));
-    agrees = λ j q at. found_object (AgreesOn q.body (is_process (world_value after grown) runs j)) j q at
-        (λ here is. subst (λ (x : Object). AgreesOn x.body (is_process (world_value after grown) runs j)) is (sym (ap (is_process (world_value after grown) runs) (sym (eqb-true n j here)) ∙ runs_new)))
-        (λ apart old. rw (runs_old j apart) (sound.agrees j q old));
+    agrees = λ j q at. found_object (Agrees (world_value after grown) j q.body) j q at
+        (λ here is. subst (λ (i : ℕ). Agrees (world_value after grown) i q.body) (eqb-true n j here) (subst (λ (x : Object). Agrees (world_value after grown) n x.body) is (record { running = sym runs_new; living = sym lives_new })))
+        (λ apart old. still_agrees (world_value ps r) (world_value after grown) j q.body (others_as_before j apart) (sound.agrees j q old));
     in_jobs = λ j q at. found_object (IsTrue (is_in_job grown.objects q.body)) j q at
         (λ here is. subst (λ (x : Object). IsTrue (is_in_job grown.objects x.body)) is (job_grown job in_job))
         (λ apart old. still_in_job q.body (sound.in_jobs j q old));
@@ -272,6 +290,9 @@ makes lib before mid after job program word gs image p p2 there fine begun gives
 
 -- ---- the root job alone
 
+abbrev root_job : Object
+root_job = new_object body.RootJob 0
+
 pub starts_making : IsMaking [] [] root_alone
 unfolding get is_process handles_to
 starts_making = record {
@@ -285,8 +306,9 @@ starts_making = record {
     no_zero = λ k there. root (λ j o. 0 < j) (omega arith) k (get root_alone.objects k) refl there;
     tables = λ k q at. absurd (none-some q at);
     named = λ k q v e at there. absurd (none-some q at);
+    queued = λ k o at. found (λ j x. AreNamed root_alone.objects (queue_of x.body)) (All-nil (λ (x : Message). All (IsNamed root_alone.objects) x.handles)) k o at;
     counted = λ k o at. found (λ j x. x.handles ≡ handles_to (world_value [] root_alone) j + 0) refl k o at;
-    agrees = λ k o at. found (λ j x. AgreesOn x.body (is_process (world_value [] root_alone) runs j)) refl k o at;
+    agrees = λ k o at. found (λ j x. Agrees (world_value [] root_alone) j x.body) refl k o at;
     in_jobs = λ k o at. found (λ j x. IsTrue (is_in_job root_alone.objects x.body)) refl k o at;
   };
   few = λ k. omega arith;

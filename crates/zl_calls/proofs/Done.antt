@@ -1,5 +1,5 @@
 -- That a call is done: it is a step, and the invariant holds afterwards.
-use Rattle.zl_calls.proofs.Common.{◌≡◌, ℕ, Bool, List, [], map, ap, sym, ◌∙◌, subst, Option, Result, Ok, Err, Ready, Library, Site, refusal, Step, AtCall, next_for, Calls, grows, replied, taken, Handles, Objects, Does, Replies, status_of, values_of, process_entry, process_value, object_entry, state_value, world_value, IsConsistent, World}
+use Rattle.zl_calls.proofs.Common.{◌≡◌, ℕ, Bool, List, [], ap, sym, ◌∙◌, subst, Option, Result, Ok, Err, Ready, Library, Site, refusal, Step, AtCall, next_for, Calls, grows, replied, taken, Handles, Objects, Does, Replies, status_of, values_of, process_value, state_value, world_value, IsConsistent, World}
 use Rattle.zl_rights.specs.declared.status.Status.{Status}
 use Rattle.zl_rights.specs.declared.status.Status.TheVariants as status
 use Rattle.zl_code.specs.declared.history.CallName.{CallName}
@@ -8,9 +8,9 @@ use Rattle.zl_code.specs.declared.history.Outcome.TheVariants as outcome
 use Rattle.zl_code.specs.declared.history.TraceItem.TheVariants as item
 use Rattle.zl_calls.specs.declared.process.Process.{Process}
 use Rattle.zl_calls.proofs.Answered.{IsWrite, same_world}
-use Rattle.zl_calls.proofs.Labs.{all_held, call_settles, started}
-use Rattle.zl_calls.proofs.Quiet.{settles_itself}
+use Rattle.zl_calls.proofs.Labs.{call_settles}
 use Rattle.zl_calls.proofs.Refused.{answers, refused_calls}
+use Rattle.zl_calls.proofs.Settled.{still_settles}
 use Rattle.zl_calls.proofs.Written.{refusal_keeps}
 
 -- the call is a step, and the invariant holds afterwards
@@ -33,7 +33,7 @@ module _ (lib : Library) (before after : List Process) (r r2 : Objects) (p p2 : 
   pub called_done : (ends : Outcome) → IsCalled lib before after r r2 p.pid s ends → IsDone lib before after r r2 p.pid call ends
   called_done ends called = record {
     step = call_settles lib before after r r2 r2 p call s ends write.there ready next called.calls
-        (settles_itself (map process_entry after) (map object_entry r2.objects) r2.next_koid (started after) (all_held after r2 called.keeps));
+        (still_settles after r2 called.keeps);
     lab = called.keeps;
   }
 

@@ -1,5 +1,5 @@
 -- The calls on events, event_create and signal, each from its table and objects to a step.
-use Rattle.zl_calls.proofs.Common.{◌≡◌, ◌+◌, ◌^◌, ℕ, Bool, true, false, not, ◌&&◌, ◌==◌, List, [], ◌∷◌, map, refl, sym, ap, ◌∙◌, cond, Option, Some, None, IsTrue, nat_le, if◌then◌else◌, map-append, then_some, first_some, Map, get, put, Ready, EventBody, Library, Site, site, event_create, examined, has_room, has_koids, handles_to, table_of, answer_if, row_of, refusal, handle_operands, listed, may_choose, new_handles, insert_all, remove_all, taken_handles, effect, with_effect, with_object, gives_ok, AtCall, next_for, Values, replied, taken, Ok, Err, ⊤, option_or, bits, within, SIGNAL, kind_of, signal, body_of, body_in, operand_of, by_look_up, operand, any, cpu_answered, new_entry, on_object, object_changed, Objects, new_object, with_new, raised_changed, changing, IsAnswered, one_value, Replies, has_room_in, no_value, process_entry, process_value, object_entry, state_value, world_value, object_value, body_value, IsConsistent, IsNamed, koid_in, settable_of, may_change, World}
+use Rattle.zl_calls.proofs.Common.{◌≡◌, ◌+◌, ◌^◌, ℕ, Bool, true, false, not, ◌&&◌, ◌==◌, List, [], ◌∷◌, map, refl, sym, ap, ◌∙◌, cond, Option, Some, None, IsTrue, nat_le, if◌then◌else◌, map-append, then_some, first_some, Map, get, put, Ready, EventBody, Library, Site, site, event_create, examined, has_room, has_koids, handles_to, table_of, answer_if, row_of, refusal, handle_operands, listed, may_choose, new_handles, insert_all, remove_all, taken_handles, effect, with_effect, with_object, gives_ok, AtCall, next_for, Values, replied, taken, Ok, Err, ⊤, option_or, bits, within, SIGNAL, kind_of, signal, body_of, body_in, operand_of, by_look_up, operand, any, cpu_answered, new_entry, on_object, object_changed, Objects, new_object, with_new, raised_changed, changing, IsAnswered, one_value, Replies, has_room_in, no_value, process_entry, process_value, object_entry, state_value, world_value, object_value, body_value, IsConsistent, IsNamed, koid_in, runs, settable_of, may_change, World}
 use Rattle.zl_code.proofs.Common.{Object as ObjectValue}
 use Rattle.zl_rights.specs.declared.kind.Kind.TheVariants as kind
 use Rattle.zl_rights.specs.declared.status.Status.TheVariants as status
@@ -8,19 +8,22 @@ use Rattle.zl_rights.specs.declared.policy.Condition.TheVariants as condition
 use Rattle.zl_code.specs.declared.history.CallName.{CallName}
 use Rattle.zl_code.specs.declared.history.Outcome.{Outcome}
 use Rattle.zl_code.specs.declared.history.Outcome.TheVariants as outcome
-use Rattle.zl_calls.specs.declared.objects.Body.{Body}
-use Rattle.zl_calls.specs.declared.objects.Body.TheVariants as body
-use Rattle.zl_calls.specs.declared.objects.Object.{Object}
+use Rattle.zl_objects.specs.declared.object.Body.{Body}
+use Rattle.zl_objects.specs.declared.object.Body.TheVariants as body
+use Rattle.zl_objects.specs.declared.object.Object.{Object}
 use Rattle.zl_calls.specs.declared.process.Process.{Process}
 use Rattle.zl_calls.specs.calls.Event.{CreatesEvent, EventCreateDoes, event_refusal, SignalsObject, SignalDoes, signal_refusal, signal_refusal_of, settable_at, may_change_at}
 use Rattle.zl_calls.proofs.Answered.{IsWrite, table_is, may_get_inserted, replied_inserted, replied_with}
 use Rattle.zl_calls.proofs.Done.{IsDone, IsCalled, answered_done}
 use Rattle.zl_calls.proofs.Grown.{grown_next, there_grown}
-use Rattle.zl_calls.proofs.Labs.{no_policy, given, get_seen}
+use Rattle.zl_calls.proofs.Counting.{queues_grown, queues_updated}
+use Rattle.zl_calls.proofs.Labs.{no_policy, given}
 use Rattle.zl_calls.proofs.Refused.{NoPolicy, answers, may_create, fault_answers}
-use Rattle.zl_calls.proofs.Updates.{put_last, update_seen, update_itself}
+use Rattle.zl_calls.proofs.Updates.{update_seen, update_itself}
 use Rattle.zl_calls.proofs.Written.{IsNext, keeps_inserted, inserted_counts, keeps_table, same_counts, updated_next}
-use Rattle.zl_calls.proofs.SameBodies.{alone_updated}
+use Rattle.zl_objects.proofs.Bodies.{alone_updated}
+use Rattle.zl_objects.proofs.ByKoid.{put_last}
+use Rattle.zl_objects.proofs.Law.{get_seen, kept_all}
 
 -- ---- the answer of event_create
 
@@ -42,6 +45,7 @@ settable_named os e named = rw (get_seen os e.koid, named.there, named.kind) (by
     by_body body.RootJob = refl
     by_body (body.Process job lives) = refl
     by_body body.Event = refl
+    by_body (body.ChannelEnd peer queue) = refl
 
 module _ (lib : Library) (w : World) (free : NoPolicy w) (p : ℕ) where
   abbrev signal_with : ℕ → ℕ → Option Entry → Option Outcome
@@ -111,7 +115,7 @@ module _ (lib : Library) (before after : List Process) (r r2 : Objects) (p p2 : 
       -- ---- the invariant
 
       create_counts : (j : ℕ) → handles_to (world_value after grown) j ≡ handles_to (world_value before r) j + cond (n == j) 1 0
-      create_counts = inserted_counts before after p p2 write entry made creates.inserts r grown
+      create_counts j = inserted_counts before after p p2 write entry made creates.inserts r grown j (queues_grown r body.Event 1 j refl)
 
       entry_named : IsNamed grown.objects entry
       entry_named = record { object = fresh; there = there_grown before r lab body.Event; kind = refl; rights = refl }
@@ -120,7 +124,7 @@ module _ (lib : Library) (before after : List Process) (r r2 : Objects) (p p2 : 
       unfolding gives_ok
       event_create_called = record {
         calls = (Values (made ∷ []), rw (create_refused, creates.unrefused) (create_chosen, refl, create_ends));
-        keeps = rw creates.objects (keeps_inserted before after p p2 write entry made creates.inserts r grown lab (ap (λ (q : Process). q.state) replies) creates.room entry_named (grown_next before r lab body.Event after (λ j. refl) refl refl creates.koid create_counts));
+        keeps = rw creates.objects (keeps_inserted before after p p2 write entry made creates.inserts r grown lab (ap (λ (q : Process). q.state) replies) creates.room entry_named (grown_next before r lab body.Event after (λ j. refl) (λ not. not runs) refl refl creates.koid create_counts));
       }
 
     -- ---- the step
@@ -174,13 +178,13 @@ module _ (lib : Library) (before after : List Process) (r r2 : Objects) (p p2 : 
       same_body o = refl
 
       signal_counts : (j : ℕ) → handles_to (world_value after (changing r k clear set)) j ≡ handles_to w j
-      signal_counts j = same_counts before after p p2 write r (changing r k clear set) j signals.table
+      signal_counts j = same_counts before after p p2 write r (changing r k clear set) j (queues_updated change same_body r.objects k j) signals.table
 
       next : IsNext before after r (changing r k clear set)
       next = updated_next before after r lab k change same_body
           (λ j o old here. lab.counted j o old ∙ sym (signal_counts j))
           (λ j o old apart. lab.counted j o old ∙ sym (signal_counts j))
-          (λ j o old here. rw (alone_updated change same_body r.objects k j o.body) (lab.kept j o old))
+          (λ j o old here. rw (alone_updated change same_body r.objects k j o.body) (kept_all r.objects lab.kept j o old))
 
       signal_called : IsCalled lib before after r r2 p.pid signal_site (outcome.Answered status.Ok)
       unfolding effect gives_ok new_handles insert_all remove_all taken_handles handle_operands row_of

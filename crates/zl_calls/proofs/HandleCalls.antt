@@ -1,5 +1,5 @@
 -- The calls on handles, close and dup, each from its table and objects to a step.
-use Rattle.zl_calls.proofs.Common.{◌≡◌, ◌+◌, ℕ, Bool, true, false, ◌==◌, List, [], ◌∷◌, refl, sym, ap, ◌∙◌, subst, cond, Option, Some, None, inl, inr, ◌⊎◌, IsTrue, arith, eq-eqb, bit_and, ◌||◌, if◌then◌else◌, is_some, count_by, sum_by-cons, cases_Bool, false≢true, none-some, first_some, bits, within, Map, get, has_key, without, Ready, Settles, Library, Site, site, close, table_of, operand_of, operand, examined, any, row_of, refusal, handle_operands, listed, on_process, process_without, may_choose, new_handles, remove_all, taken_handles, insert_all, effect, gives_ok, AtCall, next_for, Calls, Values, Refused, replied, taken, cpu_answered, ◌^◌, not, map, Ok, Err, nat_le, nat_lt, eqb-true, or_left, nat_tests, then_some, option_or, narrowed, default_rights_of, DUPLICATE, is_empty, dup, by_look_up, has_room, handles_to, entry_at, copy_of, with_rights, answer_if, with_effect, get-update, Handles, IsTable, get-without, sorted_without, length-without, Objects, released, has_place, held_once_more, holding, IsAnswered, no_value, Replies, status_of, one_value, has_room_in, process_value, state_value, world_value, process_entry, object_value, IsConsistent, IsNamed, koid_in, World, and_le_r}
+use Rattle.zl_calls.proofs.Common.{◌≡◌, ◌+◌, ℕ, Bool, true, false, ◌==◌, List, [], ◌∷◌, refl, sym, ap, ◌∙◌, subst, cond, Option, Some, None, inl, inr, ◌⊎◌, IsTrue, arith, eq-eqb, bit_and, ◌||◌, if◌then◌else◌, is_some, count_by, sum_by-cons, cases_Bool, false≢true, none-some, same_Some, first_some, bits, within, Map, get, has_key, without, Ready, Library, Site, site, close, table_of, operand_of, operand, examined, any, row_of, refusal, handle_operands, listed, on_process, process_without, may_choose, new_handles, remove_all, taken_handles, insert_all, effect, gives_ok, AtCall, next_for, Calls, Values, Refused, replied, taken, cpu_answered, ◌^◌, not, map, Ok, Err, nat_le, nat_lt, eqb-true, or_left, nat_tests, then_some, option_or, narrowed, default_rights_of, DUPLICATE, is_empty, dup, by_look_up, has_room, handles_to, entry_at, copy_of, with_rights, answer_if, with_effect, get-update, Handles, IsTable, get-without, sorted_without, length-without, Objects, Releases, has_place, held_once_more, holding, IsAnswered, no_value, Replies, status_of, one_value, has_room_in, process_value, state_value, world_value, process_entry, object_value, IsConsistent, IsNamed, koid_in, World, and_le_r}
 use Rattle.zl_code.proofs.Common.{Object as ObjectValue}
 use Rattle.zl_rights.specs.declared.status.Status.{Status}
 use Rattle.zl_rights.specs.declared.status.Status.TheVariants as status
@@ -9,18 +9,17 @@ use Rattle.zl_code.specs.declared.history.CallName.{CallName}
 use Rattle.zl_code.specs.declared.history.Outcome.{Outcome}
 use Rattle.zl_code.specs.declared.history.Outcome.TheVariants as outcome
 use Rattle.zl_calls.specs.declared.process.Process.{Process}
-use Rattle.zl_calls.specs.calls.Handle.{CloseDoes, close_answer, without_handle, closing, Dups, DupDoes, dup_refusal, dup_refusal_of}
+use Rattle.zl_calls.specs.calls.Handle.{CloseDoes, Closes, close_answer, without_handle, Dups, DupDoes, dup_refusal, dup_refusal_of}
 use Rattle.zl_calls.proofs.Answered.{IsWrite, table_is, replies_none, replied_with, may_get_inserted, replied_inserted}
-use Rattle.zl_calls.proofs.Closed.{IsClosed, one_closed, lab_of, settles_to}
 use Rattle.zl_calls.proofs.Done.{IsDone, IsCalled, answered_done}
 use Rattle.zl_calls.proofs.Labs.{no_policy, call_settles, handles_counted}
-use Rattle.zl_calls.proofs.MapsWithout.{count_without}
+use Rattle.zl_calls.proofs.Counting.{count_without, queues_updated}
 use Rattle.zl_calls.proofs.Refused.{NoPolicy, fault_answers, no_values, answers}
 use Rattle.zl_calls.proofs.Stopped.{sound_after}
-use Rattle.zl_calls.proofs.Unheld.{IsSound}
+use Rattle.zl_calls.proofs.Settled.{IsSettled, settled, still_settles}
 use Rattle.zl_calls.proofs.Written.{refusal_keeps, IsNext, keeps_inserted, inserted_counts, updated_next}
 use Rattle.zl_rights.proofs.Narrowed.{narrowed_within}
-use Rattle.zl_calls.specs.declared.objects.Object.{Object}
+use Rattle.zl_objects.specs.declared.object.Object.{Object}
 use Rattle.zl_calls.proofs.Updates.{update_unseen}
 
 no_bits : (n : ℕ) → IsTrue (within 0 n)
@@ -82,7 +81,7 @@ module _ (lib : Library) (before after : List Process) (r r2 : Objects) (p p2 : 
   -- ---- close
 
   module _ (h : ℕ) (consumed destinations : List ℕ)
-      (answer : Status) (is_answer : answer ≡ close_answer p.table.entries h) (table : p2.table ≡ without_handle p.table h) (objects : r2 ≡ closing r (get p.table.entries h))
+      (answer : Status) (is_answer : answer ≡ close_answer p.table.entries h) (table : p2.table ≡ without_handle p.table h) (objects : Closes (get p.table.entries h) r r2)
       (replies : Replies (site (close h) consumed destinations) answer [] p p2) where
     -- ---- the relation of calls
 
@@ -122,14 +121,11 @@ module _ (lib : Library) (before after : List Process) (r r2 : Objects) (p p2 : 
 
     -- ---- the step
 
-    abbrev IsClosedTo : Objects → Type 0
-    IsClosedTo r2 = IsConsistent after r2 × Settles (world_value after r) (world_value after r2)
-
     state_same : p2.state ≡ p.state
     state_same = ap (λ (q : Process). q.state) replies
 
-    closes_none : get p.table.entries h ≡ None → IsClosedTo r
-    closes_none missing = (kept, settles_to after r r kept (λ x settles. settles))
+    closes_none : get p.table.entries h ≡ None → IsSettled after r r
+    closes_none missing = record { lab = kept; settles = still_settles after r kept }
       where
         kept : IsConsistent after r
         kept = refusal_keeps before after p p2 write r lab (table ∙ rw missing refl) state_same
@@ -162,34 +158,31 @@ module _ (lib : Library) (before after : List Process) (r r2 : Objects) (p p2 : 
       fewer : (j : ℕ) → count_by (λ x. x.1.koid == j) p.table.entries ≡ count_by (λ x. x.1.koid == j) p2.table.entries + count_by (λ (x : ℕ × Entry). x.1.koid == j) ((h, e) ∷ [])
       fewer j = count_without (λ x. x.1.koid == j) p.table.entries h e old_table.sorted there ∙ rw entries_are (omega (arith, sum_by-cons (λ (x : ℕ × Entry). cond (x.1.koid == j) 1 0) (h, e) []))
 
-      closes_one : IsClosedTo (released r e.koid)
-      unfolding without get
-      closes_one =
-          let closed : IsClosed after (without ((h, e) ∷ []) h) r (released r e.koid)
-          = one_closed after ((h, e) ∷ []) r h e
+      closes_one : Releases (e.koid ∷ []) [] r r2 → IsSettled after r r2
+      unfolding get
+      closes_one releases =
+          settled after ((h, e) ∷ []) r
           (sound_after before after p p2 write r lab ((h, e) ∷ []) new_table fewer (λ v q at. lab.named p.pid (process_value p) v q write.there (left_there v q at)) state_same)
-          refl (record { kept = λ j o tight at. lab.kept j o at }) (rw (same h) refl) in
-          let kept : IsConsistent after (released r e.koid) = lab_of after (released r e.koid) (subst (λ (m : Map Entry). IsSound after m (released r e.koid)) gone closed.sound) closed.keeps in
-          (kept, settles_to after r (released r e.koid) kept closed.leads)
+          refl named_left (e.koid ∷ []) (λ k. refl) r2 releases.cascades (releases.keeps [] lab.kept) releases.koids
         where
-          same : (j : ℕ) → (j == j) ≡ true
-          same j = eq-eqb j j refl
+          named_left : (v : ℕ) (q : Entry) → get ((h, e) ∷ []) v ≡ Some q → IsNamed r.objects q
+          named_left v q at = elim (cases_Bool (h == v)) as (λ _. IsNamed r.objects q) [
+            | inl here ↦ subst (IsNamed r.objects) (same_Some e q (rw here at at)) (lab.named p.pid (process_value p) h e write.there there)
+            | inr apart ↦ absurd (none-some q (rw apart at at))
+          ]
 
-          gone : without ((h, e) ∷ []) h ≡ []
-          gone = rw (same h) refl
-
-    closes : IsClosedTo (closing r (get p.table.entries h))
-    closes = by_entry (get p.table.entries h) refl
+    closes : IsSettled after r r2
+    closes = by_entry (get p.table.entries h) refl objects
       where
-        by_entry : (o : Option Entry) → get p.table.entries h ≡ o → IsClosedTo (closing r o)
-        by_entry None missing = closes_none missing
-        by_entry (Some e) there = closes_one e there
+        by_entry : (o : Option Entry) → get p.table.entries h ≡ o → Closes o r r2 → IsSettled after r r2
+        by_entry None missing same = rw same (closes_none missing)
+        by_entry (Some e) there releases = closes_one e there releases
 
     close_answered : (ready : state_value p.state ≡ Ready) (call : CallName) → next_for lib (process_value p) ≡ AtCall call close_site → IsDone lib before after r r2 p.pid call (outcome.Answered answer)
-    close_answered ready call next = rw objects (record {
-      step = call_settles lib before after r r (closing r (get p.table.entries h)) p call close_site (outcome.Answered answer) write.there ready next calls closes.1;
-      lab = closes.0;
-    })
+    close_answered ready call next = record {
+      step = call_settles lib before after r r r2 p call close_site (outcome.Answered answer) write.there ready next calls closes.settles;
+      lab = closes.lab;
+    }
 
   pub close_done : (h : ℕ) (consumed destinations : List ℕ)
       → state_value p.state ≡ Ready → (call : CallName) → next_for lib (process_value p) ≡ AtCall call (site (close h) consumed destinations)
@@ -244,7 +237,7 @@ module _ (lib : Library) (before after : List Process) (r r2 : Objects) (p p2 : 
       }
 
       counts : (j : ℕ) → handles_to (world_value after (holding r k)) j ≡ handles_to w j + cond (k == j) 1 0
-      counts = inserted_counts before after p p2 write copy made dups.inserts r (holding r k)
+      counts j = inserted_counts before after p p2 write copy made dups.inserts r (holding r k) j (queues_updated held_once_more body_held r.objects k j)
 
       -- the object has place for one handle more
       one_more : (j : ℕ) (o : Object) → get r.objects j ≡ Some o → IsTrue (k == j) → (held_once_more o).handles ≡ o.handles + 1

@@ -1,10 +1,12 @@
 -- A change of one object that leaves its body as it is: what the invariant says of bodies stays.
-use Rattle.zl_calls.proofs.Common.{◌≡◌, ℕ, false, ◌||◌, ◌==◌, [], ◌∷◌, refl, sym, ap, ◌∙◌, Option, Some, None, inl, inr, IsTrue, if◌then◌else◌, list_any, option_map, cases_Bool, none-some, same_Some, Map, get, update, get-update, is_job_at, is_job_in, lives_below, stays_alone, IsNamed, is_in_job}
+use Rattle.zl_calls.proofs.Common.{◌≡◌, ℕ, Bool, false, ◌==◌, List, refl, sym, ◌∙◌, subst, Option, Some, None, inl, inr, IsTrue, if◌then◌else◌, option_map, cases_Bool, none-some, same_Some, Map, get, update, get-update, false≢true, [], nat_cmp, is_sorted, is_kept, AreKeptBut, is_process, runs, lives, Agrees, AreNamed, IsNamed, World}
+use Rattle.zl_code.proofs.Common.{State as StateValue, slice_index_or}
 use Rattle.zl_rights.specs.declared.entry.Entry.{Entry}
-use Rattle.zl_calls.specs.declared.objects.Body.{Body}
-use Rattle.zl_calls.specs.declared.objects.Body.TheVariants as body
-use Rattle.zl_calls.specs.declared.objects.Object.{Object}
-use Rattle.zl_calls.specs.Objects.{has_living_child}
+use Rattle.zl_rights.specs.World.{Message}
+use Rattle.zl_objects.specs.declared.object.Body.{Body}
+use Rattle.zl_objects.specs.declared.object.Body.TheVariants as body
+use Rattle.zl_objects.specs.declared.object.Object.{Object}
+use Rattle.zl_objects.specs.Objects.{queue_of}
 
 -- an object afterwards is one that was there before, perhaps changed
 pub found_updated : (f : Object → Object) (os : Map Object) (k : ℕ) (A : Type 0) (j : ℕ) (q : Object) → get (update os k f) j ≡ Some q
@@ -20,37 +22,24 @@ found_updated f os k A j q at changed same =
     by_object None is here read = absurd (none-some q read)
     by_object (Some o) is here read = changed o is here (same_Some (f o) q read)
 
-module _ (f : Object → Object) (same : (o : Object) → (f o).body ≡ o.body) where
-  pub job_updated : (os : Map Object) (k j : ℕ) → is_job_at (update os k f) j ≡ is_job_at os j
-  job_updated os k j = ap is_job_in (get-update os k f j) ∙ elim (cases_Bool (k == j)) as (λ _. is_job_in (if k == j then option_map f (get os j) else get os j) ≡ is_job_in (get os j)) [
-    | inl here ↦ rw here (by_object (get os j))
-    | inr apart ↦ rw apart refl
-  ]
-    where
-      by_object : (o : Option Object) → is_job_in (option_map f o) ≡ is_job_in o
-      by_object None = refl
-      by_object (Some o) = rw (same o) refl
+-- where something keeps each object
+pub kept_each : (m : Map Object) → IsTrue (is_sorted nat_cmp m) → ((k : ℕ) (o : Object) → get m k ≡ Some o → IsTrue (is_kept m k o)) → AreKeptBut [] m
+kept_each m in_order each = record { in_order = in_order; noted = λ k o at unkept. absurd (false≢true (sym unkept ∙ each k o at)) }
 
-  pub child_updated : (os : Map Object) (k job : ℕ) → has_living_child (update os k f) job ≡ has_living_child os job
-  unfolding update has_living_child
-  child_updated [] k job = refl
-  child_updated (e ∷ os) k job = elim (cases_Bool (e.0 == k)) as (λ _. list_any (λ x. lives_below job x.1.body) (update (e ∷ os) k f) ≡ list_any (λ x. lives_below job x.1.body) (e ∷ os)) [
-    | inl here ↦ rw (here, same e.1) refl
-    | inr apart ↦ rw apart (ap (λ b. lives_below job e.1.body || b) (child_updated os k job))
-  ]
+-- an object says the same of its process where that passes the same tests
+pub still_agrees : (w w2 : World) (k : ℕ) (b : Body) → ((test : StateValue → Bool) → is_process w2 test k ≡ is_process w test k) → Agrees w k b → Agrees w2 k b
+still_agrees w w2 k body.RootJob same agrees = same runs ∙ agrees
+still_agrees w w2 k (body.Process job alive) same agrees = record { running = agrees.running ∙ sym (same runs); living = agrees.living ∙ sym (same lives) }
+still_agrees w w2 k body.Event same agrees = same runs ∙ agrees
+still_agrees w w2 k (body.ChannelEnd peer queue) same agrees = same runs ∙ agrees
 
-  pub alone_updated : (os : Map Object) (k j : ℕ) (b : Body) → stays_alone (update os k f) j b ≡ stays_alone os j b
-  alone_updated os k j body.RootJob = child_updated os k j
-  alone_updated os k j (body.Process job lives) = refl
-  alone_updated os k j body.Event = refl
+-- what names objects before, names them after
+pub still_named : (os os2 : Map Object) → ((e : Entry) → IsNamed os e → IsNamed os2 e) → (queue : List Message) → AreNamed os queue → AreNamed os2 queue
+still_named os os2 keep queue all = λ n m within i e inside. keep (slice_index_or (slice_index_or queue n m).handles i e) (all n m within i e inside)
 
-  pub in_job_updated : (os : Map Object) (k : ℕ) (b : Body) → is_in_job (update os k f) b ≡ is_in_job os b
-  in_job_updated os k body.RootJob = refl
-  in_job_updated os k (body.Process job lives) = rw (job_updated os k job) refl
-  in_job_updated os k body.Event = refl
-
-  pub named_updated : (os : Map Object) (k : ℕ) (e : Entry) → IsNamed os e → IsNamed (update os k f) e
-  named_updated os k e named = elim (cases_Bool (k == e.koid)) as (λ _. IsNamed (update os k f) e) [
+module _ (f : Object → Object) (same : (o : Object) → (f o).body ≡ o.body) (os : Map Object) (k : ℕ) where
+  pub named_updated : (e : Entry) → IsNamed os e → IsNamed (update os k f) e
+  named_updated e named = elim (cases_Bool (k == e.koid)) as (λ _. IsNamed (update os k f) e) [
     | inl here ↦ record {
       object = f named.object;
       there = rw (get-update os k f e.koid, here, named.there) refl;
@@ -64,3 +53,9 @@ module _ (f : Object → Object) (same : (o : Object) → (f o).body ≡ o.body)
       rights = named.rights;
     }
   ]
+
+  -- the same of the handles in queues
+  pub queued_updated : ((j : ℕ) (o : Object) → get os j ≡ Some o → AreNamed os (queue_of o.body)) → (j : ℕ) (q : Object) → get (update os k f) j ≡ Some q → AreNamed (update os k f) (queue_of q.body)
+  queued_updated queued j q at = found_updated f os k (AreNamed (update os k f) (queue_of q.body)) j q at
+      (λ o old here is. subst (λ (x : Object). AreNamed (update os k f) (queue_of x.body)) is (rw (same o) (still_named os (update os k f) named_updated (queue_of o.body) (queued j o old))))
+      (λ apart old. still_named os (update os k f) named_updated (queue_of q.body) (queued j q old))

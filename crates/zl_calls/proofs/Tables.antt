@@ -1,5 +1,5 @@
 -- Tables that handles enter and leave, and empty ones.
-use Rattle.zl_calls.proofs.Common.{false, ◌^◌, bit_and, ◌≡◌, ◌<◌, ◌≤◌, ℕ, [], ◌∷◌, length, Some, None, Result, Err, refl, sym, ap, ◌∙◌, arith, inl, inr, ◌==◌, if◌then◌else◌, cases_Bool, eqb-true, same_Some, Map, get, without, within, get-put, Handles, IsTable, Inserts, Drains, sorted_put, length-put_new, put_key, Objects, Closes, none_left, one_more, released, and_le_l}
+use Rattle.zl_calls.proofs.Common.{false, ◌^◌, bit_and, ◌≡◌, ◌<◌, ◌≤◌, ℕ, [], ◌∷◌, length, Some, None, Result, Err, refl, sym, ap, ◌∙◌, arith, inl, inr, ◌==◌, if◌then◌else◌, cases_Bool, eqb-true, same_Some, Map, get, without, within, get-put, Handles, IsTable, Inserts, Drains, sorted_put, length-put_new, put_key, Objects, Releases, Drained, and_le_l}
 use Rattle.zl_rights.specs.declared.entry.Entry.{Entry}
 use Rattle.zl_rights.specs.declared.kind.Kind.{Kind}
 use Rattle.zl_rights.specs.declared.kind.Kind.TheVariants as kind
@@ -7,6 +7,7 @@ use Rattle.zl_rights.specs.declared.status.Status.{Status}
 use Rattle.zl_rights.specs.declared.status.Status.TheVariants as status
 use Rattle.zl_rights.specs.LookUp.{looked_up}
 use Rattle.zl_calls.specs.calls.Handle.{without_handle}
+use Rattle.zl_calls.specs.calls.Process.{none_left, one_more}
 use Rattle.zl_calls.specs.calls.Event.{settable_at}
 
 length-without : {X : Type 0} (m : Map X) (k : ℕ) → length (without m k) ≤ length m
@@ -64,10 +65,10 @@ found_inserted A t e v t2 inserts value q at new old =
 
 -- ---- the handles of a table close
 
-pub drained_closes : (old : Handles) (e : Entry) (new : Handles) (r mid r2 : Objects) → Drains old e new → mid ≡ released r e.koid → Closes new.entries mid r2 → Closes old.entries r r2
-drained_closes old e new r mid r2 d is rest = one_more old.entries d.value e r r2 d.removes.was (rw (d.removes.entries, is) at rest)
+pub drained_closes : (old : Handles) (e : Entry) (new : Handles) (r mid r2 : Objects) → Drains old e new → Releases (e.koid ∷ []) [] r mid → Drained new.entries mid r2 → Drained old.entries r r2
+drained_closes old e new r mid r2 d first rest = one_more old.entries d.value e r mid r2 d.removes.was first (rw d.removes.entries at rest)
 
-pub all_closed : (t : Handles) (r : Objects) → t.entries ≡ [] → Closes t.entries r r
+pub all_closed : (t : Handles) (r : Objects) → t.entries ≡ [] → Drained t.entries r r
 all_closed t r none = rw none (none_left r)
 
 -- ---- sets of bits

@@ -1,5 +1,5 @@
--- Changes of one value of a map: two after another, none, at the end, and as they are seen from outside.
-use Rattle.zl_calls.proofs.Common.{◌≡◌, ◌<◌, ℕ, true, false, ◌==◌, [], ◌∷◌, ◌++◌, refl, sym, ap, ◌∙◌, cond, Some, inl, inr, IsTrue, map, eq-eqb, arith, is_some, cases_Bool, eqb-true, nat_tests, Map, get, put, update, has_key}
+-- Changes of one value of a map: two after another, none, and as they are seen from outside.
+use Rattle.zl_calls.proofs.Common.{◌≡◌, ℕ, true, false, ◌==◌, [], ◌∷◌, refl, sym, ap, ◌∙◌, inl, inr, map, eq-eqb, cases_Bool, eqb-true, Map, update}
 
 pub update_twice : {X : Type 0} (m : Map X) (k : ℕ) (f g : X → X) → update (update m k f) k g ≡ update m k (λ x. g (f x))
 unfolding update
@@ -32,18 +32,3 @@ module _ {X Y : Type 0} (seen : X → Y) where
   -- a change that what is seen doesn't tell
   pub update_unseen : (m : Map X) (k : ℕ) (f : X → X) → ((x : X) → seen (f x) ≡ seen x) → map seen_entry (update m k f) ≡ map seen_entry m
   update_unseen m k f same = update_seen m k f (λ y. y) same ∙ update_itself (map seen_entry m) k
-
--- a key above all others goes to the end
-pub put_last : {X : Type 0} (m : Map X) (k : ℕ) (v : X) → ((j : ℕ) → IsTrue (has_key m j) → j < k) → put m k v ≡ m ++ (k, v) ∷ []
-unfolding put get
-put_last [] k v below = refl
-put_last {X} (e ∷ m) k v below =
-    let first : e.0 < k = below e.0 (rw (same e.0) refl) in
-    let rest : put m k v ≡ m ++ (k, v) ∷ [] = put_last m k v (λ j there. below j (later j there)) in
-    grind (arith, nat_tests)
-  where
-    same : (j : ℕ) → (j == j) ≡ true
-    same j = eq-eqb j j refl
-
-    later : (j : ℕ) → IsTrue (has_key m j) → IsTrue (has_key (e ∷ m) j)
-    later j there = elim (e.0 == j) as (λ b. IsTrue (is_some (cond b (Some e.1) (get m j)))) [ true ↦ refl | false ↦ there ]

@@ -1,14 +1,17 @@
 -- A process of the list is written: the map by pids, and what the invariant says of processes.
-use Rattle.zl_calls.proofs.Common.{Option, None, ◌≡◌, ◌<◌, ◌≤◌, ◌+◌, ℕ, false, ◌==◌, List, map, length, get_or, set, refl, sym, ap, ◌∙◌, cond, Some, inl, inr, ◌⊎◌, ◌^◌, subst, IsTrue, arith, [], ◌∷◌, position, count_by, option_map, nat_cmp, is_sorted, cases_Bool, eqb-true, none-some, same_Some, slice_get-get_or, Map, get, update, has_key, is_process, runs, state_passes, handles_to, get-update, IsTable, Inserts, is_sorted-update, has_key-update, Objects, is_kept, process_entry, process_value, world_value, IsPlaceOf, IsConsistent, IsNamed, AgreesOn, is_in_job}
-use Rattle.zl_code.proofs.Common.{Process as ProcessValue}
+use Rattle.zl_calls.proofs.Common.{Option, None, ◌≡◌, ◌<◌, ◌≤◌, ◌+◌, ℕ, Bool, false, ◌==◌, List, map, length, get_or, set, refl, sym, ap, ◌∙◌, cond, Some, inl, inr, ◌⊎◌, ◌^◌, subst, IsTrue, arith, [], ◌∷◌, position, count_by, option_map, nat_cmp, is_sorted, cases_Bool, eqb-true, none-some, same_Some, slice_get-get_or, Map, get, update, has_key, is_process, state_passes, handles_to, get-update, IsTable, Inserts, is_sorted-update, has_key-update, Objects, AreKeptBut, is_kept, process_entry, process_value, world_value, IsPlaceOf, IsConsistent, AreNamed, IsNamed, Agrees, is_in_job}
+use Rattle.zl_code.proofs.Common.{Process as ProcessValue, State as StateValue}
 use Rattle.std.specs.Prelude.{MatchOption}
 use Rattle.zl_rights.specs.declared.entry.Entry.{Entry}
-use Rattle.zl_calls.specs.declared.objects.Object.{Object}
+use Rattle.zl_objects.specs.declared.object.Object.{Object}
+use Rattle.zl_objects.specs.Objects.{queue_of}
+use Rattle.zl_objects.proofs.Bodies.{alone_updated, in_job_updated}
+use Rattle.zl_objects.proofs.Law.{kept_all}
 use Rattle.zl_calls.specs.declared.process.Process.{Process}
 use Rattle.zl_calls.proofs.Answered.{IsWrite}
-use Rattle.zl_calls.proofs.Counting.{count_put, counts_written}
+use Rattle.zl_calls.proofs.Counting.{count_put, counts_written, queues}
 use Rattle.zl_calls.proofs.Positions.{IsFirst, first_at, get_first, get_missing, update_first}
-use Rattle.zl_calls.proofs.SameBodies.{found_updated, named_updated, alone_updated, in_job_updated}
+use Rattle.zl_calls.proofs.SameBodies.{found_updated, named_updated, queued_updated, kept_each, still_agrees, still_named}
 use Rattle.zl_calls.proofs.Tables.{inserted_table, found_inserted}
 
 pub write_at : (ps : List Process) (pid place : ℕ) (p p2 : Process) → Some place ≡ position (λ q. q.pid == pid) ps → p ≡ get_or ps place p → p2.pid ≡ p.pid → IsWrite ps (set ps place p2) p p2
@@ -39,16 +42,16 @@ place_is (p ∷ ps) pid (Some i) is =
 -- ---- what is new in the objects
 
 pub record IsNext (before after : List Process) (r r2 : Objects) : Type 0 where
-  pub objects_in_order : IsTrue (is_sorted nat_cmp r2.objects)
   pub next_koid : r.next_koid ≤ r2.next_koid
   pub given_objects : (k : ℕ) → IsTrue (has_key r2.objects k) → k < r2.next_koid
   pub koids : r2.next_koid ≤ 2 ^ 62
   pub no_zero : (k : ℕ) → IsTrue (has_key r2.objects k) → 0 < k
   pub named : (e : Entry) → IsNamed r.objects e → IsNamed r2.objects e
+  pub queued : (k : ℕ) (o : Object) → get r2.objects k ≡ Some o → AreNamed r2.objects (queue_of o.body)
   pub counted : (k : ℕ) (o : Object) → get r2.objects k ≡ Some o → o.handles ≡ handles_to (world_value after r2) k
-  pub agrees : (k : ℕ) (o : Object) → get r2.objects k ≡ Some o → AgreesOn o.body (is_process (world_value before r) runs k)
+  pub agrees : (k : ℕ) (o : Object) → get r2.objects k ≡ Some o → Agrees (world_value before r) k o.body
   pub in_jobs : (k : ℕ) (o : Object) → get r2.objects k ≡ Some o → IsTrue (is_in_job r2.objects o.body)
-  pub kept : (k : ℕ) (o : Object) → get r2.objects k ≡ Some o → IsTrue (is_kept r2.objects k o)
+  pub kept : AreKeptBut [] r2.objects
 
 -- ---- what is found afterwards
 
@@ -70,9 +73,9 @@ module _ (before after : List Process) (p p2 : Process) (write : IsWrite before 
     | inr apart ↦ old (rw (get_after k, apart) at at)
   ]
 
-  pub same_runs : p2.state ≡ p.state → (r r2 : Objects) (k : ℕ) → is_process (world_value after r2) runs k ≡ is_process (world_value before r) runs k
+  pub same_states : p2.state ≡ p.state → (r r2 : Objects) (k : ℕ) (test : StateValue → Bool) → is_process (world_value after r2) test k ≡ is_process (world_value before r) test k
   unfolding is_process
-  same_runs same r r2 k = elim (cases_Bool (p.pid == k)) as (λ _. state_passes runs (get (map process_entry after) k) ≡ state_passes runs (get (map process_entry before) k)) [
+  same_states same r r2 k test = elim (cases_Bool (p.pid == k)) as (λ _. state_passes test (get (map process_entry after) k) ≡ state_passes test (get (map process_entry before) k)) [
     | inl here ↦ rw (get_after k, here, ← eqb-true p.pid k here, write.there, same) refl
     | inr apart ↦ rw (get_after k, apart) refl
   ]
@@ -84,7 +87,6 @@ module _ (before after : List Process) (p p2 : Process) (write : IsWrite before 
       → IsConsistent after r2
   keeps r r2 lab state table named next = record {
     processes_in_order = rw (after_is, is_sorted-update (map process_entry before) p.pid (λ _. process_value p2)) lab.processes_in_order;
-    objects_in_order = next.objects_in_order;
     given_processes = λ k there. omega (arith, next.next_koid, lab.given_processes k (sym (has_key-update (map process_entry before) p.pid (λ _. process_value p2) k) ∙ (rw after_is at there)));
     given_objects = next.given_objects;
     koids = next.koids;
@@ -92,8 +94,9 @@ module _ (before after : List Process) (p p2 : Process) (write : IsWrite before 
     no_zero = next.no_zero;
     tables = λ k q at. found_after (IsTable (record { entries = q.handles; last = q.last })) k q at (λ is. subst (λ (x : ProcessValue). IsTable (record { entries = x.handles; last = x.last })) is table) (lab.tables k q);
     named = λ k q v e at there. found_after (IsNamed r2.objects e) k q at (λ is. named v e (ap (λ (x : ProcessValue). get x.handles v) is ∙ there)) (λ old. next.named e (lab.named k q v e old there));
+    queued = next.queued;
     counted = next.counted;
-    agrees = λ k o at. rw (same_runs state r r2 k) (next.agrees k o at);
+    agrees = λ k o at. still_agrees (world_value before r) (world_value after r2) k o.body (same_states state r r2 k) (next.agrees k o at);
     in_jobs = next.in_jobs;
     kept = next.kept;
   }
@@ -105,21 +108,21 @@ module _ (before after : List Process) (p p2 : Process) (write : IsWrite before 
       (λ v e at. next.named e (lab.named p.pid (process_value p) v e write.there (rw table at at)))
       next
 
-  pub same_counts : (r r2 : Objects) (k : ℕ) → p2.table ≡ p.table → handles_to (world_value after r2) k ≡ handles_to (world_value before r) k
-  same_counts r r2 k table =
+  pub same_counts : (r r2 : Objects) (k : ℕ) → queues r2.objects k ≡ queues r.objects k → p2.table ≡ p.table → handles_to (world_value after r2) k ≡ handles_to (world_value before r) k
+  same_counts r r2 k queued table =
       let none : count_by (λ h. h.1.koid == k) p2.table.entries ≡ count_by (λ h. h.1.koid == k) p.table.entries + 0 = rw table (omega arith) in
-      counts_written before after p p2 r r2 k 0 write none ∙ omega arith
+      counts_written before after p p2 r r2 k 0 write queued none ∙ omega arith
 
   -- the same where nothing but registers and the counter changes
   pub refusal_keeps : (r : Objects) → IsConsistent before r → p2.table ≡ p.table → p2.state ≡ p.state → IsConsistent after r
   refusal_keeps r lab table state = keeps_table r r lab state table (record {
-    objects_in_order = lab.objects_in_order;
     next_koid = omega arith;
     given_objects = lab.given_objects;
     koids = lab.koids;
     no_zero = lab.no_zero;
     named = λ e named. named;
-    counted = λ k o at. lab.counted k o at ∙ sym (same_counts r r k table);
+    queued = lab.queued;
+    counted = λ k o at. lab.counted k o at ∙ sym (same_counts r r k refl table);
     agrees = lab.agrees;
     in_jobs = lab.in_jobs;
     kept = lab.kept;
@@ -135,8 +138,8 @@ module _ (before after : List Process) (p p2 : Process) (write : IsWrite before 
         (λ old. next.named x (lab.named p.pid (process_value p) v x write.there old)))
         next
 
-    pub inserted_counts : (r r2 : Objects) (j : ℕ) → handles_to (world_value after r2) j ≡ handles_to (world_value before r) j + cond (e.koid == j) 1 0
-    inserted_counts r r2 j = counts_written before after p p2 r r2 j (cond (e.koid == j) 1 0) write
+    pub inserted_counts : (r r2 : Objects) (j : ℕ) → queues r2.objects j ≡ queues r.objects j → handles_to (world_value after r2) j ≡ handles_to (world_value before r) j + cond (e.koid == j) 1 0
+    inserted_counts r r2 j queued = counts_written before after p p2 r r2 j (cond (e.koid == j) 1 0) write queued
         (ap (λ (m : Map Entry). count_by (λ x. x.1.koid == j) m) inserts.entries ∙ count_put (λ x. x.1.koid == j) p.table.entries made e inserts.unused)
 
 -- ---- one object changes, but not what it is
@@ -150,22 +153,22 @@ module _ (before after : List Process) (r : Objects) (lab : IsConsistent before 
       → ((j : ℕ) (o : Object) → get r.objects j ≡ Some o → IsTrue (k == j) → IsTrue (is_kept updated.objects j (f o)))
       → IsNext before after r updated
   updated_next counted others kept = record {
-    objects_in_order = rw (is_sorted-update r.objects k f) lab.objects_in_order;
     next_koid = omega arith;
     given_objects = λ j there. lab.given_objects j (sym (has_key-update r.objects k f j) ∙ there);
     koids = lab.koids;
     no_zero = λ j there. lab.no_zero j (sym (has_key-update r.objects k f j) ∙ there);
     named = named_updated f same r.objects k;
+    queued = queued_updated f same r.objects k lab.queued;
     counted = λ j q at. found_updated f r.objects k (q.handles ≡ handles_to (world_value after updated) j) j q at
         (λ o old here is. ap (λ (x : Object). x.handles) (sym is) ∙ counted j o old here)
         (λ apart old. others j q old apart);
-    agrees = λ j q at. found_updated f r.objects k (AgreesOn q.body (is_process (world_value before r) runs j)) j q at
-        (λ o old here is. subst (λ (x : Object). AgreesOn x.body (is_process (world_value before r) runs j)) is (rw (same o) (lab.agrees j o old)))
+    agrees = λ j q at. found_updated f r.objects k (Agrees (world_value before r) j q.body) j q at
+        (λ o old here is. subst (λ (x : Object). Agrees (world_value before r) j x.body) is (rw (same o) (lab.agrees j o old)))
         (λ apart old. lab.agrees j q old);
     in_jobs = λ j q at. found_updated f r.objects k (IsTrue (is_in_job updated.objects q.body)) j q at
         (λ o old here is. subst (λ (x : Object). IsTrue (is_in_job updated.objects x.body)) is (rw (same o, in_job_updated f same r.objects k o.body) (lab.in_jobs j o old)))
         (λ apart old. rw (in_job_updated f same r.objects k q.body) (lab.in_jobs j q old));
-    kept = λ j q at. found_updated f r.objects k (IsTrue (is_kept updated.objects j q)) j q at
+    kept = kept_each updated.objects (rw (is_sorted-update r.objects k f) lab.kept.in_order) (λ j q at. found_updated f r.objects k (IsTrue (is_kept updated.objects j q)) j q at
         (λ o old here is. subst (λ (x : Object). IsTrue (is_kept updated.objects j x)) is (kept j o old here))
-        (λ apart old. rw (alone_updated f same r.objects k j q.body) (lab.kept j q old));
+        (λ apart old. rw (alone_updated f same r.objects k j q.body) (kept_all r.objects lab.kept j q old)));
   }

@@ -1,7 +1,6 @@
 pub mod Program
 pub mod Cpu
 pub mod World
-pub mod Objects
 pub mod calls
 pub mod Acted
 pub mod Consistent

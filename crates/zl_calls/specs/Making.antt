@@ -1,25 +1,17 @@
 -- What the statements of a boot make, before what isn't held is gone. No public clause cites this module.
-use Rattle.std.specs.Prelude.{ℕ, ◌≡◌, ◌+◌, ◌*◌, ◌^◌, ◌<◌, ◌≤◌, ◌==◌, IsTrue, List, [], ◌∷◌, length, map, Some}
+use Rattle.std.specs.Prelude.{ℕ, ◌≡◌, ◌+◌, ◌*◌, ◌^◌, ◌<◌, ◌≤◌, ◌==◌, IsTrue, List, length, map, Some}
 use Rattle.std.specs.List.{count_by}
 use Rattle.std.specs.Ordering.{nat_cmp}
 use Rattle.std.specs.FinMap.Entries.{is_sorted}
-use Rattle.zl_code.specs.Common.{Map, get, has_key, Process as ProcessValue, is_process, runs, handles_to}
+use Rattle.zl_code.specs.Common.{Map, get, has_key, Process as ProcessValue, handles_to}
 use Rattle.zl_rights.specs.declared.entry.Entry.{Entry}
 use Rattle.zl_table.specs.Table.{IsTable}
-use Rattle.zl_calls.specs.declared.objects.Body.TheVariants as body
-use Rattle.zl_calls.specs.declared.objects.Object.{Object}
+use Rattle.zl_objects.specs.declared.object.Object.{Object}
 use Rattle.zl_calls.specs.declared.process.Process.{Process}
-use Rattle.zl_calls.specs.Objects.{Objects, new_object}
+use Rattle.zl_objects.specs.Objects.{Objects, queue_of}
+use Rattle.zl_objects.specs.Seen.{Agrees, is_in_job}
 use Rattle.zl_calls.specs.World.{process_entry, world_value}
-use Rattle.zl_calls.specs.Consistent.{IsNamed, AgreesOn, is_in_job}
-
--- the root job without handles
-abbrev pub root_job : Object
-root_job = new_object body.RootJob 0
-
--- the root job alone
-abbrev pub root_alone : Objects
-root_alone = record { objects = (1, root_job) ∷ []; next_koid = 2 }
+use Rattle.zl_calls.specs.Consistent.{IsNamed, AreNamed}
 
 -- The invariant but for what keeps the objects, where the handles m are in no table and count all the same:
 -- they have left one, or are to enter that of a process which isn't there yet.
@@ -33,8 +25,9 @@ pub record IsSound (ps : List Process) (m : Map Entry) (r : Objects) : Type 0 wh
   pub no_zero : (k : ℕ) → IsTrue (has_key r.objects k) → 0 < k
   pub tables : (k : ℕ) (p : ProcessValue) → get (map process_entry ps) k ≡ Some p → IsTable (record { entries = p.handles; last = p.last })
   pub named : (k : ℕ) (p : ProcessValue) (v : ℕ) (e : Entry) → get (map process_entry ps) k ≡ Some p → get p.handles v ≡ Some e → IsNamed r.objects e
+  pub queued : (k : ℕ) (o : Object) → get r.objects k ≡ Some o → AreNamed r.objects (queue_of o.body)
   pub counted : (k : ℕ) (o : Object) → get r.objects k ≡ Some o → o.handles ≡ handles_to (world_value ps r) k + count_by (λ h. h.1.koid == k) m
-  pub agrees : (k : ℕ) (o : Object) → get r.objects k ≡ Some o → AgreesOn o.body (is_process (world_value ps r) runs k)
+  pub agrees : (k : ℕ) (o : Object) → get r.objects k ≡ Some o → Agrees (world_value ps r) k o.body
   pub in_jobs : (k : ℕ) (o : Object) → get r.objects k ≡ Some o → IsTrue (is_in_job r.objects o.body)
 
 -- what statements have made; the handles m are given to a process that isn't there yet

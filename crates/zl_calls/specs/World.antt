@@ -1,20 +1,18 @@
 -- What the definitions see of the world of this crate.
-use Rattle.std.specs.Prelude.{ℕ, ◌≡◌, ◌<◌, Bool, false, length, slice_get, List, [], map, Option, Some, None, if◌then◌else◌}
+use Rattle.std.specs.Prelude.{ℕ, ◌≡◌, ◌<◌, Bool, length, slice_get, List, [], map, Option, Some, None, if◌then◌else◌}
 use Rattle.std.specs.Option.{option_map}
-use Rattle.zl_code.specs.Common.{get, World as WorldValue, Process as ProcessValue, State as StateValue, Created, Ready, Blocked, Ended, Gone, Object as ObjectValue, Body as BodyValue, JobBody, ProcessBody, EventBody, is_ready, is_process, Library, local_effect, name_of, site_of, Next, AtCall, Moves, IsStuck, calls_at, next_for}
+use Rattle.zl_code.specs.Common.{get, World as WorldValue, Process as ProcessValue, State as StateValue, Created, Ready, Blocked, Ended, Gone, is_ready, is_process, Library, local_effect, name_of, site_of, Next, AtCall, Moves, IsStuck, calls_at, next_for}
 use Rattle.zl_code.specs.declared.history.CallName.{CallName}
 use Rattle.zl_code.specs.declared.history.ProcState.{ProcState}
 use Rattle.zl_code.specs.declared.history.ProcState.TheVariants as seen
 use Rattle.zl_code.specs.declared.instr.CallInstr.{CallInstr}
 use Rattle.zl_code.specs.declared.instr.LocalInstr.{LocalInstr}
 use Rattle.zl_code.specs.Steps.{moves}
-use Rattle.zl_calls.specs.declared.objects.Body.{Body}
-use Rattle.zl_calls.specs.declared.objects.Body.TheVariants as body
-use Rattle.zl_calls.specs.declared.objects.Object.{Object}
 use Rattle.zl_calls.specs.declared.process.State.{State}
 use Rattle.zl_calls.specs.declared.process.State.TheVariants as state
 use Rattle.zl_calls.specs.declared.process.Process.{Process}
-use Rattle.zl_calls.specs.Objects.{Objects}
+use Rattle.zl_objects.specs.Objects.{Objects}
+use Rattle.zl_objects.specs.Seen.{object_entry}
 
 -- the programs of a lab, and its world
 pub record World : Type 0 where
@@ -38,23 +36,9 @@ process_value p = record {
   last = p.table.last;
 }
 
--- what an object is; the root job has no parent, and no policy is set in it yet
-abbrev pub body_value : Body → BodyValue
-body_value body.RootJob = JobBody 0 1 [] false
-body_value (body.Process job lives) = ProcessBody job
-body_value body.Event = EventBody
-
--- an object; how many handles name it isn't seen
-abbrev pub object_value : Object → ObjectValue
-object_value o = record { body = body_value o.body; raised = o.raised.0 }
-
 -- a process of the world under its koid
 abbrev pub process_entry : Process → ℕ × ProcessValue
 process_entry p = (p.pid, process_value p)
-
--- an object of the world under its koid
-abbrev pub object_entry : ℕ × Object → ℕ × ObjectValue
-object_entry e = (e.0, object_value e.1)
 
 -- the world of these processes and objects; nothing blocks or waits yet
 abbrev pub world_value : List Process → Objects → WorldValue

@@ -7,18 +7,18 @@ ghost use Rattle.zl_rights.specs.Numbers.{within, default_rights_of};
 ghost use Rattle.zl_rights.specs.Settle.{Settles};
 ghost use Rattle.zl_code.specs.Boot.{IsBoot, FirstFault, MOST_ITEMS, MOST_GRANTS, MOST_PROCESSES, boot_fault, rights_given};
 ghost use Rattle.zl_calls.specs.Consistent.{IsConsistent};
-ghost use Rattle.zl_calls.specs.Making.{IsMaking, root_alone};
-ghost use Rattle.zl_calls.specs.Objects.{kind_at};
+ghost use Rattle.zl_objects.specs.Objects.{kind_at, root_alone};
+ghost use Rattle.zl_calls.specs.Making.{IsMaking};
 ghost use Rattle.zl_calls.specs.Makes.{Makes, seen, IsCauseOf, IsReached};
 ghost use Rattle.zl_calls.specs.Gives.{allowed, rights_if, IsBare, Gives};
 
 use crate::cpu::Cpu;
-use crate::objects::{Body, Objects};
 use crate::process::{Process, State};
 use crate::program::Library;
 use bitflags::Flags;
 use std::alloc::{AllocError, Global};
 use zl_code::{Boot, BootCause, BootFault, Grant, Grants, Image, Statement};
+use zl_objects::{Body, Objects};
 use zl_rights::{Entry, Kind, Koid, Rights};
 use zl_table::Table;
 

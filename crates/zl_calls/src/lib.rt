@@ -9,7 +9,6 @@
 mod booting;
 mod calls;
 mod cpu;
-mod objects;
 mod process;
 mod program;
 mod running;

@@ -12,13 +12,13 @@ ghost use Rattle.zl_calls.specs.Steps.{Performs, StepsTo, TakesStep, local_item,
 use crate::booting::{Made, booted};
 use crate::calls::process::end;
 use crate::cpu::Cpu;
-use crate::objects::Objects;
 use crate::process::Process;
 use crate::program::Library;
 use crate::stepping::{call_next, next_name, place_of, run_next};
 use std::alloc::Global;
 use std::marker::Model;
 use zl_code::{Boot, BootFault, CallName, Image, Outcome, ProcState, TraceItem};
+use zl_objects::Objects;
 use zl_rights::{Pid, Status};
 
 /// The code with which a stuck process ends (own profile).

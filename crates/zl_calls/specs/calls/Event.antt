@@ -12,8 +12,8 @@ use Rattle.zl_rights.specs.declared.signals.Signals.{Signals}
 use Rattle.zl_rights.specs.Numbers.{USER_SIGNALS}
 use Rattle.zl_code.specs.Effects.{new_entry}
 use Rattle.zl_table.specs.Table.{Handles, Inserts}
-use Rattle.zl_calls.specs.declared.objects.Body.TheVariants as body
-use Rattle.zl_calls.specs.Objects.{Objects, with_new, changing}
+use Rattle.zl_objects.specs.declared.object.Body.TheVariants as body
+use Rattle.zl_objects.specs.Objects.{Objects, with_new, changing}
 use Rattle.zl_calls.specs.calls.Answer.{Does, has_room_in}
 
 -- ---- event_create

@@ -1,5 +1,5 @@
 -- What calls on handles do: close and dup. No public clause cites this module.
-use Rattle.std.specs.Prelude.{ℕ, ◌≡◌, ◌<◌, IsTrue, true, ◌||◌, not, length, Option, Some, None, Result, ⊤, ◌==◌, if◌then◌else◌}
+use Rattle.std.specs.Prelude.{ℕ, ◌≡◌, ◌<◌, IsTrue, true, ◌||◌, not, [], ◌∷◌, length, Option, Some, None, Result, ⊤, ◌==◌, if◌then◌else◌}
 use Rattle.std.specs.Bool.{then_some}
 use Rattle.std.specs.Option.{option_or}
 use Rattle.zl_code.specs.Common.{bits, within, narrowed, DUPLICATE, Map, get, has_key, without, is_empty, with_rights}
@@ -8,8 +8,9 @@ use Rattle.zl_rights.specs.declared.status.Status.TheVariants as status
 use Rattle.zl_rights.specs.declared.entry.Entry.{Entry}
 use Rattle.zl_rights.specs.declared.rights.Rights.{Rights}
 use Rattle.zl_table.specs.Table.{Handles, Inserts}
-use Rattle.zl_calls.specs.declared.objects.Object.{Object}
-use Rattle.zl_calls.specs.Objects.{Objects, has_place, holding, released}
+use Rattle.zl_objects.specs.declared.object.Object.{Object}
+use Rattle.zl_objects.specs.Objects.{Objects, has_place, holding}
+use Rattle.zl_objects.specs.Release.{Releases}
 use Rattle.zl_calls.specs.calls.Answer.{Does, has_room_in, status_of}
 
 -- ---- close
@@ -22,16 +23,16 @@ close_answer entries value = if has_key entries value || value == 0 then status.
 abbrev pub without_handle : Handles → ℕ → Handles
 without_handle t value = if has_key t.entries value then record { entries = without t.entries value; last = Some value } else t
 
--- the objects after the handle, if there is one, has closed
-abbrev pub closing : Objects → Option Entry → Objects
-closing r None = r
-closing r (Some e) = released r e.koid
+-- the handle, if there is one, went from the objects
+abbrev pub Closes : Option Entry → Objects → Objects → Type 0
+Closes None r r2 = r2 ≡ r
+Closes (Some e) r r2 = Releases (e.koid ∷ []) [] r r2
 
 -- the handle at the value closes, if there is one
 pub record CloseDoes (value : ℕ) (t : Handles) (r : Objects) (answer : Result ⊤ Status) (t2 : Handles) (r2 : Objects) : Type 0 where
   pub answered : status_of answer ≡ close_answer t.entries value
   pub table : t2 ≡ without_handle t value
-  pub objects : r2 ≡ closing r (get t.entries value)
+  pub objects : Closes (get t.entries value) r r2
 
 -- ---- dup
 

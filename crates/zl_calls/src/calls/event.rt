@@ -5,8 +5,8 @@ ghost use Rattle.zl_rights.specs.Numbers.{within};
 ghost use Rattle.zl_calls.specs.calls.Event.{EventCreateDoes, SignalDoes, settable_at, signals_if};
 
 use crate::calls::{insert, look_up};
-use crate::objects::{Body, Objects};
 use bitflags::Flags;
+use zl_objects::{Body, Objects};
 use zl_rights::{Entry, HValue, Kind, Rights, Signals, Status};
 use zl_table::Table;
 
@@ -17,7 +17,7 @@ use zl_table::Table;
 pub fn event_create(table: &mut Table, objects: &mut Objects) -> Result<HValue, Status>
     ensures { EventCreateDoes table.old objects.old result table.new objects.new }
 {
-    if table.len() >= Table::CAPACITY || !objects.has_koid() {
+    if table.len() >= Table::CAPACITY || !objects.has_koids(1) {
         return Err(Status::NoResources);
     }
     let Ok(koid) = objects.create(Body::Event, 1) else {

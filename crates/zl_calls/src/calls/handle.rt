@@ -6,7 +6,7 @@ ghost use Rattle.zl_calls.specs.calls.Answer.{status_of};
 ghost use Rattle.zl_calls.specs.calls.Handle.{CloseDoes, DupDoes, without_handle};
 
 use crate::calls::{insert, look_up};
-use crate::objects::Objects;
+use zl_objects::Objects;
 use zl_rights::{Entry, HValue, Rights, Status, narrow};
 use zl_table::Table;
 

@@ -4,9 +4,9 @@ ghost use Rattle.std.specs.Prelude.{◌≡◌};
 ghost use Rattle.zl_code.specs.Effects.{signed_word};
 ghost use Rattle.zl_calls.specs.calls.Process.{Ends};
 
-use crate::objects::Objects;
 use crate::process::Process;
 use std::alloc::Global;
+use zl_objects::Objects;
 
 /// Ends the process with the code; its handles close, and what isn't held any more is gone.
 ///

@@ -16,7 +16,7 @@ unreachable-requires c =
 
 pub loop-number-preserved : goal.loop-number-preserved
 loop-number-preserved c =
-    rw (c.hold.ensures, c.give.ensures)
+    rw (c.hold.ensures.held, c.give.ensures)
     (turn_given c.args.handles.now c.loop-number.number no_grant c.args.self.now c.loop-number.self c.args.process.now c.loop-number.process c.loop-number-test.true c.loop-number.invariant
     c.requires.place c.requires.few c.in-Some.entry (sym c.handle.ensures ∙ c.in-Some.is) c.in-Ok.value c.insert.new.self (c.in-Ok.ensures {u = tt}).ok)
 

@@ -1,4 +1,4 @@
-use Rattle.zl_calls.proofs.Common.{◌≡◌, ◌∙◌, ap, sym, refl, arith, length, length-map, seen, process_entry, World}
+use Rattle.zl_calls.proofs.Common.{◌≡◌, ◌∙◌, ap, sym, refl, arith, length, length-map, nat_tests, seen, process_entry, World}
 use Rattle.zl_code.proofs.CanStart.{CanStart, can_start}
 use Rattle.zl_calls.specs.declared.process.State.TheVariants as state
 use Rattle.zl_calls.proofs.BootFaults.{rights_are}
@@ -20,12 +20,12 @@ give-requires-clause-may c =
     let can = can_start c.args.library.now (seen c.args.self.now) c.args.job c.args.program c.args.word c.args.handles.now ((c.in_ok-image.ensures {u = tt}).fault c.args.word) in
     sym (rights_are (seen c.args.self.now).objects c.args.handles.now can.known) ∙ can.rights
 
-pub create-requires : goal.create-requires
-create-requires c =
+pub create-requires-clause-koid : goal.create-requires-clause-koid
+create-requires-clause-koid c =
     let can = can_start c.args.library.now (seen c.args.self.now) c.args.job c.args.program c.args.word c.args.handles.now ((c.in_ok-image.ensures {u = tt}).fault c.args.word) in
     let gives = done _ _ (c.if-is_err.ensures {u = tt}).value c.give.ensures in
     let koid : c.give.new.self.objects.next_koid ≡ c.args.self.now.objects.next_koid = ap (λ (w : World). w.next_koid) gives.same in
-    omega (arith, koid, can.koid)
+    grind (arith, nat_tests, koid, can.koid)
 
 pub returns-clause-ok : goal.returns-clause-ok
 returns-clause-ok c =

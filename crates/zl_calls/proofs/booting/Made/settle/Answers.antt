@@ -1,5 +1,5 @@
 use Rattle.zl_calls.proofs.Common.{◌≡◌, ◌+◌, ◌-◌, ℕ, refl, arith}
-use Rattle.zl_calls.proofs.BootLab.{none_swept, one_swept, swept_lab, swept_settles}
+use Rattle.zl_calls.proofs.BootLab.{all_swept, none_swept, one_swept}
 use Rattle.zl_calls.proofs.booting.Made.settle.Goals as goal
 
 pub loop-koid-init : goal.loop-koid-init
@@ -12,16 +12,16 @@ pub loop-koid-preserved : goal.loop-koid-preserved
 loop-koid-preserved c =
     let koid : c.loop-koid.koid ≡ c.loop-koid.koid - 1 + 1 = omega (arith, c.loop-koid-test.true) in
     record {
-      swept = rw c.remove_unheld.ensures (one_swept c.args.self.now.processes.items c.args.self.now.objects c.loop-koid.self.objects (c.loop-koid.koid - 1) (rw koid at c.loop-koid.invariant.swept));
+      swept = one_swept c.args.self.now.objects c.loop-koid.self.objects c.remove_unheld.new.self (c.loop-koid.koid - 1) (rw koid at c.loop-koid.invariant.swept) c.remove_unheld.ensures.releases;
       processes = c.loop-koid.invariant.processes;
     }
 
 pub returns-clause-settles : goal.returns-clause-settles
 returns-clause-settles c =
     let all : ◌≡◌ {A = ℕ} c.loop-koid.koid 0 = omega (arith, c.loop-koid-test.false) in
-    rw c.loop-koid.invariant.processes (swept_settles c.args.self.now.processes.items c.args.self.now.objects c.loop-koid.self.objects (rw all at c.loop-koid.invariant.swept))
+    rw c.loop-koid.invariant.processes ((all_swept c.args.self.now.processes.items c.args.self.now.objects c.loop-koid.self.objects c.requires (rw all at c.loop-koid.invariant.swept)).settles)
 
 pub returns-clause-lab : goal.returns-clause-lab
 returns-clause-lab c =
     let all : ◌≡◌ {A = ℕ} c.loop-koid.koid 0 = omega (arith, c.loop-koid-test.false) in
-    rw c.loop-koid.invariant.processes (swept_lab c.args.self.now.processes.items c.args.self.now.objects c.loop-koid.self.objects (rw all at c.loop-koid.invariant.swept))
+    rw c.loop-koid.invariant.processes ((all_swept c.args.self.now.processes.items c.args.self.now.objects c.loop-koid.self.objects c.requires (rw all at c.loop-koid.invariant.swept)).lab)

@@ -1,9 +1,9 @@
-use Rattle.zl_calls.proofs.Common.{length, Objects, Closes}
+use Rattle.zl_calls.proofs.Common.{length, Objects, Drained}
 use Rattle.zl_calls.proofs.calls.process.end.Given as goal
 
 abbrev pub invariant-loop-entry : goal.invariant-loop-entry
 invariant-loop-entry l = record {
-  closes : (r2 : Objects) → Closes l.table.entries l.objects r2 → Closes l.initial.table.entries l.initial.objects r2;
+  closes : (r2 : Objects) → Drained l.table.entries l.objects r2 → Drained l.initial.table.entries l.initial.objects r2;
 }
 
 abbrev pub decreases-loop-entry : goal.decreases-loop-entry

@@ -1,5 +1,5 @@
 -- Which fault a statement of a boot has, from what the code tests.
-use Rattle.zl_calls.proofs.Common.{◌≡◌, ◌<◌, ◌≤◌, ◌&&◌, ◌||◌, ◌⊎◌, ℕ, Bool, true, false, not, List, [], ◌∷◌, ◌++◌, length, map, refl, sym, ap, ◌∙◌, false≢true, Option, Some, None, inl, inr, IsTrue, arith, or_left, or_right, and_parts, length-map, is_some, slice_get, nat_lt, nat_le, option_map, nat_tests, then_some, first_some, Map, get, has_key, Library, Program, body_in, boot_fault, has_default_rights, within, default_rights_of, rights_of, kind_of, ◌^◌, ◌==◌, bit_and, cases_Bool, eqb-true, list_all, Objects, body_value, object_entry, object_value, world_value, kind_in, kind_at, allowed, if_default, rights_if, World, and_le_l, rights_given, is_job, all_known, may_start_with, handle_given, handles_given, MOST_PROCESSES, MOST_KOIDS, MOST_GRANTS}
+use Rattle.zl_calls.proofs.Common.{◌≡◌, ◌<◌, ◌≤◌, ◌&&◌, ◌||◌, ◌⊎◌, ℕ, Bool, true, false, not, List, [], ◌∷◌, ◌++◌, length, map, refl, sym, ap, ◌∙◌, false≢true, Option, Some, None, inl, inr, IsTrue, arith, or_left, or_right, and_parts, is_some, slice_get, nat_lt, nat_le, option_map, nat_tests, then_some, first_some, Map, get, has_key, Library, Program, body_in, boot_fault, has_default_rights, within, default_rights_of, rights_of, kind_of, ◌^◌, bit_and, cases_Bool, eqb-true, list_all, Objects, body_value, object_entry, object_value, world_value, kind_in, kind_at, allowed, if_default, rights_if, World, and_le_l, rights_given, is_job, all_known, may_start_with, handle_given, handles_given, MOST_PROCESSES, MOST_KOIDS, MOST_GRANTS}
 use Rattle.zl_code.proofs.Common.{Object as ObjectValue, is_job_body}
 use Rattle.std.specs.Option.{option_to_list}
 use Rattle.std.proofs.lemmas.Option.{slice_get_past}

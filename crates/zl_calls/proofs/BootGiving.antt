@@ -1,6 +1,6 @@
 -- The handles of a statement enter the table of its process, one after another.
-use Rattle.zl_calls.proofs.Common.{◌≡◌, ◌<◌, ◌≤◌, ◌+◌, ◌*◌, ◌^◌, ◌&&◌, ◌==◌, ℕ, zero, suc, Bool, true, false, List, [], ◌∷◌, ◌++◌, map, length, get_or, take, take_more, take_all, refl, sym, ap, ◌∙◌, subst, cond, Option, Some, None, inl, inr, IsTrue, arith, nat_lt, is_some, count_by, slice_set, cases_Bool, eqb-true, false≢true, none-some, same_Some, and_parts, and_from, append-nil, nat_tests, within, bits, default_rights_of, kind_of, nat_cmp, Map, get, put, has_key, Cpu, is_process, runs, handles_to, body_in, has_default_rights, may_get, process_with, list_all, get-put, may_get_all, Handles, IsTable, Inserts, is_sorted-update, has_key-update, length-put_new, Objects, held_once_more, holding, process_value, object_entry, object_value, body_value, world_value, IsNamed, Agrees, is_in_job, IsSound, IsMaking, seen, allowed, if_default, IsBare, process_given, Gives, World, length-append, length-take-le, all_known, handle_given, handles_given, process_with_all, register_set, handle_register, option_map, then_some}
-use Rattle.zl_code.proofs.Common.{Process as ProcessValue, Object as ObjectValue, Body as BodyValue}
+use Rattle.zl_calls.proofs.Common.{◌≡◌, ◌<◌, ◌≤◌, ◌+◌, ◌^◌, ◌==◌, ℕ, zero, suc, Bool, true, false, List, [], ◌∷◌, ◌++◌, map, length, get_or, take, take_more, take_all, refl, sym, ap, ◌∙◌, subst, cond, Option, Some, None, IsTrue, arith, nat_lt, is_some, count_by, slice_set, eqb-true, false≢true, none-some, same_Some, and_parts, and_from, nat_tests, Map, get, put, Cpu, is_process, handles_to, body_in, has_default_rights, may_get, process_with, list_all, may_get_all, Handles, IsTable, Inserts, is_sorted-update, has_key-update, length-put_new, Objects, held_once_more, holding, process_value, object_entry, object_value, body_value, world_value, IsNamed, Agrees, is_in_job, IsSound, IsMaking, seen, allowed, if_default, IsBare, process_given, Gives, World, length-append, length-take-le, handle_given, handles_given, process_with_all, register_set, handle_register, option_map, then_some}
+use Rattle.zl_code.proofs.Common.{Process as ProcessValue, Object as ObjectValue}
 use Rattle.std.specs.Option.{option_to_list}
 use Rattle.std.proofs.lemmas.List.Sums.{count_by-le-length}
 use Rattle.zl_rights.specs.declared.entry.Entry.{Entry}

@@ -1,6 +1,5 @@
 -- What a boot has made meets the invariant of the world, once what isn't held is gone.
-use Rattle.zl_calls.proofs.Common.{◌≡◌, ◌<◌, ◌+◌, ◌==◌, ◌++◌, ◌⊎◌, false, false≢true, ℕ, zero, suc, List, [], ◌∷◌, refl, ◌∙◌, subst, IsTrue, arith, list_any, or_left, or_right, inl, inr, cases_Bool, nat_tests, get, Some, none-some, Objects, AreKeptBut, Cascades, Releases, none_left, IsMaking}
-use Rattle.zl_objects.specs.declared.object.Object.{Object}
+use Rattle.zl_calls.proofs.Common.{◌≡◌, ◌<◌, ◌+◌, ◌==◌, ◌++◌, ◌⊎◌, false, false≢true, ℕ, zero, suc, List, [], ◌∷◌, refl, ◌∙◌, subst, IsTrue, arith, list_any, or_left, or_right, inl, inr, cases_Bool, nat_tests, get, none-some, Objects, AreKeptBut, Cascades, Releases, none_left, IsMaking}
 use Rattle.zl_objects.proofs.Released.{cascades_then}
 use Rattle.zl_calls.specs.declared.process.Process.{Process}
 use Rattle.zl_calls.proofs.Settled.{IsSettled, settled}

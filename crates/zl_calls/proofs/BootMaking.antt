@@ -1,6 +1,6 @@
 -- One process more, with its handles: what was made goes on being what the definitions make.
-use Rattle.zl_calls.proofs.Common.{cases_Bool, eqb-true, eq-eqb, false≢true, ◌==◌, cond, if◌then◌else◌, ◌≡◌, ◌<◌, ◌≤◌, ◌+◌, ◌*◌, ◌^◌, ◌⊎◌, ℕ, zero, suc, Bool, true, false, List, [], ◌∷◌, ◌++◌, map, refl, sym, ap, ◌∙◌, subst, Option, Some, None, Result, Ok, Err, OnOk, ⊤, inl, inr, IsTrue, arith, length, is_some, slice_get, slice_set, list_any, sum_by, count_by, sum_by-cons, map-append, none-some, same_Some, nat_tests, Map, get, put, has_key, Cpu, State, Ready, ProcessBody, is_process, runs, state_passes, handles_to, Image, Library, Program, with_object, boot_fault, boot_effect, process_with, body_in, get-put, may_get_all, IsTable, sorted_put, put_key, Objects, new_object, with_new, is_job_at, is_job_in, process_entry, process_value, state_value, object_entry, object_value, world_value, IsNamed, Agrees, AreNamed, All, All-nil, lives, is_in_job, IsSound, IsMaking, root_alone, Makes, seen, IsBare, process_given, Gives, World, length-append, started_process, process_with_all, handles_given, with_process, started_cpu}
-use Rattle.zl_code.proofs.Common.{Process as ProcessValue, Object as ObjectValue, State as StateValue, is_job_body}
+use Rattle.zl_calls.proofs.Common.{cases_Bool, eqb-true, eq-eqb, false≢true, ◌==◌, if◌then◌else◌, ◌≡◌, ◌<◌, ◌≤◌, ◌+◌, ◌⊎◌, ℕ, zero, suc, Bool, true, false, List, [], ◌∷◌, ◌++◌, map, refl, sym, ap, ◌∙◌, subst, Option, Some, None, Result, Ok, Err, OnOk, ⊤, inl, inr, IsTrue, arith, length, is_some, slice_get, slice_set, list_any, sum_by, count_by, sum_by-cons, map-append, none-some, same_Some, Map, get, put, ProcessBody, is_process, runs, handles_to, Image, Library, with_object, boot_fault, boot_effect, process_with, body_in, get-put, may_get_all, IsTable, sorted_put, put_key, Objects, new_object, with_new, is_job_at, is_job_in, process_entry, process_value, state_value, object_entry, object_value, world_value, IsNamed, Agrees, AreNamed, All, All-nil, lives, is_in_job, IsSound, IsMaking, root_alone, Makes, seen, IsBare, process_given, Gives, World, length-append, started_process, process_with_all, handles_given, with_process, started_cpu}
+use Rattle.zl_code.proofs.Common.{Process as ProcessValue, State as StateValue, is_job_body}
 use Rattle.std.specs.Result.{is_err}
 use Rattle.std.proofs.lemmas.List.Sums.{count_by-le-length, sum_by-append}
 use Rattle.zl_rights.specs.declared.entry.Entry.{Entry}

@@ -1,5 +1,5 @@
 -- How many handles name an object, in tables and in queues, after a change of one table or of the objects.
-use Rattle.zl_calls.proofs.Common.{◌≡◌, ◌+◌, ℕ, Bool, true, false, ◌==◌, List, [], ◌∷◌, ◌++◌, map, refl, sym, ap, ◌∙◌, cond, None, Some, inl, inr, IsTrue, arith, nat_lt, sum_by, count_by, sum_by-cons, map-append, cases_Bool, eqb-true, none-some, nat_cmp, is_sorted, same_Some, Map, get, put, update, without, handles_to, queued_to, Objects, object_entry, process_entry, process_value, body_value, new_object, with_new, world_value}
+use Rattle.zl_calls.proofs.Common.{◌≡◌, ◌+◌, ℕ, Bool, true, false, ◌==◌, List, [], ◌∷◌, map, refl, sym, ap, ◌∙◌, cond, None, Some, inl, inr, IsTrue, arith, nat_lt, sum_by, count_by, sum_by-cons, map-append, cases_Bool, eqb-true, none-some, nat_cmp, is_sorted, same_Some, Map, get, put, update, without, handles_to, queued_to, Objects, object_entry, process_entry, process_value, body_value, new_object, with_new, world_value}
 use Rattle.zl_code.proofs.Common.{Process as ProcessValue}
 use Rattle.std.proofs.lemmas.List.Sums.{sum_by-append}
 use Rattle.zl_objects.specs.declared.object.Body.{Body}

@@ -1,5 +1,5 @@
 -- One object more, with one handle: what the invariant says of the objects.
-use Rattle.zl_calls.proofs.Common.{◌≡◌, ◌<◌, ◌+◌, ◌^◌, ℕ, zero, suc, Bool, true, false, ◌||◌, ◌==◌, List, [], ◌∷◌, ◌++◌, map, refl, sym, ap, ◌∙◌, subst, cond, Option, Some, None, inl, inr, IsTrue, arith, eq-eqb, if◌then◌else◌, is_some, list_any, cases_Bool, eqb-true, false≢true, same_Some, Map, get, put, is_process, state_passes, All, All-nil, has_living_child, handles_to, has_key, nat_cmp, is_sorted, get-put, IsTable, sorted_put, put_key, Objects, new_object, with_new, is_kept, stays_alone, lives_below, is_job_at, is_job_in, process_entry, world_value, IsConsistent, AreNamed, IsNamed, Agrees, is_in_job}
+use Rattle.zl_calls.proofs.Common.{◌≡◌, ◌<◌, ◌+◌, ◌^◌, ℕ, Bool, true, false, ◌||◌, ◌==◌, List, [], ◌∷◌, ◌++◌, map, refl, sym, ap, ◌∙◌, subst, cond, Option, Some, None, inl, inr, IsTrue, arith, eq-eqb, if◌then◌else◌, is_some, list_any, cases_Bool, eqb-true, false≢true, same_Some, Map, get, put, is_process, state_passes, All, All-nil, has_living_child, handles_to, get-put, sorted_put, put_key, Objects, new_object, with_new, is_kept, stays_alone, lives_below, is_job_at, is_job_in, process_entry, world_value, IsConsistent, AreNamed, IsNamed, Agrees, is_in_job}
 use Rattle.zl_code.proofs.Common.{Process as ProcessValue, State as StateValue}
 use Rattle.zl_rights.specs.declared.entry.Entry.{Entry}
 use Rattle.zl_objects.specs.declared.object.Body.{Body}

@@ -1,5 +1,5 @@
 -- Worlds in which nothing waits: waking changes nothing, and where all objects stay, settling leaves all as it is.
-use Rattle.zl_calls.proofs.Common.{◌≡◌, ℕ, true, ◌==◌, List, [], ◌∷◌, map, refl, ap, Some, IsTrue, eq-eqb, is_some, cond, false, Map, get, has_key, where_key, each, Koids, process_settled, wakes, fired, append-nil, PortBody, World, Objects, process_entry, state_value, world_value, without_others, state_without, Bool}
+use Rattle.zl_calls.proofs.Common.{◌≡◌, ℕ, true, ◌==◌, List, [], ◌∷◌, map, refl, ap, Some, IsTrue, eq-eqb, is_some, cond, false, Map, get, has_key, where_key, each, Koids, process_settled, wakes, fired, append-nil, PortBody, Objects, process_entry, state_value, world_value, without_others, state_without, Bool}
 use Rattle.zl_code.proofs.Common.{Body as BodyValue}
 use Rattle.zl_rights.specs.Wakes.{body_with_packets}
 use Rattle.zl_rights.proofs.MapTests.{each_same}

@@ -1,5 +1,5 @@
 -- Handles go, and what nothing keeps any more with them: the invariant holds afterwards, and the worlds are settled.
-use Rattle.zl_calls.proofs.Common.{◌≡◌, ◌+◌, ◌<◌, ℕ, zero, suc, Bool, true, ◌||◌, ◌==◌, List, [], ◌∷◌, map, length, refl, sym, ap, ◌∙◌, subst, cond, Option, Some, None, inl, inr, ◌⊎◌, IsTrue, arith, eq-eqb, count_by, list_any, sum_by-cons, append-nil, is_some, or_left, or_right, false≢true, none-some, same_Some, nat_cmp, is_sorted, Map, get, has_key, without, kind_of, Settles, handles_to, queued_to, sorted_without, Objects, AreKeptBut, Cascades, none_left, Releases, Agrees, IsExact, body_value, object_value, object_entry, process_entry, world_value, AreNamed, IsConsistent, IsNamed, IsSound, World, is_process}
+use Rattle.zl_calls.proofs.Common.{◌≡◌, ◌<◌, ℕ, zero, suc, Bool, true, ◌==◌, List, [], ◌∷◌, map, length, refl, sym, ap, ◌∙◌, subst, cond, Option, Some, None, inl, inr, ◌⊎◌, IsTrue, arith, eq-eqb, count_by, list_any, sum_by-cons, append-nil, is_some, or_left, or_right, false≢true, none-some, same_Some, nat_cmp, is_sorted, Map, get, has_key, without, kind_of, Settles, handles_to, queued_to, sorted_without, Objects, AreKeptBut, Cascades, none_left, Releases, IsExact, body_value, object_value, object_entry, process_entry, world_value, AreNamed, IsConsistent, IsNamed, IsSound, World, is_process}
 use Rattle.zl_code.proofs.Common.{Process as ProcessValue, queue_of as queue_value, slice_index_or}
 use Rattle.zl_rights.specs.declared.entry.Entry.{Entry}
 use Rattle.zl_rights.specs.Settle.{names}
@@ -90,7 +90,7 @@ module _ (ps : List Process) (m : Map Entry) (r : Objects) (sound : IsSound ps m
     unfolding handles_to
     in_table j v p e at there =
         let some : IsTrue (list_any (λ q. list_any (λ h. h.1.koid == e.koid) q.1.handles) (map process_entry ps)) =
-            any_at (λ q. list_any (λ h. h.1.koid == e.koid) q.1.handles) (map process_entry ps) j p at (any_at (λ h. h.1.koid == e.koid) p.handles v e there (same_key e.koid)) in
+        any_at (λ q. list_any (λ h. h.1.koid == e.koid) q.1.handles) (map process_entry ps) j p at (any_at (λ h. h.1.koid == e.koid) p.handles v e there (same_key e.koid)) in
         omega (arith, any_summed (λ q. count_by (λ h. h.1.koid == e.koid) q.1.handles) (λ q. list_any (λ h. h.1.koid == e.koid) q.1.handles) (λ q. any_counted (λ h. h.1.koid == e.koid) q.1.handles) (map process_entry ps) some)
 
     in_queue : (k j : ℕ) (o : Object) → get r2.objects k ≡ Some o → IsTrue (names j (queue_of o.body)) → 0 < handles_to (world_value ps r2) j
@@ -98,7 +98,7 @@ module _ (ps : List Process) (m : Map Entry) (r : Objects) (sound : IsSound ps m
     in_queue k j o at named =
         let seen_at : get (map object_entry r2.objects) k ≡ Some (object_value o) = get_seen r2.objects k ∙ rw at refl in
         let some : IsTrue (list_any (λ x. names j (queue_value x.1.body)) (map object_entry r2.objects)) =
-            any_at (λ x. names j (queue_value x.1.body)) (map object_entry r2.objects) k (object_value o) seen_at (subst (λ (queue : List Message). IsTrue (names j queue)) (sym (queue_seen o.body)) named) in
+        any_at (λ x. names j (queue_value x.1.body)) (map object_entry r2.objects) k (object_value o) seen_at (subst (λ (queue : List Message). IsTrue (names j queue)) (sym (queue_seen o.body)) named) in
         omega (arith, any_summed (λ x. queued_to j x.1.body) (λ x. names j (queue_value x.1.body)) (λ x. queue_named j x.1.body) (map object_entry r2.objects) some)
 
     queued_left : (k : ℕ) (o : Object) → get r2.objects k ≡ Some o → AreNamed r2.objects (queue_of o.body)

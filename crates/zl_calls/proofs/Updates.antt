@@ -1,5 +1,5 @@
 -- Changes of one value of a map: two after another, none, and as they are seen from outside.
-use Rattle.zl_calls.proofs.Common.{◌≡◌, ℕ, true, false, ◌==◌, [], ◌∷◌, refl, sym, ap, ◌∙◌, inl, inr, map, eq-eqb, cases_Bool, eqb-true, Map, update}
+use Rattle.zl_calls.proofs.Common.{◌≡◌, ℕ, true, ◌==◌, [], ◌∷◌, refl, sym, ap, ◌∙◌, inl, inr, map, eq-eqb, cases_Bool, eqb-true, Map, update}
 
 pub update_twice : {X : Type 0} (m : Map X) (k : ℕ) (f g : X → X) → update (update m k f) k g ≡ update m k (λ x. g (f x))
 unfolding update

@@ -1,5 +1,5 @@
 -- A process of the list is written: the map by pids, and what the invariant says of processes.
-use Rattle.zl_calls.proofs.Common.{Option, None, ◌≡◌, ◌<◌, ◌≤◌, ◌+◌, ℕ, Bool, false, ◌==◌, List, map, length, get_or, set, refl, sym, ap, ◌∙◌, cond, Some, inl, inr, ◌⊎◌, ◌^◌, subst, IsTrue, arith, [], ◌∷◌, position, count_by, option_map, nat_cmp, is_sorted, cases_Bool, eqb-true, none-some, same_Some, slice_get-get_or, Map, get, update, has_key, is_process, state_passes, handles_to, get-update, IsTable, Inserts, is_sorted-update, has_key-update, Objects, AreKeptBut, is_kept, process_entry, process_value, world_value, IsPlaceOf, IsConsistent, AreNamed, IsNamed, Agrees, is_in_job}
+use Rattle.zl_calls.proofs.Common.{Option, None, ◌≡◌, ◌<◌, ◌≤◌, ◌+◌, ℕ, Bool, false, ◌==◌, List, map, length, get_or, set, refl, sym, ap, ◌∙◌, cond, Some, inl, inr, ◌⊎◌, ◌^◌, subst, IsTrue, arith, [], ◌∷◌, position, count_by, option_map, cases_Bool, eqb-true, none-some, same_Some, slice_get-get_or, Map, get, update, has_key, is_process, state_passes, handles_to, get-update, IsTable, Inserts, is_sorted-update, has_key-update, Objects, AreKeptBut, is_kept, process_entry, process_value, world_value, IsPlaceOf, IsConsistent, AreNamed, IsNamed, Agrees, is_in_job}
 use Rattle.zl_code.proofs.Common.{Process as ProcessValue, State as StateValue}
 use Rattle.std.specs.Prelude.{MatchOption}
 use Rattle.zl_rights.specs.declared.entry.Entry.{Entry}
@@ -11,7 +11,7 @@ use Rattle.zl_calls.specs.declared.process.Process.{Process}
 use Rattle.zl_calls.proofs.Answered.{IsWrite}
 use Rattle.zl_calls.proofs.Counting.{count_put, counts_written, queues}
 use Rattle.zl_calls.proofs.Positions.{IsFirst, first_at, get_first, get_missing, update_first}
-use Rattle.zl_calls.proofs.SameBodies.{found_updated, named_updated, queued_updated, kept_each, still_agrees, still_named}
+use Rattle.zl_calls.proofs.SameBodies.{found_updated, named_updated, queued_updated, kept_each, still_agrees}
 use Rattle.zl_calls.proofs.Tables.{inserted_table, found_inserted}
 
 pub write_at : (ps : List Process) (pid place : ℕ) (p p2 : Process) → Some place ≡ position (λ q. q.pid == pid) ps → p ≡ get_or ps place p → p2.pid ≡ p.pid → IsWrite ps (set ps place p2) p p2

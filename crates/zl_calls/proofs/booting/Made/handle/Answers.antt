@@ -1,4 +1,4 @@
-use Rattle.zl_calls.proofs.Common.{refl, sym}
+use Rattle.zl_calls.proofs.Common.{refl}
 use Rattle.zl_calls.proofs.BootFaults.{handle_seen}
 use Rattle.zl_calls.proofs.booting.Made.handle.Goals as goal
 

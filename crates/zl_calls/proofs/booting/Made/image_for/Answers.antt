@@ -1,4 +1,4 @@
-use Rattle.zl_calls.proofs.Common.{◌≡◌, ◌∙◌, inl, inr, sym, arith, Option, length-map, length, seen, process_entry, program_value}
+use Rattle.zl_calls.proofs.Common.{◌≡◌, ◌∙◌, inl, inr, sym, arith, length-map, length, seen, process_entry, program_value}
 use Rattle.zl_calls.proofs.BootFaults.{job_seen, known_seen, fault_no_program, fault_unknown, fault_handles, fault_limit, no_fault}
 use Rattle.zl_calls.proofs.booting.Made.image_for.Goals as goal
 use Rattle.zl_calls.proofs.booting.Made.image_for.Goals.{then-not-is_job-via-then-not-is_job, then-not-is_job-via-else-not-is_job+then-not-knows, then-handles-gt-MOST-via-then-handles-gt-MOST, then-handles-gt-MOST-via-else-handles-gt-MOST+then-not-may_give, then-len-ge-MOST_PROCESSES-via-then-len-ge-MOST_PROCESSES, then-len-ge-MOST_PROCESSES-via-else-len-ge-MOST_PROCESSES+then-next_koid-gt-MOST_KOIDS}

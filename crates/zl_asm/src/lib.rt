@@ -1,6 +1,7 @@
-//! The assembler: the text of a program to its image, and back.
+//! The assembler: the text of a program to its image, and back; and what a person is told of a text
+//! that is refused.
 //!
-//! It stands on `zl_code`, `zl_rights`, `bitflags` and `indexmap`. It promises that `assemble` and
+//! It stands on `zl_code`, `zl_rights`, `bitflags`, `indexmap` and `strsim`. It promises that `assemble` and
 //! `disassemble` are exact against the grammar of the text; `laws` proves of the definitions that no
 //! text denotes two images, and that the text of each image denotes it.
 //!
@@ -13,13 +14,14 @@ mod directive;
 mod disassembling;
 mod draft;
 mod fault;
+pub mod hints;
 mod label_map;
 pub mod laws;
 mod line;
-pub mod numbers;
+mod numbers;
 mod operands;
 mod resolving;
-pub mod words;
+mod words;
 
 pub use assembling::{assemble, assemble_bytes};
 pub use disassembling::disassemble;

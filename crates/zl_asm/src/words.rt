@@ -14,7 +14,7 @@ pub(crate) fn is_ascii(text: &[u8]) -> bool
 
 /// Whether the word has just these bytes.
 #[tactic(auto, unfolding(crate::specs::Words::is_word))]
-pub(crate) fn is(word: &[u8], bytes: &[u8]) -> bool
+pub fn is(word: &[u8], bytes: &[u8]) -> bool
     ensures { result ≡ is_word word.now bytes.now }
 {
     word == bytes

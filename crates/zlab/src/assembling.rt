@@ -8,12 +8,12 @@ ghost use Rattle.zlab.specs.Text.{refused_line};
 ghost use Rattle.zlab.specs.Assembling.{Leads, ReadsTo, AssemblesReader, BeginsAssembly};
 
 use crate::fault::{EngineFault, Verdict};
-use crate::hints::explain_program;
 use crate::input::{Input, read_input};
 use crate::output::{write_all, write_block};
 use crate::text::push_refusal;
 use std::alloc::Global;
 use std::io::{Read, Write};
+use zl_asm::hints::explain_program;
 use zl_asm::{AsmCause, AsmFault, assemble_bytes};
 use zl_code::encode;
 

@@ -6,20 +6,10 @@
 //! refused, so what is found here is found anew, line by line, from the input and the cause that the
 //! answer has.
 
-mod block;
 mod command;
-mod directive;
 mod failing;
-mod image;
-mod instruction;
-mod lines;
-mod nearest;
-mod program;
 mod scenario;
-mod stuck;
-mod word;
 
 pub use command::explain_words;
 pub use failing::{explain_failure, explain_trace};
-pub use program::explain_program;
 pub use scenario::explain_scenario;

@@ -1,10 +1,10 @@
 //! The program: its command line, the trace of standard input, the assembler over files, what standard
 //! error says, and its exit status.
 //!
-//! It stands on `zl_calls` for the world, on `zl_asm` for the assembler, on `zl_code` and `zl_rights`
-//! for what these speak of, on `clap` and `thiserror`, and on `strsim` for names that are alike. It
-//! promises, by the contracts of `step_engine`, `asm_engine` and `words`, that what is written is the
-//! answer to what was read.
+//! It stands on `zl_calls` for the world, on `zl_asm` for the assembler and for what is told of texts,
+//! images and stuck processes, on `zl_code` and `zl_rights` for what these speak of, and on `clap`,
+//! `itoa` and `thiserror`. It promises, by the contracts of `step_engine`, `asm_engine` and `words`,
+//! that what is written is the answer to what was read.
 #![tactic(auto)]
 
 #[cfg(test)]

@@ -1,9 +1,8 @@
 //! Which word of a command line wasn't understood.
 
-use crate::hints::nearest::push_nearest;
-use crate::hints::word::Word;
 use std::alloc::{AllocError, Global};
 use std::convert::AsStr;
+use zl_asm::hints::{Word, push_nearest};
 
 /// The commands that come later.
 const LATER: [&str; 4] = ["step", "check", "run", "replay"];

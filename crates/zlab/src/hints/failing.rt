@@ -1,9 +1,9 @@
 //! What standard error says of processes that are stuck, and of files and streams that fail.
 
-use crate::hints::stuck::{Stuck, explain_stuck};
 use crate::system::System;
 use std::alloc::Global;
 use std::io;
+use zl_asm::hints::{Stuck, explain_stuck};
 use zl_calls::World;
 use zl_code::TraceItem;
 use zl_rights::Pid;

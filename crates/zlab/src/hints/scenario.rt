@@ -1,12 +1,10 @@
 //! The faults of a scenario and its schedule.
 
-use crate::hints::block::{is_opening, push_block_fault};
-use crate::hints::lines::{
-    is, line_at, place_of_blank, place_outside_ascii, push_head, push_odd_byte, words_of,
-};
-use crate::hints::nearest::push_nearest;
-use crate::hints::word::{Word, plural};
 use std::alloc::{AllocError, Global};
+use zl_asm::hints::{
+    Word, is, is_opening, line_at, place_of_blank, place_outside_ascii, plural, push_block_fault,
+    push_head, push_nearest, push_odd_byte, words_of,
+};
 
 /// The statements and lines that there are.
 const STATEMENTS: [&str; 5] = ["process", "program", "limit", "end", "--"];

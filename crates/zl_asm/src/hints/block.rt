@@ -1,11 +1,12 @@
 //! The faults of the block of a program, whose answer names the line that opens it.
 
+use crate::assembling::assemble_bytes;
 use crate::hints::image::push_image_fault;
-use crate::hints::lines::{is, place_outside_ascii, push_head, push_odd_byte, words_of};
+use crate::hints::lines::{place_outside_ascii, push_head, push_odd_byte, words_of};
 use crate::hints::program::push_program_fault;
 use crate::hints::word::Word;
+use crate::words::is;
 use std::alloc::{AllocError, Global};
-use zl_asm::assemble_bytes;
 use zl_code::decode;
 
 /// Whether the words open a block.

@@ -1,12 +1,11 @@
 //! The faults of a directive of the assembler's text.
 
-use crate::hints::lines::is;
 use crate::hints::nearest::push_nearest;
 use crate::hints::word::{Word, plural};
+use crate::numbers::{number, sixteen_bytes};
+use crate::words::{is, split_words};
 use bitflags::Flags;
 use std::alloc::{AllocError, Global};
-use zl_asm::numbers::{number, sixteen_bytes};
-use zl_asm::words::split_words;
 use zl_code::{Image, Row};
 use zl_rights::{Condition, Kind, Rights};
 

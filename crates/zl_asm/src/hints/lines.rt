@@ -2,11 +2,6 @@
 
 use std::alloc::{AllocError, Global};
 
-/// Whether the word has just these bytes.
-pub fn is(word: &[u8], bytes: &[u8]) -> bool {
-    word == bytes
-}
-
 /// The line of this number, from 1.
 pub fn line_at(text: &[u8], number: u64) -> Option<&[u8]> {
     for (index, line) in text.split(|byte| *byte == b'\n').enumerate() {

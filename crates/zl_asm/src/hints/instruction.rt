@@ -1,10 +1,10 @@
 //! The faults of an instruction of the assembler's text.
 
-use crate::hints::lines::is;
 use crate::hints::nearest::Nearest;
 use crate::hints::word::{Word, plural};
+use crate::numbers::{is_name, number, register};
+use crate::words::is;
 use std::alloc::{AllocError, Global};
-use zl_asm::numbers::{is_name, number, register};
 use zl_code::{Ending, HandleList, Row};
 
 /// Adds which instruction was meant by a name that none has.

@@ -1,7 +1,7 @@
 //! Why a process is stuck.
 
+use crate::disassembling::disassemble;
 use std::alloc::{AllocError, Global};
-use zl_asm::disassemble;
 use zl_code::{Image, Instr, InstrBytes, LocalInstr, Row};
 
 /// A stuck process.

@@ -1,0 +1,27 @@
+//! What a person is told on standard error of a text that denotes no image, of a block of a scenario
+//! that is no program, and of a stuck process; and the words that the other hints are made of. Own
+//! profile.
+//!
+//! Texts for people have no contract: each function is safe and returns, whatever it is given, and no
+//! more is promised. A function that adds to a hint answers with `AllocError` where memory is refused,
+//! and a beginning of what it adds may stand there then; `explain_program` and `explain_stuck` leave
+//! the hint empty. Nothing is called before an input is refused, so what is found here is found anew,
+//! line by line, from the input and the cause that the answer has.
+
+mod block;
+mod directive;
+mod image;
+mod instruction;
+mod lines;
+mod nearest;
+mod program;
+mod stuck;
+mod word;
+
+pub use crate::words::is;
+pub use block::{is_opening, push_block_fault};
+pub use lines::{line_at, place_of_blank, place_outside_ascii, push_head, push_odd_byte, words_of};
+pub use nearest::push_nearest;
+pub use program::explain_program;
+pub use stuck::{Stuck, explain_stuck};
+pub use word::{Word, plural};

@@ -1,10 +1,23 @@
 //! Images: what decoding answers, and what encoding and building give.
 
-use crate::samples::EIGHT_BYTES;
 use std::alloc::Global;
 use std::test::*;
 use zl_code::{CallInstr, DecodeFault, Ending, Image, Instr, Row, decode, encode};
 use zl_rights::{Condition, Kind};
+
+/// A raw program of eight instructions, which makes an event, signals, duplicates and closes it, and
+/// exits.
+const EIGHT_BYTES: [u8; 148] = [
+    0x5a, 0x4c, 0x41, 0x42, 1, 1, 8, 0, 0, 0, 0, 0, 0x64, 0, 0, 0, 0, 0, 0, 0, //
+    0x46, 2, 3, 0, 0, 0, 0, 0, 0, 0, 0, 0, 0, 0, 0, 0, //
+    0x01, 5, 0, 0, 0, 0, 0, 0, 8, 0, 0, 0, 0, 0, 0, 0, //
+    0x47, 2, 3, 0, 5, 0, 0, 0, 0, 0, 0, 0, 0, 0, 0, 0, //
+    0x41, 2, 3, 4, 0, 0, 0, 0, 0, 0, 0, 0x80, 0, 0, 0, 0, //
+    0x40, 2, 3, 0, 0, 0, 0, 0, 0, 0, 0, 0, 0, 0, 0, 0, //
+    0x40, 2, 4, 0, 0, 0, 0, 0, 0, 0, 0, 0, 0, 0, 0, 0, //
+    0x40, 2, 4, 0, 0, 0, 0, 0, 0, 0, 0, 0, 0, 0, 0, 0, //
+    0x53, 0, 0, 0, 0, 0, 0, 0, 0, 0, 0, 0, 0, 0, 0, 0,
+];
 
 /// One `process_exit`.
 const SMALLEST: [u8; 36] = [

@@ -11,8 +11,6 @@
 mod assembler_tests;
 mod assembling;
 #[cfg(test)]
-mod assembling_tests;
-#[cfg(test)]
 mod boot_tests;
 mod engine;
 mod fault;
@@ -21,8 +19,6 @@ mod hints;
 mod image_tests;
 mod input;
 mod output;
-#[cfg(test)]
-mod samples;
 mod scenario;
 mod system;
 #[cfg(test)]

@@ -3,7 +3,6 @@
 use crate::engine::step_engine;
 use crate::fault::{EngineFault, Verdict};
 use crate::input::MOST_INPUT;
-use crate::samples::EIGHT_TEXT;
 use std::alloc::{AllocError, Global};
 use std::io;
 use std::io::{Read, Write};
@@ -55,16 +54,6 @@ limit 20000
 --
 ";
 
-/// A program of one instruction, behind which its process is stuck.
-const STUCK: &str = "program raw hex
-5a4c4142 0101 0100 00000000 01000000 00000000
-01020000000000000100000000000000
-end
-process 1 0 0
---
-2 20
-";
-
 /// What the engine writes, and how it ends.
 fn answer(alloc: Global, mut input: &[u8]) -> Result<(Verdict, Vec<u8>), EngineFault> {
     let mut output = Vec::new(alloc);
@@ -77,131 +66,6 @@ fn assert_answer(rt: &impl Abort, alloc: Global, input: &[u8], verdict: Verdict,
     assert!(rt;
         ended == verdict && output.as_slice() == text.as_bytes(),
         "at {input:?}: {output:?}"
-    );
-}
-
-#[test]
-fn answers_texts_without_programs(rt: HostRuntime) {
-    let done = [
-        "",
-        "\n",
-        "  \n# a comment\n   ",
-        "limit 1000000",
-        "limit 0\nlimit 7\n",
-        "  limit   0010  \n",
-        "--\n",
-        "--\n9 0\n\n# no turn\n2 1000000",
-    ];
-    for input in done {
-        assert_answer(&rt, rt.alloc(), input.as_bytes(), Verdict::Done, DONE);
-    }
-}
-
-#[test]
-fn refuses_texts_without_programs(rt: HostRuntime) {
-    let refused = [
-        ("process 1 0 0", "refused 1 Unknown\n"),
-        ("\n\nprocess 1 0\n", "refused 3 Syntax\n"),
-        ("process 1 0 0 1:2", "refused 1 Syntax\n"),
-        ("process 1 0 x", "refused 1 Syntax\n"),
-        ("process 1 0 18446744073709551615", "refused 1 Unknown\n"),
-        ("process 1 0 18446744073709551616", "refused 1 Syntax\n"),
-        ("limit -1", "refused 1 Syntax\n"),
-        ("limit 1000001\nlimit 1", "refused 1 Limit\n"),
-        ("# \u{e9}", "refused 1 Syntax\n"),
-        (" # no comment", "refused 1 Syntax\n"),
-        ("limit 1\r\n", "refused 1 Syntax\n"),
-        ("limit\t1\n", "refused 1 Syntax\n"),
-        ("--\n--", "refused 2 Syntax\n"),
-        ("--\nlimit 1", "refused 2 Syntax\n"),
-        ("--\n2 1000001", "refused 2 Syntax\n"),
-        ("--\n2 1 1", "refused 2 Syntax\n"),
-        ("program checked hex\nend\n", "refused 1 Syntax\n"),
-        ("program raw\n", "refused 1 Syntax\n"),
-        ("program raw hex\n", "refused 1 Syntax\n"),
-        ("\nprogram raw hex\n5\nend\n", "refused 2 Syntax\n"),
-        ("program raw hex\n5A\nend\n", "refused 1 Syntax\n"),
-        ("program raw hex\n--\nend\n", "refused 1 Syntax\n"),
-        ("program raw hex\n# \u{e9}\nend\n", "refused 1 Syntax\n"),
-        (
-            "program raw hex\n5a 4\nc\n\n# odd\n end \n",
-            "refused 1 Program\n",
-        ),
-        ("program raw asm\n# \u{e9}\nend\n", "refused 1 Syntax\n"),
-        ("program raw asm\n# end\n", "refused 1 Syntax\n"),
-        (
-            "program raw asm\n # no comment\nend\n",
-            "refused 1 Program\n",
-        ),
-        (
-            "\nprogram raw asm\n# foo\nfoo\nend\n",
-            "refused 2 Program\n",
-        ),
-    ];
-    for (input, line) in refused {
-        assert_answer(&rt, rt.alloc(), input.as_bytes(), Verdict::Refused, line);
-    }
-}
-
-#[test]
-fn runs_a_program(rt: HostRuntime) -> Result<(), Fail> {
-    let cases = [
-        ("process 1 0 0\n--\n2 20\n", Verdict::Done, TRACE),
-        // A process that isn't ready is skipped, and so is a number that is none.
-        (
-            "process 1 0 0\n--\n7 9\n2 3\n2 1000000\n2 1",
-            Verdict::Done,
-            TRACE,
-        ),
-        ("process 1 0 0\nlimit 8\n--\n2 9", Verdict::Done, TRACE),
-        (
-            "process 1 0 0\nlimit 0\n--\n2 20\n",
-            Verdict::Done,
-            "process 2 ready\nend limit\n",
-        ),
-        (
-            "limit 1\nprocess 1 0 0\nprocess 1 0 0\n--\n3 1\n2 0\n2 1\n",
-            Verdict::Done,
-            "3 event_create OK\nprocess 2 ready\nprocess 3 ready\nend limit\n",
-        ),
-        ("process 1 1 0", Verdict::Refused, "refused 12 Unknown\n"),
-        ("process 1 1 x", Verdict::Refused, "refused 12 Syntax\n"),
-        // A fault of booting comes first where its line does.
-        (
-            "process 2 0 0\nnonsense",
-            Verdict::Refused,
-            "refused 12 Unknown\n",
-        ),
-        (
-            "process 1 0 0\nnonsense",
-            Verdict::Refused,
-            "refused 13 Syntax\n",
-        ),
-    ];
-    for (rest, verdict, text) in cases {
-        let input = format!(in rt.alloc(); "{PROGRAM}{rest}")?;
-        assert_answer(&rt, rt.alloc(), input.as_bytes(), verdict, text);
-    }
-    Ok(())
-}
-
-#[test]
-fn skips_comments_in_a_block_of_text(rt: HostRuntime) -> Result<(), Fail> {
-    let input = format!(in rt.alloc();
-        "program raw asm\n# foo\n{EIGHT_TEXT}#end\n\n#\nend\nprocess 1 0 0\n--\n2 20\n"
-    )?;
-    assert_answer(&rt, rt.alloc(), input.as_bytes(), Verdict::Done, TRACE);
-    Ok(())
-}
-
-#[test]
-fn ends_a_stuck_process(rt: HostRuntime) {
-    assert_answer(
-        &rt,
-        rt.alloc(),
-        STUCK.as_bytes(),
-        Verdict::Done,
-        "2 run 1\n2 stuck\nprocess 2 ended -1028\nend schedule\n",
     );
 }
 

@@ -153,69 +153,11 @@ pub fn help<S: AsStr>(alloc: Global, words: &[S]) -> Result<Option<String>, Allo
 #[cfg(test)]
 mod tests {
     use super::*;
-    use std::test::Fail;
 
     #[test]
-    fn reads_no_words(rt: HostRuntime) -> Result<(), Fail> {
-        let none: [&str; 0] = [];
-        assert_eq!(rt; words(rt.alloc(), none.as_slice())?, Task::Input);
-        Ok(())
-    }
-
-    #[test]
-    fn reads_the_two_files_of_asm(rt: HostRuntime) {
-        let task = Task::Assemble {
-            text: "ping.zasm",
-            image: "ping.zli",
-        };
-        assert_eq!(rt;
-            words(rt.alloc(), &["asm", "ping.zasm", "ping.zli"]),
-            Ok(task)
-        );
-        assert_eq!(rt;
-            words(rt.alloc(), &["asm", "--", "ping.zasm", "ping.zli"]),
-            Ok(task)
-        );
-    }
-
-    #[test]
-    fn refuses_what_is_no_form(rt: HostRuntime) {
-        for word in [
-            "step", "asm", "help", "check", "run", "replay", "-", "--limit", "--help", "-V",
-        ] {
+    fn leaves_help_to_its_own_function(rt: HostRuntime) {
+        for word in ["help", "--help", "-V"] {
             assert_eq!(rt; words(rt.alloc(), &[word]), Err(WordFault::Usage), "{word}");
         }
-    }
-
-    #[test]
-    fn gives_help_only_where_it_is_asked_for(rt: HostRuntime) -> Result<(), Fail> {
-        for (word, expected) in [
-            ("--help", true),
-            ("-h", true),
-            ("-V", true),
-            ("help", true),
-            ("asm", false),
-        ] {
-            let text = help(rt.alloc(), &[word])?;
-            assert_eq!(rt; text.is_some(), expected, "{word}");
-        }
-        Ok(())
-    }
-
-    #[test]
-    fn a_wrong_command_line_is_told_the_forms_in_one_line(rt: HostRuntime) -> Result<(), Fail> {
-        let line = format!(in rt.alloc(); "{}", WordFault::Usage)?;
-        assert!(rt; !line.as_str().contains('\n'));
-        for form in [
-            "zlab < INPUT`",
-            "zlab step SCENARIO SCHEDULE`",
-            "zlab asm IN OUT`",
-            "zlab check IMAGE`",
-            "zlab run SCENARIO --workers N --limit M`",
-            "zlab replay SCENARIO TRACE`",
-        ] {
-            assert!(rt; line.as_str().contains(form), "{form}");
-        }
-        Ok(())
     }
 }

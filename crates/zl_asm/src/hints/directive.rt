@@ -76,24 +76,34 @@ pub fn push_directive_operand(
     write!(hint, "{} stands in line {same} already", Word(name))
 }
 
+/// How many operands the directive takes, and which.
+fn operands_of(name: &[u8]) -> Option<(usize, &'static str)> {
+    for (known, most, what) in DIRECTIVES {
+        if known.as_bytes() == name {
+            return Some((most, what));
+        }
+    }
+    None
+}
+
 /// Adds how many operands the directive takes, where these are more or fewer.
 fn push_wrong_count(
     hint: &mut String,
     name: &[u8],
     operands: &[&[u8]],
 ) -> Result<bool, AllocError> {
-    for (known, most, what) in DIRECTIVES {
-        let count = operands.len();
-        if known.as_bytes() == name && count != most {
-            let ending = plural(count);
+    let count = operands.len();
+    match operands_of(name) {
+        Some((most, what)) if count != most => {
+            let (name, ending) = (Word(name), plural(count));
             write!(
                 hint,
-                "{known} has {count} operand{ending} and takes {most}{what}"
+                "{name} has {count} operand{ending} and takes {most}{what}"
             )?;
-            return Ok(true);
+            Ok(true)
         }
+        _ => Ok(false),
     }
-    Ok(false)
 }
 
 /// Adds which operand is wrong, if one is.
@@ -118,30 +128,36 @@ fn push_wrong_operand(
 }
 
 fn push_wrong_bytes(hint: &mut String, digits: &[u8]) -> Result<bool, AllocError> {
-    match sixteen_bytes(digits) {
-        None => write!(hint, "{} isn't 32 hexadecimal digits", Word(digits))?,
-        Some(bytes) => match Row::of_opcode(bytes[0]) {
-            Some(row) => {
-                let (opcode, name) = (row.opcode, row.name);
-                write!(
-                    hint,
-                    "the opcode {opcode} is {name}, which is written by its name"
-                )?;
-            }
-            None => hint.push_str("an unknown opcode stands only where .raw is declared")?,
-        },
-    }
+    let Some(bytes) = sixteen_bytes(digits) else {
+        write!(hint, "{} isn't 32 hexadecimal digits", Word(digits))?;
+        return Ok(true);
+    };
+    push_opcode(hint, bytes[0])?;
     Ok(true)
+}
+
+/// Adds why the bytes of an instruction with this opcode can't stand there.
+fn push_opcode(hint: &mut String, opcode: u8) -> Result<(), AllocError> {
+    match Row::of_opcode(opcode) {
+        Some(row) => {
+            let name = row.name;
+            write!(
+                hint,
+                "the opcode {opcode} is {name}, which is written by its name"
+            )
+        }
+        None => hint.push_str("an unknown opcode stands only where .raw is declared"),
+    }
 }
 
 fn push_wrong_need(hint: &mut String, word: &[u8]) -> Result<bool, AllocError> {
     match Condition::named(word) {
         Some(condition) if !Image::can_need(condition) => {
+            let word = Word(word);
             write!(
                 hint,
-                "a program needs NEW_CHANNEL, NEW_EVENT, NEW_PORT or NEW_PROCESS, "
+                "a program needs NEW_CHANNEL, NEW_EVENT, NEW_PORT or NEW_PROCESS, and not {word}"
             )?;
-            write!(hint, "and not {}", Word(word))?;
             Ok(true)
         }
         _ => Ok(false),
@@ -160,23 +176,25 @@ fn push_wrong_rights(hint: &mut String, kind: &[u8], rights: &[u8]) -> Result<bo
     if push_wrong_number(hint, rights)? {
         return Ok(true);
     }
-    let allowed = match Kind::named(kind) {
-        Some(kind) => kind.default_rights(),
-        None => Rights::all(),
-    };
+    let allowed = rights_of(kind);
     let found = Rights::from_bits_retain(number(rights).unwrap_or(0));
     if found.within(allowed) {
         return Ok(false);
     }
-    let most = allowed.bits();
+    let (rights, kind, most) = (Word(rights), Word(kind), allowed.bits());
     write!(
         hint,
-        "the rights {} aren't all among those of {}, ",
-        Word(rights),
-        Word(kind)
+        "the rights {rights} aren't all among those of {kind}, {most}"
     )?;
-    write!(hint, "{most}")?;
     Ok(true)
+}
+
+/// The rights that a handle of the kind may have.
+fn rights_of(kind: &[u8]) -> Rights {
+    match Kind::named(kind) {
+        Some(kind) => kind.default_rights(),
+        None => Rights::all(),
+    }
 }
 
 /// What stands above a line: the first label or instruction, and the first directive of the same name,
@@ -185,6 +203,26 @@ fn push_wrong_rights(hint: &mut String, kind: &[u8], rights: &[u8]) -> Result<bo
 struct Above {
     body: u64,
     same: u64,
+}
+
+impl Above {
+    /// With the line of this number, that begins with this word.
+    fn with(self, number: u64, first: &[u8], name: &[u8]) -> Above {
+        let is_body = !first.starts_with(b".") || is(first, b".bytes");
+        let is_same = is(first, name);
+        Above {
+            body: if is_body && self.body == 0 {
+                number
+            } else {
+                self.body
+            },
+            same: if is_same && self.same == 0 {
+                number
+            } else {
+                self.same
+            },
+        }
+    }
 }
 
 fn read_above(alloc: Global, text: &[u8], line: u64, name: &[u8]) -> Result<Above, AllocError> {
@@ -197,13 +235,7 @@ fn read_above(alloc: Global, text: &[u8], line: u64, name: &[u8]) -> Result<Abov
         }
         split_words(&mut words, other)?;
         if let Some(first) = words.first() {
-            let is_body = !first.starts_with(b".") || is(first, b".bytes");
-            if is_body && above.body == 0 {
-                above.body = number;
-            }
-            if is(first, name) && above.same == 0 {
-                above.same = number;
-            }
+            above = above.with(number, first, name);
         }
     }
     Ok(above)

@@ -7,6 +7,11 @@ use zl_asm::hints::{Word, push_nearest};
 /// The commands that come later.
 const LATER: [&str; 4] = ["step", "check", "run", "replay"];
 
+/// The commands that there are, and those that come later.
+const COMMANDS: [&str; 6] = ["asm", "help", "step", "check", "run", "replay"];
+
+const OPTIONS: [&str; 4] = ["--help", "--version", "-h", "-V"];
+
 /// Adds which of the words, those behind the program's name, wasn't understood.
 pub fn explain_words<S: AsStr>(hint: &mut String, alloc: Global, words: &[S]) {
     if push_words(hint, alloc, words).is_err() {
@@ -28,24 +33,29 @@ fn push_words<S: AsStr>(hint: &mut String, alloc: Global, words: &[S]) -> Result
     if word == "help" {
         return hint.push_str("help knows the word asm alone");
     }
-    let shown = Word(word.as_bytes());
     if word.starts_with('-') {
-        write!(hint, "no option is called {shown}")?;
-        return push_nearest(
-            hint,
-            alloc,
-            word.as_bytes(),
-            &["--help", "--version", "-h", "-V"],
-        );
+        return push_option(hint, alloc, word.as_bytes());
     }
+    push_command(hint, alloc, word.as_bytes(), rest.is_empty())
+}
+
+/// Adds which option was meant by a word that is none.
+fn push_option(hint: &mut String, alloc: Global, word: &[u8]) -> Result<(), AllocError> {
+    write!(hint, "no option is called {}", Word(word))?;
+    push_nearest(hint, alloc, word, &OPTIONS)
+}
+
+/// Adds which command was meant by a word that is none; the word may be a scenario if it is alone.
+fn push_command(
+    hint: &mut String,
+    alloc: Global,
+    word: &[u8],
+    is_alone: bool,
+) -> Result<(), AllocError> {
+    let shown = Word(word);
     write!(hint, "no command is called {shown}")?;
-    push_nearest(
-        hint,
-        alloc,
-        word.as_bytes(),
-        &["asm", "help", "step", "check", "run", "replay"],
-    )?;
-    if rest.is_empty() {
+    push_nearest(hint, alloc, word, &COMMANDS)?;
+    if is_alone {
         write!(hint, "; a scenario comes by standard input: zlab < {shown}")?;
     }
     Ok(())

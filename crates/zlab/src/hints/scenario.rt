@@ -135,22 +135,22 @@ fn push_statement(
         [name, ..] if is(name, b"end") => {
             hint.push_str("end closes the block of a program, and none is open")
         }
-        [name, ..] if is_among(name, &LATER) => {
-            write!(hint, "the statement {} comes later", Word(name))
-        }
-        [name, ..] if decimal(name).is_some() => {
-            write!(
-                hint,
-                "no statement is called {}; turns stand below a line --",
-                Word(name)
-            )
-        }
-        [name, ..] => {
-            write!(hint, "no statement is called {}", Word(name))?;
-            push_nearest(hint, alloc, name, &STATEMENTS)
-        }
+        [name, ..] => push_no_statement(hint, alloc, name),
         [] => Ok(()),
     }
+}
+
+/// Adds which statement was meant by a word that is none.
+fn push_no_statement(hint: &mut String, alloc: Global, name: &[u8]) -> Result<(), AllocError> {
+    let word = Word(name);
+    if is_among(name, &LATER) {
+        return write!(hint, "the statement {word} comes later");
+    }
+    write!(hint, "no statement is called {word}")?;
+    if decimal(name).is_some() {
+        return hint.push_str("; turns stand below a line --");
+    }
+    push_nearest(hint, alloc, name, &STATEMENTS)
 }
 
 /// Whether the word is one of the names.
@@ -229,11 +229,13 @@ fn push_process(
             Word(job)
         );
     }
-    write!(
-        hint,
-        "there is no program {} above this line",
-        Word(program)
-    )?;
+    push_no_program(hint, program, programs)
+}
+
+/// Adds that there is no program of this number, and how many there are.
+fn push_no_program(hint: &mut String, program: &[u8], programs: u64) -> Result<(), AllocError> {
+    let program = Word(program);
+    write!(hint, "there is no program {program} above this line")?;
     match programs {
         0 => hint.push_str("; there is none at all"),
         1 => hint.push_str("; there is one, 0"),

@@ -1,0 +1,148 @@
+ghost use Rattle.std.specs.Prelude.{◌≡◌, [], OnOk, OnErr, IfErr, IfNone};
+ghost use Rattle.std.specs.List.{find, position};
+ghost use Rattle.zl_signals.specs.Asked.{takes};
+ghost use Rattle.zl_signals.specs.Waits.{holds, is_at_port, is_by_handle, is_keyed, next_order, with_changed, with_wait, without_first, without_wait};
+
+use crate::watch::{Asked, Watch};
+use bitflags::Flags;
+use std::alloc::{AllocFailed, Global};
+use std::collections::VecDeque;
+use std::marker::Model;
+use zl_rights::{HValue, Koid, Pid, Signals};
+
+/// The signals that calls raised at an object, and the waits that are registered there.
+///
+/// Source: the pages "Signals" and "zx_object_wait_async" of the Fuchsia documentation.
+#[derive(Drop)]
+pub struct SignalState {
+    raised: Signals,
+    // The earliest registered first.
+    waits: VecDeque<Watch>,
+}
+
+impl Model for SignalState {
+    ghost use Rattle.zl_signals.specs.Asked.{takes};
+    ghost use Rattle.zl_signals.specs.Waits.{SignalState as SignalStateValue};
+
+    ghost Value = { SignalStateValue };
+
+    ghost view = { λ s. record { raised = s.raised.0; waits = s.waits.items } };
+}
+
+impl SignalState {
+    /// No signals, and no waits. It takes no memory.
+    pub fn new(alloc: Global) -> SignalState
+        ensures { result ≡ record { raised = 0; waits = [] } }
+    {
+        SignalState {
+            raised: Signals::empty(),
+            waits: VecDeque::new(alloc),
+        }
+    }
+
+    /// The signals that calls raised and didn't clear since.
+    pub fn raised(&self) -> Signals
+        ensures { result.0 ≡ self.now.raised }
+    {
+        self.raised
+    }
+
+    /// The signals `clear` go, and then the signals `set` come. It takes no memory.
+    ///
+    /// Source: the page "zx_object_signal" of the Fuchsia documentation.
+    pub fn change(&mut self, clear: Signals, set: Signals)
+        ensures { self.new ≡ with_changed self.old clear.0 set.0 }
+    {
+        self.raised = self.raised.changed(clear, set);
+    }
+
+    /// Registers the wait behind all others.
+    ///
+    /// Only memory can be refused; then nothing changes, and the wait comes back.
+    /// Source: the page "zx_object_wait_async" of the Fuchsia documentation.
+    pub fn watch(&mut self, watch: Watch) -> Result<(), AllocFailed<Watch>>
+        ensures ok { OnOk result (self.new ≡ with_wait self.old watch) }
+        ensures unchanged { OnErr result (self.new ≡ self.old) }
+        ensures handed_back { IfErr result (λ refused. refused.value ≡ watch) }
+    {
+        self.waits.push_back(watch)
+    }
+
+    /// Takes out the earliest wait that the process made by its handle of this value, or nothing
+    /// where there is none. It takes no memory.
+    ///
+    /// Source: the page "zx_object_wait_async" of the Fuchsia documentation: a wait ends with its
+    /// handle.
+    pub fn unwatch_handle(&mut self, pid: Pid, value: HValue) -> Option<Watch>
+        ensures earliest { result ≡ find (is_by_handle pid value) self.old.waits }
+        ensures rest { self.new ≡ without_wait self.old (is_by_handle pid value) }
+        ensures unchanged { IfNone result (self.new ≡ self.old) }
+    {
+        take_first(&mut self.waits, Asked::ByHandle(pid, value))
+    }
+
+    /// Takes out the earliest wait that gives its packet to the port, or nothing where there is
+    /// none. It takes no memory.
+    ///
+    /// Source: own profile.
+    pub fn unwatch_port(&mut self, port: Koid) -> Option<Watch>
+        ensures earliest { result ≡ find (is_at_port port) self.old.waits }
+        ensures rest { self.new ≡ without_wait self.old (is_at_port port) }
+        ensures unchanged { IfNone result (self.new ≡ self.old) }
+    {
+        take_first(&mut self.waits, Asked::AtPort(port))
+    }
+
+    /// Takes out the earliest wait that the process made by its handle of this value for a packet
+    /// with the key to the port, or nothing where there is none. It takes no memory.
+    ///
+    /// Source: the page "zx_port_cancel" of the Fuchsia documentation.
+    pub fn unwatch_key(&mut self, pid: Pid, value: HValue, port: Koid, key: u64) -> Option<Watch>
+        ensures earliest { result ≡ find (is_keyed pid value port key) self.old.waits }
+        ensures rest { self.new ≡ without_wait self.old (is_keyed pid value port key) }
+        ensures unchanged { IfNone result (self.new ≡ self.old) }
+    {
+        take_first(&mut self.waits, Asked::Keyed(pid, value, port, key))
+    }
+
+    /// The order of the wait that `fire` would take out, if one holds. It takes no memory.
+    ///
+    /// Source: own profile.
+    pub fn next_order(&self, active: Signals) -> Option<u64>
+        ensures { result ≡ next_order self.now active.0 }
+    {
+        let asked = Asked::Holding(active);
+        let wait = self.waits.iter().find(|wait| asked.takes(wait))?;
+        Some(wait.order)
+    }
+
+    /// Takes out the earliest wait that holds, as a signal of its mask is active, or nothing where
+    /// none does. It takes no memory.
+    ///
+    /// Source: the page "zx_object_wait_async" of the Fuchsia documentation; the order is own
+    /// profile.
+    pub fn fire(&mut self, active: Signals) -> Option<Watch>
+        ensures earliest { result ≡ find (holds active.0) self.old.waits }
+        ensures rest { self.new ≡ without_wait self.old (holds active.0) }
+        ensures unchanged { IfNone result (self.new ≡ self.old) }
+    {
+        take_first(&mut self.waits, Asked::Holding(active))
+    }
+}
+
+/// Takes out the earliest wait that is asked for, or nothing where there is none.
+fn take_first(waits: &mut VecDeque<Watch>, asked: Asked) -> Option<Watch>
+    ensures earliest { result ≡ find (takes asked) waits.old.items }
+    ensures rest { waits.new.items ≡ without_first (takes asked) waits.old.items }
+    ensures unchanged { IfNone result (waits.new.items ≡ waits.old.items) }
+{
+    let place = place_of(waits, &asked)?;
+    waits.remove(place)
+}
+
+/// Where the earliest wait stands that is asked for.
+fn place_of(waits: &VecDeque<Watch>, asked: &Asked) -> Option<usize>
+    ensures { result ≡ position (takes asked.now) waits.now.items }
+{
+    waits.iter().position(|wait| asked.takes(wait))
+}

@@ -1,0 +1,102 @@
+use crate::{SignalState, Watch};
+use bitflags::Flags;
+use std::alloc::Global;
+use std::test::Fail;
+use zl_rights::{HValue, Koid, Pid, Signals};
+
+fn watch(pid: Pid, value: HValue, port: Koid, key: u64, mask: Signals, order: u64) -> Watch {
+    Watch {
+        pid,
+        value,
+        port,
+        key,
+        mask,
+        order,
+    }
+}
+
+/// Waits of two processes at ports 7 and 8, for SIGNALED but for the third, which waits for USER_0.
+fn four_waits(alloc: Global) -> Result<SignalState, Fail> {
+    let mut state = SignalState::new(alloc);
+    state.watch(watch(2, 1, 7, 5, Signals::SIGNALED, 10))?;
+    state.watch(watch(3, 1, 8, 5, Signals::SIGNALED, 20))?;
+    state.watch(watch(2, 1, 8, 6, Signals::USER_0, 30))?;
+    state.watch(watch(2, 4, 7, 5, Signals::SIGNALED, 40))?;
+    Ok(state)
+}
+
+fn order(taken: Option<Watch>) -> Option<u64> {
+    Some(taken?.order)
+}
+
+#[test]
+fn signals_are_cleared_and_then_set(rt: HostRuntime) {
+    let mut state = SignalState::new(rt.alloc());
+    assert_eq!(rt; state.raised().bits(), 0);
+    state.change(Signals::empty(), Signals::SIGNALED.union(Signals::USER_7));
+    assert_eq!(rt; state.raised().bits(), 0x8000_0008);
+    state.change(Signals::SIGNALED.union(Signals::USER_7), Signals::SIGNALED);
+    assert_eq!(rt; state.raised().bits(), 8);
+}
+
+#[test]
+fn waits_fire_in_the_order_of_their_registration(rt: HostRuntime) -> Result<(), Fail> {
+    let mut state = four_waits(rt.alloc())?;
+    assert_eq!(rt; state.next_order(Signals::READABLE), None);
+    assert!(rt; state.fire(Signals::READABLE).is_none());
+    assert_eq!(rt; state.next_order(Signals::USER_0), Some(30));
+    assert_eq!(rt;
+        state.next_order(Signals::SIGNALED.union(Signals::USER_0)),
+        Some(10)
+    );
+    assert_eq!(rt; order(state.fire(Signals::SIGNALED)), Some(10));
+    assert_eq!(rt; order(state.fire(Signals::USER_0)), Some(30));
+    assert_eq!(rt; order(state.fire(Signals::SIGNALED)), Some(20));
+    assert_eq!(rt; order(state.fire(Signals::SIGNALED)), Some(40));
+    assert_eq!(rt; state.next_order(Signals::SIGNALED), None);
+    Ok(())
+}
+
+#[test]
+fn a_wait_for_no_signal_never_fires(rt: HostRuntime) -> Result<(), Fail> {
+    let mut state = SignalState::new(rt.alloc());
+    state.watch(watch(2, 1, 7, 5, Signals::empty(), 0))?;
+    assert!(rt; state.fire(Signals::from_bits_retain(0xffff_ffff)).is_none());
+    assert_eq!(rt; order(state.unwatch_port(7)), Some(0));
+    Ok(())
+}
+
+#[test]
+fn only_the_waits_that_are_named_end(rt: HostRuntime) -> Result<(), Fail> {
+    let mut state = four_waits(rt.alloc())?;
+    assert!(rt; state.unwatch_key(2, 1, 8, 5).is_none());
+    assert_eq!(rt; order(state.unwatch_key(2, 1, 8, 6)), Some(30));
+    assert_eq!(rt; order(state.unwatch_handle(2, 1)), Some(10));
+    assert!(rt; state.unwatch_handle(2, 1).is_none());
+    assert!(rt; state.unwatch_port(9).is_none());
+    assert_eq!(rt; order(state.unwatch_port(7)), Some(40));
+    assert_eq!(rt; order(state.unwatch_port(8)), Some(20));
+    assert!(rt; state.unwatch_port(8).is_none());
+    Ok(())
+}
+
+/// Registers the wait, and once more where there was no memory for it.
+fn watch_again(state: &mut SignalState, wait: Watch) -> bool {
+    match state.watch(wait) {
+        Ok(()) => true,
+        Err(refused) => state.watch(refused.value).is_ok(),
+    }
+}
+
+/// Under `rt try --test --fail-alloc N` the Nth allocation is refused; else each call succeeds.
+#[test]
+fn a_wait_without_memory_comes_back(rt: HostRuntime) {
+    let mut state = SignalState::new(rt.alloc());
+    for n in 0..20 {
+        assert!(rt; watch_again(&mut state, watch(2, 1, 7, n, Signals::SIGNALED, n)));
+    }
+    for n in 0..20 {
+        assert_eq!(rt; order(state.fire(Signals::SIGNALED)), Some(n));
+    }
+    assert!(rt; state.fire(Signals::SIGNALED).is_none());
+}

@@ -1,0 +1,169 @@
+ghost use Rattle.std.specs.Prelude.{◌≡◌, ◌↔◌, ◌+◌, ◌<◌, ◌≤◌, [], Err, OnOk, OnErr, filter, length, not, slice_get};
+ghost use Rattle.std.specs.VecDeque.{deque_capacity, deque_len};
+ghost use Rattle.zl_port.specs.Packets.{MOST_USER_PACKETS, is_from, user_count, user_packet, with_packet, with_place, without_front, without_packets, without_place};
+
+use crate::packet::{Packet, Source};
+use std::alloc::{AllocError, Global};
+use std::collections::VecDeque;
+use std::marker::Model;
+
+/// Why a packet of a call was refused.
+#[derive(Clone, Copy, PartialEq, Eq, Debug)]
+pub enum QueueFault {
+    /// The port holds `Port::MOST_USER_PACKETS` packets of calls.
+    ShouldWait,
+    /// There was no memory for one more packet.
+    NoMemory,
+}
+
+/// The packets at a port, the earliest first, and the places that are reserved for packets to come.
+///
+/// Source: the page "Ports" of the Fuchsia documentation; reserved places are own profile.
+#[derive(Drop)]
+pub struct Port {
+    // There is room for the reserved places too, so that their packets take no memory.
+    queue: VecDeque<Packet>,
+    reserved: usize,
+    // How many of the packets calls have queued.
+    user_packets: usize,
+}
+
+impl Model for Port {
+    ghost use Rattle.std.specs.VecDeque.{deque_capacity};
+    ghost use Rattle.zl_port.specs.Packets.{Port as PortValue};
+    ghost use Rattle.zl_port.specs.Room.{HasRoom};
+
+    ghost Value = { PortValue };
+
+    ghost view = { λ p. record { packets = p.queue.items; reserved = p.reserved } };
+
+    ghost invariant = { λ p.
+        HasRoom p.queue.items (deque_capacity p.queue) p.reserved p.user_packets };
+}
+
+impl Port {
+    /// The most packets that calls have queued at a port (own profile).
+    pub const MOST_USER_PACKETS: usize = 2048;
+
+    /// A port without packets and reserved places. It takes no memory.
+    pub fn new(alloc: Global) -> Port
+        ensures { result ≡ record { packets = []; reserved = 0 } }
+    {
+        Port {
+            queue: VecDeque::new(alloc),
+            reserved: 0,
+            user_packets: 0,
+        }
+    }
+
+    /// Puts the packet of a call behind all others: type 0, with the key and the word.
+    ///
+    /// `ShouldWait` where the port holds `MOST_USER_PACKETS` such packets, else `NoMemory` where
+    /// there is no memory for one more.
+    /// Source: the page "zx_port_queue" of the Fuchsia documentation; the limit is own profile.
+    pub fn queue_user(&mut self, key: u64, value: u64) -> Result<(), QueueFault>
+        ensures ok { OnOk result (self.new ≡ with_packet self.old (user_packet key value)) }
+        ensures unchanged { OnErr result (self.new ≡ self.old) }
+        ensures should_wait { (result ≡ Err QueueFault.ShouldWait)
+            ↔ (MOST_USER_PACKETS ≤ user_count self.old.packets) }
+    {
+        if self.user_packets >= Port::MOST_USER_PACKETS {
+            return Err(QueueFault::ShouldWait);
+        }
+        if make_room(&mut self.queue, self.reserved).is_err() {
+            return Err(QueueFault::NoMemory);
+        }
+        self.queue.push_back_reserved(Packet::user(key, value));
+        self.user_packets += 1;
+        Ok(())
+    }
+
+    /// Reserves a place for the packet of one wait.
+    ///
+    /// Only memory can be refused; then nothing changes.
+    /// Source: own profile.
+    pub fn reserve_wait(&mut self) -> Result<(), AllocError>
+        ensures ok { OnOk result (self.new ≡ with_place self.old) }
+        ensures unchanged { OnErr result (self.new ≡ self.old) }
+    {
+        make_room(&mut self.queue, self.reserved)?;
+        self.reserved += 1;
+        Ok(())
+    }
+
+    /// Gives a reserved place back, if one is reserved, as its wait has ended without a packet. It
+    /// takes no memory.
+    ///
+    /// Source: own profile.
+    pub fn give_back(&mut self)
+        ensures { self.new ≡ without_place self.old }
+    {
+        self.reserved = self.reserved.saturating_sub(1);
+    }
+
+    /// Puts the packet of a wait behind all others, in a reserved place, which there has to be. It
+    /// takes no memory.
+    ///
+    /// Source: the page "zx_object_wait_async" of the Fuchsia documentation.
+    pub fn queue_signal(&mut self, packet: Packet)
+        requires { 0 < self.old.reserved }
+        ensures { self.new ≡ with_packet (without_place self.old) packet }
+    {
+        if packet.is_user() {
+            self.user_packets += 1;
+        }
+        self.queue.push_back_reserved(packet);
+        self.reserved -= 1;
+    }
+
+    /// Takes the first packet out, or nothing where there is none. It takes no memory.
+    ///
+    /// Source: the page "zx_port_wait" of the Fuchsia documentation.
+    pub fn pop(&mut self) -> Option<Packet>
+        ensures first { result ≡ slice_get self.old.packets 0 }
+        ensures rest { self.new ≡ without_front self.old }
+    {
+        let packet = self.queue.pop_front()?;
+        if packet.is_user() {
+            self.user_packets -= 1;
+        }
+        Some(packet)
+    }
+
+    /// Takes out the packets with this key that waits of this source gave, and says how many they
+    /// were. It takes no memory.
+    ///
+    /// Source: the page "zx_port_cancel" of the Fuchsia documentation; which packets they are is own
+    /// profile.
+    pub fn cancel(&mut self, source: Source, key: u64) -> usize
+        ensures rest { self.new ≡ without_packets self.old (is_from source key) }
+        ensures count { result ≡ length (filter (is_from source key) self.old.packets) }
+    {
+        take_from(&mut self.queue, source, key)
+    }
+}
+
+/// Makes room for one packet more beside so many reserved places.
+fn make_room(queue: &mut VecDeque<Packet>, reserved: usize) -> Result<(), AllocError>
+    requires { deque_len queue.old + reserved ≤ deque_capacity queue.old }
+    ensures packets { queue.new.items ≡ queue.old.items }
+    ensures ok { OnOk result (deque_len queue.old + reserved < deque_capacity queue.new) }
+    ensures grown { deque_capacity queue.old ≤ deque_capacity queue.new }
+{
+    if queue.capacity() - queue.len() > reserved {
+        return Ok(());
+    }
+    // For as many places again, so that reserving them one by one seldom takes memory.
+    queue.reserve(2 * reserved + 1)
+}
+
+/// Takes out the packets with this key that waits of this source gave, and says how many they were.
+fn take_from(queue: &mut VecDeque<Packet>, source: Source, key: u64) -> usize
+    ensures rest { queue.new.items ≡ filter (λ x. not (is_from source key x)) queue.old.items }
+    ensures count { result ≡ length (filter (is_from source key) queue.old.items) }
+    ensures room { deque_capacity queue.new ≡ deque_capacity queue.old }
+{
+    let before = queue.len();
+    queue.retain(|packet| !packet.is_from(source, key));
+    before - queue.len()
+}

@@ -1,0 +1,84 @@
+-- What std's map from koids holds after a read or a write, in the words of the definitions.
+use Rattle.zl_rights.proofs.Common.{◌≡◌, ◌<◌, ◌==◌, ℕ, Bool, true, false, ◌||◌, list_any, [], ◌∷◌, ◌++◌, refl, sym, ap, ◌∙◌, cond, Some, None, arith, eq-eqb, IsTrue, is_some, nat_cmp, nat_tests, Map, get, put, update, without, has_key}
+use Rattle.std.specs.Cmp.{unsigned_tied}
+use Rattle.std.specs.Map.{lookup, set_value, remove_entry, values_of}
+use Rattle.std.specs.BTreeMap.{is_at, insert_entry}
+
+module _ {X : Type 0} where
+  -- what is behind the first entry is there
+  pub behind_first : (e : ℕ × X) (m : Map X) (j : ℕ) → IsTrue (has_key m j) → IsTrue (has_key (e ∷ m) j)
+  unfolding get
+  behind_first e m j there = elim (e.0 == j) as (λ b. IsTrue (is_some (cond b (Some e.1) (get m j)))) [ true ↦ refl | false ↦ there ]
+
+  -- a key above all others goes to the end
+  put_last : (m : Map X) (k : ℕ) (v : X) → ((j : ℕ) → IsTrue (has_key m j) → j < k) → put m k v ≡ m ++ (k, v) ∷ []
+  unfolding put get
+  put_last [] k v below = refl
+  put_last (e ∷ m) k v below =
+      let first : e.0 < k = below e.0 (rw (eq-eqb e.0 e.0 refl) refl) in
+      let rest : put m k v ≡ m ++ (k, v) ∷ [] = put_last m k v (λ j there. below j (behind_first e m j there)) in
+      grind (arith, nat_tests)
+
+  -- a look-up is the definitions' own
+  pub looked_up : (es : Map X) (k : ℕ) → lookup (is_at (nat_cmp k)) es ≡ get es k
+  unfolding get
+  looked_up [] k = refl
+  looked_up (e ∷ es) k = grind (arith, nat_tests, looked_up es k, unsigned_tied k e.0)
+
+  -- a new value at a key that is there
+  value_set : (es : Map X) (k : ℕ) (f : X → X) (v : X) → Some v ≡ lookup (is_at (nat_cmp k)) es → set_value (is_at (nat_cmp k)) es (f v) ≡ update es k f
+  unfolding update
+  value_set [] k f v there = cc
+  value_set (e ∷ es) k f v there = grind (arith, nat_tests, value_set es k f v, unsigned_tied k e.0)
+
+  -- the map after a write to what was found
+  pub written : (es new : Map X) (k : ℕ) (f : X → X) (v w : X) → Some v ≡ lookup (is_at (nat_cmp k)) es → w ≡ f v → new ≡ set_value (is_at (nat_cmp k)) es w → new ≡ update es k f
+  written es new k f v w there is set = set ∙ (ap (set_value (is_at (nat_cmp k)) es) is ∙ value_set es k f v there)
+
+  -- nothing is written where the key isn't there
+  update_missing : (es : Map X) (k : ℕ) (f : X → X) → get es k ≡ None → update es k f ≡ es
+  unfolding get update
+  update_missing [] k f none = refl
+  update_missing (e ∷ es) k f none = grind (arith, nat_tests, update_missing es k f)
+
+  -- where nothing was found nothing changes
+  pub unwritten : (es new : Map X) (k : ℕ) (f : X → X) → None ≡ lookup (is_at (nat_cmp k)) es → new ≡ es → new ≡ update es k f
+  unwritten es new k f none same = same ∙ sym (update_missing es k f (sym (none ∙ looked_up es k)))
+
+  -- a value that is written as it was
+  pub written_back : (es new : Map X) (k : ℕ) (v w : X) → Some v ≡ lookup (is_at (nat_cmp k)) es → w ≡ v → new ≡ set_value (is_at (nat_cmp k)) es w → new ≡ es
+  written_back es new k v w there is set = set ∙ (ap (set_value (is_at (nat_cmp k)) es) is ∙ same es there)
+    where
+      same : (es : Map X) → Some v ≡ lookup (is_at (nat_cmp k)) es → set_value (is_at (nat_cmp k)) es v ≡ es
+      same [] there = refl
+      same (e ∷ es) there = grind (arith, nat_tests, same es)
+
+  -- where the key isn't there nothing goes
+  without_missing : (es : Map X) (k : ℕ) → get es k ≡ None → without es k ≡ es
+  unfolding get without
+  without_missing [] k none = refl
+  without_missing (e ∷ es) k none = grind (arith, nat_tests, without_missing es k)
+
+  -- without the first entry with a key, where no other has it
+  pub entry_removed : (es : Map X) (k : ℕ) → lookup (is_at (nat_cmp k)) (remove_entry (is_at (nat_cmp k)) es) ≡ None → remove_entry (is_at (nat_cmp k)) es ≡ without es k
+  unfolding without
+  entry_removed [] k gone = refl
+  entry_removed (e ∷ es) k gone = grind (arith, nat_tests, entry_removed es k, unsigned_tied k e.0, looked_up es k, without_missing es k)
+
+  -- an insertion is the definitions' own put
+  inserted : (es : Map X) (k : ℕ) (v : X) → insert_entry nat_cmp es k v ≡ put es k v
+  unfolding put
+  inserted [] k v = refl
+  inserted (e ∷ es) k v = grind (arith, nat_tests, inserted es k v, unsigned_tied k e.0)
+
+  -- a key above all others goes to the end
+  pub entry_inserted : (es : Map X) (k : ℕ) (v : X) → ((j : ℕ) → IsTrue (has_key es j) → j < k) → insert_entry nat_cmp es k v ≡ es ++ (k, v) ∷ []
+  entry_inserted es k v below = inserted es k v ∙ put_last es k v below
+
+  -- a test of values
+  pub any_value : (test : X → Bool) (es : Map X) → list_any test (values_of es) ≡ list_any (λ e. test e.1) es
+  any_value test [] = refl
+  any_value test (e ∷ es) = ap (λ b. test e.1 || b) (any_value test es)
+
+-- what the functions over maps cite
+pub ruleset by_koid = (looked_up, written, unwritten, written_back, entry_removed, entry_inserted)

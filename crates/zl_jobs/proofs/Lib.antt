@@ -1,0 +1,4 @@
+pub mod ByKoid
+pub mod Trees
+pub mod Climbing
+pub mod Kills

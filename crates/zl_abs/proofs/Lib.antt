@@ -14,3 +14,8 @@ pub mod LocalLowering
 pub mod CallLowering
 pub mod RuleSteps
 pub mod RuleLowering
+pub mod Absorbing
+pub mod Room
+pub mod FineStates
+pub mod FineTests
+pub mod FineRules

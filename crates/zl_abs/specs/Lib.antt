@@ -3,6 +3,7 @@ pub mod States
 pub mod Bounds
 pub mod Found
 pub mod Rule
+pub mod Fine
 pub mod LocalRules
 pub mod CallRules
 pub mod Operands

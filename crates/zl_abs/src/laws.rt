@@ -1,8 +1,10 @@
 //! Laws of the definitions: each function's contract is one law, and its body is empty.
 
-ghost use Rattle.std.specs.Prelude.{ℕ, IsTrue, List};
+ghost use Rattle.std.specs.Prelude.{ℕ, ◌≡◌, IsTrue, List, Some, IfOk};
 ghost use Rattle.zl_code.specs.Image.{Image};
-ghost use Rattle.zl_abs.specs.States.{State, all_below, all_joined};
+ghost use Rattle.zl_code.specs.Spells.{is_in_range};
+ghost use Rattle.zl_abs.specs.States.{State, all_below, all_joined, start_state};
+ghost use Rattle.zl_abs.specs.Fine.{IsFine, AllFine};
 ghost use Rattle.zl_abs.specs.Typing.{rule_with};
 ghost use Rattle.zl_abs.specs.Laws.{AllAboveJoin, JoinIsAllAbove, RuleBelow};
 
@@ -15,6 +17,16 @@ pub fn order_is_reflexive()
 pub fn order_is_transitive()
     ensures { (s t u : State)
         → IsTrue (all_below s t) → IsTrue (all_below t u) → IsTrue (all_below s u) }
+{}
+
+/// States that lie below each other are the same.
+pub fn order_is_antisymmetric()
+    ensures { (s t : State) → IsTrue (all_below s t) → IsTrue (all_below t s) → s ≡ t }
+{}
+
+/// A join with a state below changes nothing.
+pub fn join_absorbs()
+    ensures { (s t : State) → IsTrue (all_below t s) → all_joined s t ≡ Some s }
 {}
 
 /// A join is above both states, and below whatever is above both; there is none only where nothing
@@ -31,4 +43,15 @@ pub fn join_is_least()
 pub fn rules_are_monotone()
     ensures { (bounds : List ℕ) (i : Image) (n : ℕ) (s t : State)
         → IsTrue (all_below s t) → RuleBelow (rule_with bounds i n s) (rule_with bounds i n t) }
+{}
+
+/// States that begin as a process of an image begins stay fine through joins and rules: there is
+/// a value of its width for each register, and each tag names a register that is 0 or has a
+/// handle.
+pub fn states_stay_fine()
+    ensures start { (i : Image) → IsTrue (is_in_range i) → IsFine (start_state i) }
+    ensures join { (s t u : State)
+        → IsFine s → IsFine t → all_joined s t ≡ Some u → IsFine u }
+    ensures rule { (bounds : List ℕ) (i : Image) (n : ℕ) (s : State)
+        → IsTrue (is_in_range i) → IsFine s → IfOk (rule_with bounds i n s) AllFine }
 {}

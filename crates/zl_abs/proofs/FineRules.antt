@@ -1,0 +1,317 @@
+-- The rule of each instruction leads from a fine state to fine states.
+use Rattle.std.proofs.Common.{◌≡◌, ℕ, zero, suc, ◌+◌, ◌*◌, ◌<◌, ◌≤◌, Bool, true, false, ◌&&◌, not, List, [], ◌∷◌, ◌++◌, length, Option, Some, None, Result, Ok, Err, IfSome, IfOk, refl, subst, IsTrue, arith, eqb, leb, ltb}
+use Rattle.std.specs.Prelude.{slice_get, if◌then◌else◌, bit_and, zip}
+use Rattle.std.specs.List.{list_all}
+use Rattle.std.proofs.lemmas.Bool.Decides.{nat_tests}
+use Rattle.std.proofs.lemmas.Nat.{and_le_r}
+use Rattle.zl_rights.specs.declared.kind.Kind.{Kind}
+use Rattle.zl_rights.specs.declared.kind.Kind.TheVariants as kind
+use Rattle.zl_rights.specs.Numbers.{READ, bits, rights_of, SAME_RIGHTS, KNOWN_RIGHTS}
+use Rattle.zl_code.specs.declared.image.SlotArray.{SlotArray}
+use Rattle.zl_code.specs.declared.instr.Instr.{Instr}
+use Rattle.zl_code.specs.declared.instr.Instr.TheVariants as instr
+use Rattle.zl_code.specs.declared.instr.LocalInstr.{LocalInstr}
+use Rattle.zl_code.specs.declared.instr.LocalInstr.TheVariants as local
+use Rattle.zl_code.specs.declared.instr.CallInstr.{CallInstr}
+use Rattle.zl_code.specs.declared.instr.CallInstr.TheVariants as call
+use Rattle.zl_code.specs.Image.{Image, instr_at}
+use Rattle.zl_code.specs.Instructions.{Row, row_of}
+use Rattle.zl_code.specs.Spells.{Parts, is_in_range, is_instr_in_range, is_slot_in_range, is_local_in_range, is_call_in_range, local_parts, call_parts}
+use Rattle.zl_code.specs.Tests.{Operand}
+use Rattle.zl_code.specs.Refusals.{needs}
+use Rattle.zl_code.proofs.ImageRanges.{ranges}
+use Rattle.zl_abs.specs.declared.value.AbsVal.{AbsVal}
+use Rattle.zl_abs.specs.declared.value.AbsVal.TheVariants.{Word, Has, KindOf, RightsOf}
+use Rattle.zl_abs.specs.declared.cause.Cause.{Cause}
+use Rattle.zl_abs.specs.declared.cause.Cause.TheVariants as cause
+use Rattle.zl_abs.specs.declared.ways.Ways.{Ways}
+use Rattle.zl_abs.specs.Values.{ANY, capped, is_has}
+use Rattle.zl_abs.specs.States.{State, value_at, with_value, with_all}
+use Rattle.zl_abs.specs.Fine.{Fits, IsFine, AllFine}
+use Rattle.zl_abs.specs.Bounds.{least_from, rounded, plain_bounds}
+use Rattle.zl_abs.specs.Rule.{and_then, word_at, writes, passes, Edge, edge_to, edges}
+use Rattle.zl_abs.specs.LocalRules.{computes, in_memory, loads, stores, may_move, moved, takes, slot_fault, slot_value, swaps_by, swaps_in, unless, local_rule}
+use Rattle.zl_abs.specs.CallRules.{fault_of, taken_from, examined_by, examined, examined_all, are_words, range_fits, is_declared, are_distinct, has_one, Uses, uses, state_after, uses_by, uses_in, uses_of, new, narrowed_value, triple_results, read_results, packet_values, values_of, goes_on, stops, call_rule_by, call_rule}
+use Rattle.zl_abs.specs.Typing.{target_of, rule_by, rule_with}
+use Rattle.zl_abs.proofs.StateOrder.{both}
+use Rattle.zl_abs.proofs.ListSteps.{read_rule}
+use Rattle.zl_abs.proofs.FineStates.{Suits, Named, is_plain, named_self, named_there, fine_with, ArePlain, fine_with_all, fine_moved, rights_fit}
+use Rattle.zl_abs.proofs.FineTests.{FineWays, then_fine, IsBound, word_fine, zero_fine, equal_fine, below_fine, has_fine}
+
+if_fine : {B : Type 0} (Q : B → Type 0) (t : Bool) (x : Result B Cause) (c : Cause) → IfOk x Q → IfOk (if t then x else Err c) Q
+if_fine Q true x c h = h
+if_fine Q false x c h = tt
+
+unless_fine : {B : Type 0} (Q : B → Type 0) (t : Bool) (x : Result B Cause) (c : Cause) → (t ≡ false → IfOk x Q) → IfOk (if t then Err c else x) Q
+unless_fine Q true x c h = tt
+unless_fine Q false x c h = h refl
+
+-- ---- numbers
+
+least_fits : (bs : List ℕ) (n best : ℕ) → best ≤ ANY → least_from n best bs ≤ ANY
+unfolding least_from
+least_fits [] n best h = h
+least_fits (b ∷ bs) n best h = least_fits bs n _ (one n best b h)
+  where
+    one : (n best b : ℕ) → best ≤ ANY → (if leb n b && ltb b best then b else best) ≤ ANY
+    one n best b h = grind (arith, nat_tests)
+
+rounded_fits : (bounds : List ℕ) (n : ℕ) → rounded bounds n ≤ ANY
+rounded_fits bounds n = least_fits bounds n _ (least_fits plain_bounds n ANY (omega arith))
+
+writes_fine : (s : State) (r : ℕ) (v : AbsVal) → IsFine s → Suits s v → IfOk (writes s r v) FineWays
+writes_fine s r v h k = unless_fine FineWays (is_has (value_at s r)) (Ok (passes (with_value s r v))) cause.Leak (λ _. (tt, fine_with s r v h k))
+
+writes_word : (s : State) (r n : ℕ) → IsFine s → n ≤ ANY → IfOk (writes s r (Word n)) FineWays
+writes_word s r n h k = writes_fine s r (Word n) h (k, refl)
+
+computes_fine : (bounds : List ℕ) (s : State) (r n : ℕ) → IsFine s → IfOk (computes bounds s r n) FineWays
+computes_fine bounds s r n h = writes_word s r (rounded bounds n) h (rounded_fits bounds n)
+
+one : (s : State) (b : ℕ) (f : ℕ → Result Ways Cause) → IsFine s → ((m : ℕ) → IfOk (f m) FineWays) → IfOk (and_then (word_at s b) f) FineWays
+one s b f h k = then_fine (IsBound (value_at s b)) FineWays (word_at s b) f (word_fine s b h) (λ m p. k m)
+
+two : (s : State) (b c : ℕ) (f : ℕ → ℕ → Result Ways Cause) → IsFine s → ((m n : ℕ) → IfOk (f m n) FineWays)
+    → IfOk (and_then (word_at s b) (λ m. and_then (word_at s c) (λ n. f m n))) FineWays
+two s b c f h k = one s b _ h (λ m. one s c (f m) h (k m))
+
+loads_fine : (i : Image) (s : State) (n bound a b offset : ℕ) → IsFine s → bound ≤ ANY → IfOk (loads i s n bound a b offset) FineWays
+loads_fine i s n bound a b offset h k = one s b _ h (λ m. if_fine FineWays (in_memory i m offset n) _ _ (writes_word s a bound h k))
+
+stores_fine : (i : Image) (s : State) (n a b offset : ℕ) → IsFine s → IfOk (stores i s n a b offset) FineWays
+stores_fine i s n a b offset h = two s a b _ h (λ m x. if_fine FineWays (in_memory i m offset n) (Ok (passes s)) cause.MemoryRange (tt, h))
+
+-- ---- moves
+
+may_named : (v : AbsVal) → not (may_move v) ≡ false → Named v
+may_named (Word m) h = by (eqb m 0) h
+  where
+    by : (t : Bool) → not t ≡ false → t ≡ true
+    by true e = refl
+    by false e = cc
+may_named (Has a k q) h = refl
+may_named (KindOf r) h = cc
+may_named (RightsOf r) h = cc
+
+takes_fine : (s : State) (a b : ℕ) → IsFine s → a < 32 → IfOk (takes s a b) FineWays
+takes_fine s a b h less =
+    unless_fine FineWays (eqb a b) _ _ (λ _.
+    unless_fine FineWays (not (may_move (value_at s b))) _ _ (λ e.
+    unless_fine FineWays (is_has (value_at s a)) (Ok (passes (moved s a b (value_at s b)))) cause.Leak (λ _.
+    (tt, fine_moved s a b (value_at s b) h less (h.fits b, h.state.tags b) (may_named (value_at s b) e)))))
+
+swap_fine : (s : State) (a : ℕ) (t : SlotArray) (o : Option Cause) → IsFine s → Fits (slot_value t) → IfOk (swaps_by s a t o) FineWays
+swap_fine s a t (Some c) h k = tt
+swap_fine s a t None h k = (tt, fine_with s a (slot_value t) h (k, refl))
+
+swaps_fine : (s : State) (a b : ℕ) (o : Option SlotArray) → IsFine s → IfSome o (λ t. Fits (slot_value t)) → IfOk (swaps_in s a b o) FineWays
+swaps_fine s a b None h k = tt
+swaps_fine s a b (Some t) h k = one s b _ h (λ place. if_fine FineWays (ltb place t.length) _ _ (swap_fine s a t (slot_fault t (value_at s a)) h k))
+
+slots_fit : (slots : List SlotArray) (n : ℕ) → list_all is_slot_in_range slots ≡ true → IfSome (slice_get slots n) (λ t. Fits (slot_value t))
+slots_fit [] n h = tt
+slots_fit (t ∷ slots) zero h =
+    let p = (both (is_slot_in_range t) (list_all is_slot_in_range slots) h).0 in
+    rights_fit t.kind (bits t.rights) (both _ _ (both _ _ p).1).1
+slots_fit (t ∷ slots) (suc n) h = slots_fit slots n (both (is_slot_in_range t) (list_all is_slot_in_range slots) h).1
+
+-- ---- the local instructions
+
+unless_ways : (x : Result Ways Cause) → IfOk x FineWays → IfOk (unless x) FineWays
+unless_ways (Err c) h = tt
+unless_ways (Ok w) h = (h.1, h.0)
+
+take_in_range : (a b : ℕ) → is_local_in_range (local.Take a b) ≡ true → a < 32
+unfolding local_parts
+take_in_range a b h = grind (arith, nat_tests)
+
+pub local_fine : (bounds : List ℕ) (i : Image) (x : LocalInstr) (s : State) → IsTrue (is_in_range i) → is_local_in_range x ≡ true → IsFine s → IfOk (local_rule bounds i x s) FineWays
+unfolding local_rule
+local_fine bounds i (local.Const a imm) s g r h = writes_word s a (capped imm) h (omega arith)
+local_fine bounds i (local.Move a b) s g r h = one s b _ h (λ m. writes_fine s a (value_at s b) h (h.fits b, h.state.tags b))
+local_fine bounds i (local.Add a b c) s g r h = two s b c _ h (λ m n. computes_fine bounds s a _ h)
+local_fine bounds i (local.AddNumber a b imm) s g r h = one s b _ h (λ m. computes_fine bounds s a _ h)
+local_fine bounds i (local.Subtract a b c) s g r h = two s b c _ h (λ m n. writes_word s a ANY h (omega arith))
+local_fine bounds i (local.And a b c) s g r h = two s b c _ h (λ m n. computes_fine bounds s a _ h)
+local_fine bounds i (local.Or a b c) s g r h = two s b c _ h (λ m n. writes_word s a ANY h (omega arith))
+local_fine bounds i (local.Xor a b c) s g r h = two s b c _ h (λ m n. writes_word s a ANY h (omega arith))
+local_fine bounds i (local.ShiftLeft a b imm) s g r h = one s b _ h (λ m. writes_word s a ANY h (omega arith))
+local_fine bounds i (local.ShiftRight a b imm) s g r h = one s b _ h (λ m. computes_fine bounds s a _ h)
+local_fine bounds i (local.Take a b) s g r h = takes_fine s a b h (take_in_range a b r)
+local_fine bounds i (local.Swap a b imm) s g r h = swaps_fine s a b (slice_get i.slots imm) h (slots_fit i.slots imm (ranges i g).slots)
+local_fine bounds i (local.LoadByte a b imm) s g r h = loads_fine i s 1 255 a b imm h (omega arith)
+local_fine bounds i (local.LoadWord a b imm) s g r h = loads_fine i s 8 ANY a b imm h (omega arith)
+local_fine bounds i (local.StoreByte a b imm) s g r h = stores_fine i s 1 a b imm h
+local_fine bounds i (local.StoreWord a b imm) s g r h = stores_fine i s 8 a b imm h
+local_fine bounds i (local.Jump target) s g r h = (h, tt)
+local_fine bounds i (local.JumpZero a target) s g r h = zero_fine s a h
+local_fine bounds i (local.JumpNotZero a target) s g r h = unless_ways _ (zero_fine s a h)
+local_fine bounds i (local.JumpEqual a imm target) s g r h = equal_fine s a imm h
+local_fine bounds i (local.JumpNotEqual a imm target) s g r h = unless_ways _ (equal_fine s a imm h)
+local_fine bounds i (local.JumpBelow a imm target) s g r h = below_fine s a imm h
+local_fine bounds i (local.JumpNotBelow a imm target) s g r h = unless_ways _ (below_fine s a imm h)
+local_fine bounds i (local.JumpHas a imm target) s g r h = has_fine s a imm h
+local_fine bounds i (local.JumpHasNot a imm target) s g r h = unless_ways _ (has_fine s a imm h)
+
+-- ---- the calls
+
+taken_fine : (s : State) (o : Operand) → IsFine s → IsFine (taken_from s o)
+taken_fine s o h = by o.is_taken
+  where
+    by : (b : Bool) → IsFine (if b then with_value s o.value (Word 0) else s)
+    by true = fine_with s o.value (Word 0) h (omega arith, refl)
+    by false = h
+
+examined_fine : (s : State) (o : Operand) → IsFine s → IfOk (examined s o) IsFine
+examined_fine s o h = by (fault_of o (value_at s o.value))
+  where
+    by : (c : Option Cause) → IfOk (examined_by s o c) IsFine
+    by (Some c) = tt
+    by None = taken_fine s o h
+
+examined_all_fine : (os : List Operand) (s : State) → IsFine s → IfOk (examined_all s os) IsFine
+unfolding examined_all
+examined_all_fine [] s h = h
+examined_all_fine (o ∷ os) s h = then_fine IsFine IsFine (examined s o) _ (examined_fine s o h) (λ t k. examined_all_fine os t k)
+
+-- the destinations get values that leave a fine state fine
+abbrev CanGet : List (ℕ × AbsVal) → Type 0
+CanGet results = (t : State) → IsFine t → IsFine (with_all t results)
+
+after_fine : (i : Image) (s : State) (u : Uses) → IsFine s → CanGet u.results → IfOk (state_after i s u) IsFine
+after_fine i s u h k =
+    then_fine IsFine IsFine (examined_all s u.operands) _ (examined_all_fine u.operands s h) (λ t g.
+    unless_fine IsFine (not (are_words s u.words)) _ _ (λ _.
+    unless_fine IsFine (not (range_fits i s u.range)) _ _ (λ _.
+    unless_fine IsFine (not (is_declared i u.condition)) _ _ (λ _.
+    unless_fine IsFine (not (are_distinct u.results)) _ _ (λ _.
+    unless_fine IsFine (has_one t u.results) (Ok (with_all t u.results)) cause.Leak (λ _. k t g))))))
+
+-- values that are no tags
+abbrev AreValues : List AbsVal → Type 0
+AreValues [] = Unit {0}
+AreValues (v ∷ vs) = (is_plain v ≡ true) × Fits v × AreValues vs
+
+zip_plain : (rs : List ℕ) (vs : List AbsVal) → AreValues vs → ArePlain (zip rs vs)
+zip_plain [] vs h = tt
+zip_plain (r ∷ rs) [] h = tt
+zip_plain (r ∷ rs) (v ∷ vs) h = (h.0, h.1, zip_plain rs vs h.2)
+
+by_row : (i : Image) (s : State) (on : Bool) (o : Option Row) (p : Parts) (vs : List AbsVal) → IsFine s → AreValues vs → IfOk (call_rule_by i s on (uses_in o p vs)) FineWays
+by_row i s on None p vs h k = tt
+by_row i s on (Some r) p vs h k =
+    then_fine IsFine FineWays (state_after i s (uses_by r p vs)) _
+    (after_fine i s (uses_by r p vs) h (λ t g. fine_with_all _ t g (zip_plain _ (Word 30 ∷ vs) (refl, omega arith, k))))
+    (λ t g. goes on t g)
+  where
+    goes : (b : Bool) (t : State) → IsFine t → FineWays (if b then passes t else stops)
+    goes true t g = (tt, g)
+    goes false t g = (tt, tt)
+
+plain_fine : (bounds : List ℕ) (i : Image) (c : CallInstr) (s : State) → IsFine s → AreValues (values_of bounds s c) → IfOk (call_rule bounds i c s) FineWays
+unfolding call_rule uses_of
+plain_fine bounds i c s h k = by_row i s (goes_on c) (row_of (call_parts c).opcode) (call_parts c) _ h k
+
+narrowed_values : (v : AbsVal) (asked : ℕ) → Fits v → AreValues (narrowed_value v asked ∷ [])
+narrowed_values (Has a k q) asked h = (refl, by (eqb asked SAME_RIGHTS), tt)
+  where
+    by : (t : Bool) → bits (if t then q else rights_of (bit_and asked KNOWN_RIGHTS)) ≤ 0xffff_ffff
+    by true = h
+    by false = let z = and_le_r asked KNOWN_RIGHTS in omega arith
+narrowed_values (Word m) asked h = (refl, omega arith, tt)
+narrowed_values (KindOf r) asked h = (refl, omega arith, tt)
+narrowed_values (RightsOf r) asked h = (refl, omega arith, tt)
+
+-- a handle, and behind it its kind and its rights
+triples_fine : (n r : ℕ) (s : State) → r + 3 * n ≤ 32 → IsFine s → IsFine (with_all s (triple_results r n))
+unfolding with_all
+triples_fine zero r s less h = h
+triples_fine (suc n) r s less h =
+    let t = with_value s r (Has true None (rights_of 0)) in
+    let f : IsFine t = fine_with s r (Has true None (rights_of 0)) h (omega arith, refl) in
+    let a : Named (value_at t r) = named_self s r (Has true None (rights_of 0)) refl in
+    let u = with_value t (r + 1) (KindOf r) in
+    let g : IsFine u = fine_with t (r + 1) (KindOf r) f (omega arith, a) in
+    let b : Named (value_at u r) = named_there t (r + 1) r (KindOf r) (apart r) a in
+    triples_fine n (r + 3) (with_value u (r + 2) (RightsOf r)) (omega arith) (fine_with u (r + 2) (RightsOf r) g (omega arith, b))
+  where
+    apart : (r : ℕ) → eqb r (r + 1) ≡ false
+    apart r = grind (arith, nat_tests)
+
+read_in_range : (a b c d e f g n : ℕ) → is_call_in_range (call.ChanReadEtc a b c d e f g n) ≡ true → g + 3 * n ≤ 32
+unfolding call_parts
+read_in_range a b c d e f g n h = grind (arith, nat_tests)
+
+read_fine : (bounds : List ℕ) (i : Image) (s : State) (a b c d e f g n : ℕ) → g + 3 * n ≤ 32 → IsFine s → IfOk (call_rule bounds i (call.ChanReadEtc a b c d e f g n) s) FineWays
+unfolding with_all
+read_fine bounds i s a b c d e f g n less h =
+    subst (λ x. IfOk x FineWays) (read_rule bounds i s a b c d e f g n)
+    (then_fine IsFine FineWays (state_after i s used) _ (after_fine i s used h received) (λ t k. (tt, k)))
+  where
+    used : Uses
+    used = uses (needs b (kind.Channel ∷ []) READ ∷ []) (c ∷ d ∷ []) (Some (c, d)) None (read_results a e f g n)
+
+    received : CanGet (read_results a e f g n)
+    received t k =
+        let x = fine_with t a (Word 30) k (omega arith, refl) in
+        let y = fine_with _ e (Word 65536) x (omega arith, refl) in
+        let z = fine_with _ f (Word 64) y (omega arith, refl) in
+        triples_fine n g _ less z
+
+new_value : (k : Kind) → Fits (new k)
+new_value kind.Process = omega arith
+new_value kind.Channel = omega arith
+new_value kind.Event = omega arith
+new_value kind.Port = omega arith
+new_value kind.Job = omega arith
+
+packet_fits : (bounds : List ℕ) → AreValues (packet_values bounds)
+packet_fits bounds = (refl, omega arith, (refl, rounded_fits bounds 1, (refl, omega arith, (refl, omega arith, tt))))
+
+pub call_fine : (bounds : List ℕ) (i : Image) (c : CallInstr) (s : State) → is_call_in_range c ≡ true → IsFine s → IfOk (call_rule bounds i c s) FineWays
+call_fine bounds i (call.ChanReadEtc a b c d e f g n) s r h = read_fine bounds i s a b c d e f g n (read_in_range a b c d e f g n r) h
+call_fine bounds i (call.Dup a b c imm) s r h = plain_fine bounds i (call.Dup a b c imm) s h (narrowed_values (value_at s b) imm (h.fits b))
+call_fine bounds i (call.Replace a b c imm) s r h = plain_fine bounds i (call.Replace a b c imm) s h (narrowed_values (value_at s b) imm (h.fits b))
+call_fine bounds i (call.ChanCreate a b c) s r h = plain_fine bounds i (call.ChanCreate a b c) s h (refl, new_value kind.Channel, (refl, new_value kind.Channel, tt))
+call_fine bounds i (call.EventCreate a b) s r h = plain_fine bounds i (call.EventCreate a b) s h (refl, new_value kind.Event, tt)
+call_fine bounds i (call.WaitOne a b c d) s r h = plain_fine bounds i (call.WaitOne a b c d) s h (refl, omega arith, tt)
+call_fine bounds i (call.WaitPoll a b c d) s r h = plain_fine bounds i (call.WaitPoll a b c d) s h (refl, omega arith, tt)
+call_fine bounds i (call.PortCreate a b) s r h = plain_fine bounds i (call.PortCreate a b) s h (refl, new_value kind.Port, tt)
+call_fine bounds i (call.PortWait a b c d e f) s r h = plain_fine bounds i (call.PortWait a b c d e f) s h (packet_fits bounds)
+call_fine bounds i (call.PortPoll a b c d e f) s r h = plain_fine bounds i (call.PortPoll a b c d e f) s h (packet_fits bounds)
+call_fine bounds i (call.ProcessCreate a b c d) s r h = plain_fine bounds i (call.ProcessCreate a b c d) s h (refl, new_value kind.Process, tt)
+call_fine bounds i (call.JobCreate a b c) s r h = plain_fine bounds i (call.JobCreate a b c) s h (refl, new_value kind.Job, tt)
+call_fine bounds i c s r h = plain_fine bounds i c s h tt
+
+-- ---- the edges
+
+edge_fine : (size : ℕ) (c : Cause) (target : ℕ) (o : Option State) → IfSome o IsFine → IfOk (edge_to size c target o) AllFine
+edge_fine size c target None h = tt
+edge_fine size c target (Some s) h = if_fine AllFine (ltb target size) (Ok ((target, s) ∷ [])) c (h, tt)
+
+both_fine : (xs ys : List Edge) → AllFine xs → AllFine ys → AllFine (xs ++ ys)
+both_fine [] ys h k = k
+both_fine (x ∷ xs) ys h k = (h.0, both_fine xs ys h.1 k)
+
+edges_fine : (size place target : ℕ) (w : Ways) → FineWays w → IfOk (edges size place target w) AllFine
+edges_fine size place target w h =
+    then_fine AllFine AllFine (edge_to size cause.BadJump target w.jumped) _ (edge_fine size cause.BadJump target w.jumped h.0) (λ xs p.
+    then_fine AllFine AllFine (edge_to size cause.FallsOff (place + 1) w.passed) (λ ys. Ok (xs ++ ys)) (edge_fine size cause.FallsOff (place + 1) w.passed h.1) (λ ys q.
+    both_fine xs ys p q))
+
+-- ---- the rule
+
+in_range_at : (raw : Bool) (code : List Instr) (n : ℕ) → list_all (is_instr_in_range raw) code ≡ true → IfSome (slice_get code n) (λ x. is_instr_in_range raw x ≡ true)
+in_range_at raw [] n h = tt
+in_range_at raw (x ∷ code) zero h = (both (is_instr_in_range raw x) (list_all (is_instr_in_range raw) code) h).0
+in_range_at raw (x ∷ code) (suc n) h = in_range_at raw code n (both (is_instr_in_range raw x) (list_all (is_instr_in_range raw) code) h).1
+
+by_instr : (bounds : List ℕ) (i : Image) (n : ℕ) (s : State) (o : Option Instr) → IsTrue (is_in_range i) → IfSome o (λ x. is_instr_in_range i.raw x ≡ true) → IsFine s → IfOk (rule_by bounds i n s o) AllFine
+by_instr bounds i n s None g r h = tt
+by_instr bounds i n s (Some (instr.Local x)) g r h = then_fine FineWays AllFine (local_rule bounds i x s) _ (local_fine bounds i x s g r h) (edges_fine (length i.code) n (target_of x))
+by_instr bounds i n s (Some (instr.Call x)) g r h = then_fine FineWays AllFine (call_rule bounds i x s) _ (call_fine bounds i x s r h) (edges_fine (length i.code) n 0)
+by_instr bounds i n s (Some (instr.Unknown bytes)) g r h = tt
+
+pub rule_fine : (bounds : List ℕ) (i : Image) (n : ℕ) (s : State) → IsTrue (is_in_range i) → IsFine s → IfOk (rule_with bounds i n s) AllFine
+unfolding rule_with
+rule_fine bounds i n s g h = by_instr bounds i n s (instr_at i n) g (in_range_at i.raw i.code n (ranges i g).code) h

@@ -15,6 +15,7 @@ pub mod CallLowering
 pub mod RuleSteps
 pub mod RuleLowering
 pub mod Absorbing
+pub mod RaiseSteps
 pub mod Room
 pub mod FineStates
 pub mod FineTests

@@ -1,4 +1,4 @@
-ghost use Rattle.std.specs.Prelude.{◌≡◌, ◌≤◌, ◌<◌, length, map, replicate};
+ghost use Rattle.std.specs.Prelude.{◌≡◌, ◌≤◌, ◌<◌, Some, None, IfSome, IfNone, not, length, map, replicate};
 ghost use Rattle.std.specs.Bool.{then_some};
 ghost use Rattle.std.specs.Result.{result_ok};
 ghost use Rattle.zl_code.specs.Limits.{register_count};
@@ -117,6 +117,17 @@ impl AbsState {
         state
     }
 
+    /// Becomes the least state above itself and the other, and answers whether it rose: whether the
+    /// other wasn't below it. Nothing where no state is above both; then some registers may have
+    /// been raised.
+    pub fn raise(&mut self, other: &AbsState) -> Option<bool>
+        ensures joined { IfSome result (λ rose. all_joined self.old other.now ≡ Some self.new) }
+        ensures rose { IfSome result (λ rose. all_below other.now self.old ≡ not rose) }
+        ensures none { IfNone result (all_joined self.old other.now ≡ None) }
+    {
+        raise_all(&mut self.registers, &other.registers)
+    }
+
     /// The state after the value of `source` went to `destination`, and its tags with it.
     pub(crate) fn moved(&self, destination: Register, source: Register, value: AbsVal) -> AbsState
         ensures { result ≡ moved self.now destination source value }
@@ -174,6 +185,27 @@ pub fn join(state: &AbsState, other: &AbsState) -> Result<AbsState, Conflict>
     } else {
         Err(Conflict)
     }
+}
+
+/// Raises each value to its join with the other in its place, as long as they have one, and answers
+/// whether one rose.
+fn raise_all(values: &mut [AbsVal], others: &[AbsVal]) -> Option<bool>
+    requires { length values.old ≡ length others.now }
+    ensures joined { IfSome result (λ rose. all_joined values.old others.now ≡ Some values.new) }
+    ensures rose { IfSome result (λ rose. all_below others.now values.old ≡ not rose) }
+    ensures none { IfNone result (all_joined values.old others.now ≡ None) }
+{
+    let mut rose = false;
+    for (i, other) in others.iter().enumerate() {
+        if !other.is_below(values[i]) {
+            let Some(value) = values[i].join(*other) else {
+                return None;
+            };
+            values[i] = value;
+            rose = true;
+        }
+    }
+    Some(rose)
 }
 
 /// Joins each value with the other in its place, as long as they have a join.

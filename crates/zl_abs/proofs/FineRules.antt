@@ -28,7 +28,7 @@ use Rattle.zl_abs.specs.declared.ways.Ways.{Ways}
 use Rattle.zl_abs.specs.Values.{ANY, capped, is_has}
 use Rattle.zl_abs.specs.States.{State, value_at, with_value, with_all}
 use Rattle.zl_abs.specs.Fine.{Fits, IsFine, AllFine}
-use Rattle.zl_abs.specs.Bounds.{least_from, rounded, plain_bounds}
+use Rattle.zl_abs.specs.Bounds.{least_from, rounded}
 use Rattle.zl_abs.specs.Rule.{and_then, word_at, writes, passes, Edge, edge_to, edges}
 use Rattle.zl_abs.specs.LocalRules.{computes, in_memory, loads, stores, may_move, moved, takes, slot_fault, slot_value, swaps_by, swaps_in, unless, local_rule}
 use Rattle.zl_abs.specs.CallRules.{fault_of, taken_from, examined_by, examined, examined_all, are_words, range_fits, is_declared, are_distinct, has_one, Uses, uses, state_after, uses_by, uses_in, uses_of, new, narrowed_value, triple_results, read_results, packet_values, values_of, goes_on, stops, call_rule_by, call_rule}
@@ -57,7 +57,7 @@ least_fits (b ∷ bs) n best h = least_fits bs n _ (one n best b h)
     one n best b h = grind (arith, nat_tests)
 
 rounded_fits : (bounds : List ℕ) (n : ℕ) → rounded bounds n ≤ ANY
-rounded_fits bounds n = least_fits bounds n _ (least_fits plain_bounds n ANY (omega arith))
+rounded_fits bounds n = least_fits bounds n ANY (omega arith)
 
 writes_fine : (s : State) (r : ℕ) (v : AbsVal) → IsFine s → Suits s v → IfOk (writes s r v) FineWays
 writes_fine s r v h k = unless_fine FineWays (is_has (value_at s r)) (Ok (passes (with_value s r v))) cause.Leak (λ _. (tt, fine_with s r v h k))

@@ -16,6 +16,8 @@ pub mod RuleSteps
 pub mod RuleLowering
 pub mod Absorbing
 pub mod RaiseSteps
+pub mod SortedBounds
+pub mod RoundingAlike
 pub mod Room
 pub mod FineStates
 pub mod FineTests

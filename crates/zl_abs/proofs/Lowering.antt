@@ -8,7 +8,7 @@ use Rattle.zl_abs.specs.declared.cause.Cause.{Cause}
 use Rattle.zl_abs.specs.declared.ways.Ways.{Ways}
 use Rattle.zl_abs.specs.Values.{ANY, below, is_has, bound_of, untagged, retagged}
 use Rattle.zl_abs.specs.States.{State, all_below, value_at, with_value}
-use Rattle.zl_abs.specs.Bounds.{least_from, rounded, plain_bounds}
+use Rattle.zl_abs.specs.Bounds.{least_from, rounded}
 use Rattle.zl_abs.specs.Rule.{and_then, writes, word_or, word_at, passes}
 use Rattle.zl_abs.specs.LocalRules.{computes, moved}
 use Rattle.zl_abs.proofs.Order.{below_refl}
@@ -204,7 +204,7 @@ least_monotone [] m n b c h k = k
 least_monotone (x ∷ bs) m n b c h k = least_monotone bs m n _ _ h (step m n b c x h k)
 
 pub rounded_monotone : (bs : List ℕ) (m n : ℕ) → m ≤ n → rounded bs m ≤ rounded bs n
-rounded_monotone bs m n h = least_monotone bs m n _ _ h (least_monotone plain_bounds m n ANY ANY h (omega arith))
+rounded_monotone bs m n h = least_monotone bs m n ANY ANY h (omega arith)
 
 -- ---- writes
 

@@ -3,7 +3,7 @@ use Rattle.std.proofs.Common.{◌≡◌, ℕ, ◌+◌, ◌<◌, ◌≤◌, ◌&&
 use Rattle.std.specs.Prelude.{if◌then◌else◌}
 use Rattle.std.proofs.lemmas.List.{drop_all}
 use Rattle.zl_code.specs.declared.instr.Instr.{Instr}
-use Rattle.zl_abs.specs.Bounds.{least_from, bounds_of, bounds_by, imm_of}
+use Rattle.zl_abs.specs.Bounds.{least_from, imm_bounds, bounds_by, imm_of}
 use Rattle.zl_abs.proofs.StateSteps.{Stands, drop_here}
 
 pub least_append : (n : ℕ) (xs ys : List ℕ) (best : ℕ) → least_from n best (xs ++ ys) ≡ least_from n (least_from n best xs) ys
@@ -20,9 +20,9 @@ unfolding least_from
 least_end n best bs i h = rw (drop_all i bs h) refl
 
 pub code_step : (n best : ℕ) (code : List Instr) (i : ℕ) (x : Instr) → i < length code → Stands code i x
-    → least_from n best (bounds_of (drop i code)) ≡ least_from n (least_from n best (bounds_by (imm_of x))) (bounds_of (drop (i + 1) code))
-code_step n best code i x h p = rw (drop_here code i x h p) (least_append n (bounds_by (imm_of x)) (bounds_of (drop (i + 1) code)) best)
+    → least_from n best (imm_bounds (drop i code)) ≡ least_from n (least_from n best (bounds_by (imm_of x))) (imm_bounds (drop (i + 1) code))
+code_step n best code i x h p = rw (drop_here code i x h p) (least_append n (bounds_by (imm_of x)) (imm_bounds (drop (i + 1) code)) best)
 
-pub code_end : (n best : ℕ) (code : List Instr) (i : ℕ) → length code ≤ i → best ≡ least_from n best (bounds_of (drop i code))
+pub code_end : (n best : ℕ) (code : List Instr) (i : ℕ) → length code ≤ i → best ≡ least_from n best (imm_bounds (drop i code))
 unfolding least_from
 code_end n best code i h = rw (drop_all i code h) refl

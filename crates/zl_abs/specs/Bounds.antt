@@ -1,5 +1,5 @@
 -- The bounds of words: which there are in a program, and the next one from a number on.
-use Rattle.std.specs.Prelude.{ℕ, ◌-◌, ◌&&◌, nat_lt, nat_le, List, [], ◌∷◌, Option, Some, None, if◌then◌else◌}
+use Rattle.std.specs.Prelude.{ℕ, ◌≡◌, ◌-◌, ◌++◌, ◌&&◌, nat_lt, nat_le, List, [], ◌∷◌, Option, Some, None, if◌then◌else◌}
 use Rattle.std.specs.List.{flat_map}
 use Rattle.zl_code.specs.declared.layout.Ending.{Ending}
 use Rattle.zl_code.specs.declared.layout.Ending.TheVariants as ending
@@ -38,9 +38,13 @@ bounds_by (Some imm) = imm ∷ (imm - 1) ∷ []
 abbrev pub plain_bounds : List ℕ
 plain_bounds = 0 ∷ 30 ∷ 64 ∷ 255 ∷ 65536 ∷ 0xffff_ffff ∷ []
 
+-- the bounds that the instructions bring
+abbrev pub imm_bounds : List Instr → List ℕ
+imm_bounds code = flat_map (λ i. bounds_by (imm_of i)) code
+
 -- the bounds of a program with this code, but for the largest
 abbrev pub bounds_of : List Instr → List ℕ
-bounds_of code = flat_map (λ i. bounds_by (imm_of i)) code
+bounds_of code = plain_bounds ++ imm_bounds code
 
 -- the least of best and of the bounds that aren't below n
 unfoldable pub least_from : ℕ → ℕ → List ℕ → ℕ
@@ -49,4 +53,8 @@ least_from n best (b ∷ bs) = least_from n (if nat_le n b && nat_lt b best then
 
 -- the next bound, from n on
 abbrev pub rounded : List ℕ → ℕ → ℕ
-rounded bounds n = least_from n (least_from n ANY plain_bounds) bounds
+rounded bounds n = least_from n ANY bounds
+
+-- numbers are rounded up alike by both
+abbrev pub RoundAlike : List ℕ → List ℕ → Type 0
+RoundAlike bs cs = (n : ℕ) → rounded bs n ≡ rounded cs n

@@ -1,127 +1,75 @@
-ghost use Rattle.std.specs.Prelude.{◌≡◌, [], ◌∷◌};
-ghost use Rattle.zl_code.specs.declared.instr.Instr.TheVariants as instr;
-ghost use Rattle.zl_abs.specs.Bounds.{imm_of, bounds_of, bounds_by, least_from, rounded};
-ghost use Rattle.zl_abs.specs.Found.{bounds_in};
+ghost use Rattle.std.specs.Prelude.{◌≡◌, ◌++◌, OnOk, IfOk};
+ghost use Rattle.zl_abs.specs.Bounds.{imm_of, bounds_of, bounds_by, rounded, RoundAlike};
 
-use zl_code::{CallInstr, Instr, LocalInstr};
+use crate::imm::imm_of;
+use std::alloc::{AllocError, Global};
+use std::marker::Model;
+use zl_code::{Image, Instr};
 
 /// The bounds that every program has, but for the largest.
-const PLAIN: [u64; 6] = [0, 30, 64, 255, 65_536, 0xffff_ffff];
+pub(crate) const PLAIN: [u64; 6] = [0, 30, 64, 255, 65_536, 0xffff_ffff];
 
-/// Where the bounds of the words of a program are found. Own profile.
-#[derive(Clone, Copy)]
-pub enum Bounds<'a> {
-    /// In the code, by going over all of it.
-    Code(&'a [Instr]),
-    /// In a list.
-    List(&'a [u64]),
+/// The bounds that the words of a program are rounded up to, in order and each once. Own profile.
+pub struct Bounds {
+    sorted: Vec<u64>,
 }
 
-impl<'a> Bounds<'a> {
-    /// The next bound, from the number on.
-    pub(crate) fn round_up(self, number: u64) -> u64
-        ensures { result ≡ rounded (bounds_in self.entry) number }
+impl Model for Bounds {
+    ghost use Rattle.std.specs.Prelude.{ℕ, List};
+    ghost use Rattle.std.specs.Ordering.{nat_cmp};
+    ghost use Rattle.std.specs.List.Sorted.{IsStrictlySortedBy};
+
+    ghost Value = { List ℕ };
+
+    ghost view = { λ b. b.sorted.items };
+
+    ghost invariant = { λ b. IsStrictlySortedBy nat_cmp b.sorted.items };
+}
+
+impl Bounds {
+    /// The bounds of the image: 0, 30, 64, 255, 65,536, 2^32 - 1, and the number of each
+    /// instruction and the one below it. Want of memory is handed back.
+    pub fn of(alloc: Global, image: &Image) -> Result<Bounds, AllocError>
+        ensures { IfOk result (λ bounds. RoundAlike bounds (bounds_of image.now.code)) }
     {
-        let best = least_in(&PLAIN, number, u64::MAX);
-        match self {
-            Bounds::Code(code) => least_in_code(code, number, best),
-            Bounds::List(list) => least_in(list, number, best),
+        let mut sorted = gathered(alloc, image.code())?;
+        sorted.sort_unstable();
+        sorted.dedup();
+        Ok(Bounds { sorted })
+    }
+
+    /// The next bound, from the number on; the largest number, where there is none.
+    pub(crate) fn round_up(&self, number: u64) -> u64
+        ensures { result ≡ rounded self.now number }
+    {
+        match self.sorted.binary_search(&number) {
+            Ok(_) => number,
+            Err(place) => match self.sorted.get(place) {
+                Some(bound) => *bound,
+                None => u64::MAX,
+            },
         }
     }
 }
 
-/// The least of `best` and the bound, if that isn't below the number.
-#[tactic(auto, unfolding(crate::specs::Bounds::least_from))]
-fn nearer(bound: u64, number: u64, best: u64) -> u64
-    ensures { result ≡ least_from number best (bound ∷ []) }
+/// The bounds of the code, in the order in which they stand there.
+fn gathered(alloc: Global, code: &[Instr]) -> Result<Vec<u64>, AllocError>
+    ensures { IfOk result (λ bounds. bounds.items ≡ bounds_of code.now) }
 {
-    if number <= bound && bound < best {
-        bound
-    } else {
-        best
-    }
-}
-
-/// The least of `best` and the bounds that aren't below the number.
-fn least_in(bounds: &[u64], number: u64, best: u64) -> u64
-    ensures { result ≡ least_from number best bounds.now }
-{
-    let mut best = best;
-    for bound in bounds {
-        best = nearer(*bound, number, best);
-    }
-    best
-}
-
-/// The least of `best` and the bounds of the code that aren't below the number.
-fn least_in_code(code: &[Instr], number: u64, best: u64) -> u64
-    ensures { result ≡ least_from number best (bounds_of code.now) }
-{
-    let mut best = best;
+    let mut bounds = Vec::from_slice(alloc, &PLAIN)?;
     for instr in code {
-        best = least_of(instr, number, best);
+        push_bounds(&mut bounds, instr)?;
     }
-    best
+    Ok(bounds)
 }
 
-/// The least of `best` and the bounds of the instruction that aren't below the number.
-#[tactic(auto, unfolding(crate::specs::Bounds::least_from))]
-fn least_of(instr: &Instr, number: u64, best: u64) -> u64
-    ensures { result ≡ least_from number best (bounds_by (imm_of instr.now)) }
+/// Adds the bounds that the instruction brings.
+fn push_bounds(bounds: &mut Vec<u64>, instr: &Instr) -> Result<(), AllocError>
+    ensures { OnOk result (bounds.new.items ≡ bounds.old.items ++ bounds_by (imm_of instr.now)) }
 {
-    match imm_of(instr) {
-        Some(imm) => {
-            let imm = u64::from(imm);
-            nearer(imm.saturating_sub(1), number, nearer(imm, number, best))
-        }
-        None => best,
-    }
-}
-
-/// The number in a known instruction, where it uses one.
-#[tactic(auto, unfolding(crate::specs::Bounds::imm_of))]
-fn imm_of(instr: &Instr) -> Option<u32>
-    ensures { result ≡ imm_of instr.now }
-{
-    match instr {
-        Instr::Local(local) => imm_of_local(local),
-        Instr::Call(call) => imm_of_call(call),
-        Instr::Unknown(_) => None,
-    }
-}
-
-#[tactic(auto, unfolding(crate::specs::Bounds::imm_of, zl_code::specs::Instructions::row_of, zl_code::specs::Spells::local_parts))]
-fn imm_of_local(local: &LocalInstr) -> Option<u32>
-    ensures { result ≡ imm_of (instr.Local local.now) }
-{
-    match local {
-        LocalInstr::Const { number, .. }
-        | LocalInstr::AddNumber { number, .. }
-        | LocalInstr::JumpEqual { number, .. }
-        | LocalInstr::JumpNotEqual { number, .. }
-        | LocalInstr::JumpBelow { number, .. }
-        | LocalInstr::JumpNotBelow { number, .. } => Some(*number),
-        LocalInstr::ShiftLeft { places, .. } | LocalInstr::ShiftRight { places, .. } => Some(
-            *places,
-        ),
-        LocalInstr::Swap { array, .. } => Some(*array),
-        LocalInstr::LoadByte { offset, .. }
-        | LocalInstr::LoadWord { offset, .. }
-        | LocalInstr::StoreByte { offset, .. }
-        | LocalInstr::StoreWord { offset, .. } => Some(*offset),
-        LocalInstr::JumpHas { bits, .. } | LocalInstr::JumpHasNot { bits, .. } => Some(*bits),
-        _ => None,
-    }
-}
-
-#[tactic(auto, unfolding(crate::specs::Bounds::imm_of, zl_code::specs::Instructions::row_of, zl_code::specs::Spells::call_parts))]
-fn imm_of_call(call: &CallInstr) -> Option<u32>
-    ensures { result ≡ imm_of (instr.Call call.now) }
-{
-    match call {
-        CallInstr::Dup { rights, .. } => Some(*rights),
-        CallInstr::Replace { rights, .. } => Some(*rights),
-        CallInstr::ChanReadEtc { places, .. } => Some(*places),
-        _ => None,
-    }
+    let Some(imm) = imm_of(instr) else {
+        return Ok(());
+    };
+    let imm = u64::from(imm);
+    bounds.extend_from_slice(&[imm, imm.saturating_sub(1)])
 }

@@ -6,7 +6,7 @@ ghost use Rattle.zl_code.specs.Limits.{most_handles, register_count};
 ghost use Rattle.zl_abs.specs.Found.{bounds_in};
 ghost use Rattle.zl_abs.specs.CallRules.{narrowed_value, new, packet_results, read_results};
 
-use crate::bounds::Bounds;
+use crate::round_up::Rounding;
 use crate::value::AbsVal;
 use bitflags::Flags;
 use zl_code::{HandleList, Register};
@@ -53,7 +53,7 @@ pub(crate) fn narrowed(value: AbsVal, asked: u32) -> AbsVal
 
 /// What the destinations of a packet get.
 pub(crate) fn packet(
-    bounds: Bounds<'_>,
+    bounds: Rounding<'_>,
     status: Register,
     key: Register,
     kind: Register,

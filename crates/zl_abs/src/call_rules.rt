@@ -10,11 +10,11 @@ ghost use Rattle.zl_abs.specs.declared.cause.Cause.TheVariants as causes;
 ghost use Rattle.zl_abs.specs.Found.{bounds_in};
 ghost use Rattle.zl_abs.specs.CallRules.{are_words, call_rule, examined_all, is_full, operands_listed, stops};
 
-use crate::bounds::Bounds;
 use crate::call_results::{STATUS, narrowed, new, packet, received};
 use crate::call_tests::{are_words, call, finish};
 use crate::cause::Cause;
 use crate::operand::{Kinds, Operand};
+use crate::round_up::Rounding;
 use crate::state::AbsState;
 use crate::value::AbsVal;
 use crate::ways::Ways;
@@ -83,7 +83,7 @@ fn exit(state: &AbsState, code: Register) -> Result<Ways, Cause>
 /// The edges that are followed from the call, or why its rule doesn't hold.
 #[tactic(auto, unfolding(crate::specs::CallRules::call_rule, crate::specs::CallRules::uses_of, zl_code::specs::Instructions::row_of, zl_code::specs::Spells::call_parts))]
 pub(crate) fn call_rule(
-    bounds: Bounds<'_>,
+    bounds: Rounding<'_>,
     image: &Image,
     instr: CallInstr,
     state: &AbsState,

@@ -4,6 +4,7 @@ ghost use Rattle.std.specs.Prelude.{ℕ, ◌≡◌, IsTrue, List, Some, IfOk};
 ghost use Rattle.zl_code.specs.Image.{Image};
 ghost use Rattle.zl_code.specs.Spells.{is_in_range};
 ghost use Rattle.zl_abs.specs.States.{State, all_below, all_joined, start_state};
+ghost use Rattle.zl_abs.specs.Bounds.{RoundAlike};
 ghost use Rattle.zl_abs.specs.Fine.{IsFine, AllFine};
 ghost use Rattle.zl_abs.specs.Typing.{rule_with};
 ghost use Rattle.zl_abs.specs.Laws.{AllAboveJoin, JoinIsAllAbove, RuleBelow};
@@ -43,6 +44,12 @@ pub fn join_is_least()
 pub fn rules_are_monotone()
     ensures { (bounds : List ℕ) (i : Image) (n : ℕ) (s t : State)
         → IsTrue (all_below s t) → RuleBelow (rule_with bounds i n s) (rule_with bounds i n t) }
+{}
+
+/// Bounds by which numbers are rounded up alike give the same rules.
+pub fn rules_go_by_rounding()
+    ensures { (bs cs : List ℕ) (i : Image) (n : ℕ) (s : State)
+        → RoundAlike bs cs → rule_with bs i n s ≡ rule_with cs i n s }
 {}
 
 /// States that begin as a process of an image begins stay fine through joins and rules: there is

@@ -4,8 +4,8 @@
 //! It stands on `zl_code`, for images and instructions, and on `zl_rights`. It promises that
 //! `below` is the written order, that `join` gives the least state above both, and that `transfer`
 //! gives the edges of the written rule, or its cause; `laws` proves of the definitions that a rule that holds
-//! at a state holds at every state below. It takes no memory, and knows nothing of loops: a search
-//! for a typing stands above it.
+//! at a state holds at every state below. It takes no memory but for `Bounds`, and knows nothing of
+//! loops: a search for a typing stands above it.
 #![tactic(auto)]
 
 mod bounds;
@@ -13,10 +13,12 @@ mod call_results;
 mod call_rules;
 mod call_tests;
 mod cause;
+mod imm;
 mod jumps;
 pub mod laws;
 mod local_rules;
 mod operand;
+mod round_up;
 mod rules;
 mod state;
 mod value;

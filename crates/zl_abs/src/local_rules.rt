@@ -5,9 +5,9 @@ ghost use Rattle.zl_abs.specs.Values.{smaller};
 ghost use Rattle.zl_abs.specs.Found.{bounds_in};
 ghost use Rattle.zl_abs.specs.LocalRules.{adds, adds_number, computes, copies, in_memory, loads, local_rule, may_move, meets, mixes, shifted, shifts_down, shifts_up, slot_fault, stores, swaps_in, takes};
 
-use crate::bounds::Bounds;
 use crate::cause::Cause;
 use crate::jumps::{jump_below, jump_equal, jump_has, jump_zero, turned};
+use crate::round_up::Rounding;
 use crate::state::AbsState;
 use crate::value::{AbsVal, is_kind_below, is_register};
 use crate::ways::Ways;
@@ -15,7 +15,7 @@ use zl_code::{Image, LocalInstr, Register, SlotArray};
 
 /// The register becomes a word up to the next bound from the number on.
 fn compute(
-    bounds: Bounds<'_>,
+    bounds: Rounding<'_>,
     state: &AbsState,
     register: Register,
     number: u64,
@@ -190,7 +190,7 @@ fn smaller(left: u64, right: u64) -> u64
 
 /// The register becomes the sum of two words.
 fn add(
-    bounds: Bounds<'_>,
+    bounds: Rounding<'_>,
     state: &AbsState,
     register: Register,
     left: Register,
@@ -205,7 +205,7 @@ fn add(
 
 /// The register becomes the sum of a word and the number.
 fn add_number(
-    bounds: Bounds<'_>,
+    bounds: Rounding<'_>,
     state: &AbsState,
     register: Register,
     left: Register,
@@ -224,7 +224,7 @@ fn add_number(
 
 /// The register becomes the bits that two words share.
 fn and(
-    bounds: Bounds<'_>,
+    bounds: Rounding<'_>,
     state: &AbsState,
     register: Register,
     left: Register,
@@ -247,7 +247,7 @@ fn shift_left(state: &AbsState, register: Register, source: Register) -> Result<
 
 /// The register becomes the bits of a word moved down.
 fn shift_right(
-    bounds: Bounds<'_>,
+    bounds: Rounding<'_>,
     state: &AbsState,
     register: Register,
     source: Register,
@@ -262,7 +262,7 @@ fn shift_right(
 /// The edges that are followed from the local instruction, or why its rule doesn't hold.
 #[tactic(auto, unfolding(crate::specs::LocalRules::local_rule))]
 pub(crate) fn local_rule(
-    bounds: Bounds<'_>,
+    bounds: Rounding<'_>,
     image: &Image,
     local: LocalInstr,
     state: &AbsState,

@@ -12,6 +12,7 @@ use crate::bounds::Bounds;
 use crate::call_rules::call_rule;
 use crate::cause::Cause;
 use crate::local_rules::local_rule;
+use crate::round_up::Rounding;
 use crate::state::AbsState;
 use crate::ways::Ways;
 use zl_code::{Image, LocalInstr};
@@ -81,13 +82,10 @@ fn target_of(local: &LocalInstr) -> u32
 }
 
 /// The edges that are followed from the instruction of this number in this state, or why its rule
-/// doesn't hold there. Bounds of words are rounded up by these bounds.
-///
-/// `FallsOff` also where there is no such instruction; `IllegalOp` also for an unknown opcode.
-/// Own profile.
+/// doesn't hold there.
 #[tactic(auto, using(crate::proofs::RuleSteps::call_in_range, crate::proofs::RuleSteps::unknown_there, crate::proofs::RuleSteps::nothing_there))]
-pub fn transfer_by(
-    bounds: Bounds<'_>,
+fn transfer_rounding(
+    bounds: Rounding<'_>,
     image: &Image,
     at: usize,
     state: &AbsState,
@@ -112,12 +110,29 @@ pub fn transfer_by(
 }
 
 /// The edges that are followed from the instruction of this number in this state, or why its rule
-/// doesn't hold there.
+/// doesn't hold there. Bounds of words are rounded up by these bounds, which are made once for an
+/// image.
+///
+/// `FallsOff` also where there is no such instruction; `IllegalOp` also for an unknown opcode.
+/// Own profile.
+pub fn transfer_by(
+    bounds: &Bounds,
+    image: &Image,
+    at: usize,
+    state: &AbsState,
+) -> Result<Successors, Cause>
+    ensures { edges_told result ≡ rule_with bounds.now image.now at state.now }
+{
+    transfer_rounding(Rounding::List(bounds), image, at, state)
+}
+
+/// The edges that are followed from the instruction of this number in this state, or why its rule
+/// doesn't hold there. It takes no memory, and goes over the whole code for each bound.
 ///
 /// `FallsOff` also where there is no such instruction; `IllegalOp` also for an unknown opcode.
 /// Own profile.
 pub fn transfer(image: &Image, at: usize, state: &AbsState) -> Result<Successors, Cause>
     ensures { edges_told result ≡ rule image.now at state.now }
 {
-    transfer_by(Bounds::Code(image.code()), image, at, state)
+    transfer_rounding(Rounding::Code(image.code()), image, at, state)
 }

@@ -3,7 +3,7 @@ use Rattle.zl_code.proofs.Common.{err_from_is_err_and}
 use Rattle.zl_abs.specs.Found.{bounds_in}
 use Rattle.zl_abs.proofs.CallSteps.{and_then_ok, and_then_err}
 use Rattle.zl_abs.proofs.RuleSteps.{local_there, call_there}
-use Rattle.zl_abs.proofs.rules.transfer_by.Goals as goal
+use Rattle.zl_abs.proofs.rules.transfer_rounding.Goals as goal
 
 pub returns-in_err-ways : goal.returns-in_err-ways
 returns-in_err-ways c =

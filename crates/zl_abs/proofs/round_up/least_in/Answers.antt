@@ -1,7 +1,7 @@
 use Rattle.std.proofs.Common.{sym, ◌∙◌, arith, ap, drop, ◌+◌, ℕ}
 use Rattle.zl_abs.specs.Bounds.{least_from}
 use Rattle.zl_abs.proofs.Rounding.{least_step, least_end}
-use Rattle.zl_abs.proofs.bounds.least_in.Goals as goal
+use Rattle.zl_abs.proofs.round_up.least_in.Goals as goal
 
 pub loop-bound-preserved : goal.loop-bound-preserved
 loop-bound-preserved c =

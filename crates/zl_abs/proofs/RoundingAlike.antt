@@ -1,0 +1,50 @@
+-- Rules by bounds that round numbers up alike are the same.
+use Rattle.std.proofs.Common.{◌≡◌, ℕ, ◌+◌, List, [], ◌∷◌, length, Option, Some, None, refl, ap}
+use Rattle.zl_code.specs.declared.instr.Instr.{Instr}
+use Rattle.zl_code.specs.declared.instr.Instr.TheVariants as instr
+use Rattle.zl_code.specs.declared.instr.LocalInstr.{LocalInstr}
+use Rattle.zl_code.specs.declared.instr.LocalInstr.TheVariants as local
+use Rattle.zl_code.specs.declared.instr.CallInstr.{CallInstr}
+use Rattle.zl_code.specs.declared.instr.CallInstr.TheVariants as call
+use Rattle.zl_code.specs.Image.{Image, instr_at}
+use Rattle.zl_code.specs.Instructions.{row_of}
+use Rattle.zl_code.specs.Spells.{call_parts}
+use Rattle.zl_abs.specs.declared.value.AbsVal.TheVariants.{Word}
+use Rattle.zl_abs.specs.Values.{ANY, capped, smaller}
+use Rattle.zl_abs.specs.States.{State}
+use Rattle.zl_abs.specs.Bounds.{RoundAlike}
+use Rattle.zl_abs.specs.Rule.{and_then, word_at, writes, edges}
+use Rattle.zl_abs.specs.LocalRules.{computes, shifted, local_rule}
+use Rattle.zl_abs.specs.CallRules.{values_of, uses_of, uses_in, goes_on, call_rule_by, call_rule}
+use Rattle.zl_abs.specs.Typing.{target_of, rule_by, rule_with}
+
+module _ (bs cs : List ℕ) (alike : RoundAlike bs cs) (i : Image) (s : State) where
+  same_computes : (a n : ℕ) → computes bs s a n ≡ computes cs s a n
+  same_computes a n = ap (λ (m : ℕ). writes s a (Word m)) (alike n)
+
+  same_local : (x : LocalInstr) → local_rule bs i x s ≡ local_rule cs i x s
+  unfolding local_rule
+  same_local (local.Add a b c) = λ k. and_then (word_at s b) (λ m. and_then (word_at s c) (λ n. same_computes a (capped (m + n)) k))
+  same_local (local.AddNumber a b imm) = λ k. and_then (word_at s b) (λ m. same_computes a (capped (m + imm)) k)
+  same_local (local.And a b c) = λ k. and_then (word_at s b) (λ m. and_then (word_at s c) (λ n. same_computes a (smaller m n) k))
+  same_local (local.ShiftRight a b imm) = λ k. and_then (word_at s b) (λ m. same_computes a (shifted m imm) k)
+  same_local x = refl
+
+  same_values : (c : CallInstr) → values_of bs s c ≡ values_of cs s c
+  same_values (call.PortWait a b c d e f) = ap (λ (m : ℕ). Word ANY ∷ Word m ∷ Word ANY ∷ Word ANY ∷ []) (alike 1)
+  same_values (call.PortPoll a b c d e f) = ap (λ (m : ℕ). Word ANY ∷ Word m ∷ Word ANY ∷ Word ANY ∷ []) (alike 1)
+  same_values c = refl
+
+  same_call : (c : CallInstr) → call_rule bs i c s ≡ call_rule cs i c s
+  unfolding call_rule uses_of
+  same_call c = ap (λ vs. call_rule_by i s (goes_on c) (uses_in (row_of (call_parts c).opcode) (call_parts c) vs)) (same_values c)
+
+  same_by : (n : ℕ) (o : Option Instr) → rule_by bs i n s o ≡ rule_by cs i n s o
+  same_by n None = refl
+  same_by n (Some (instr.Local x)) = ap (λ w. and_then w (edges (length i.code) n (target_of x))) (same_local x)
+  same_by n (Some (instr.Call x)) = ap (λ w. and_then w (edges (length i.code) n 0)) (same_call x)
+  same_by n (Some (instr.Unknown bytes)) = refl
+
+pub same_rule : (bs cs : List ℕ) (i : Image) (n : ℕ) (s : State) → RoundAlike bs cs → rule_with bs i n s ≡ rule_with cs i n s
+unfolding rule_with
+same_rule bs cs i n s alike = same_by bs cs alike i s n (instr_at i n)

@@ -1,0 +1,6 @@
+use Rattle.std.proofs.Common.{◌≡◌, ◌++◌, drop}
+use Rattle.zl_abs.specs.Bounds.{bounds_of, imm_bounds}
+use Rattle.zl_abs.proofs.bounds.gathered.Given as goal
+
+abbrev pub invariant-loop-instr : goal.invariant-loop-instr
+invariant-loop-instr l = l.bounds.items ++ imm_bounds (drop l.instr-index l.code) ≡ bounds_of l.code

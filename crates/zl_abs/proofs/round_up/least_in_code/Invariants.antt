@@ -1,0 +1,6 @@
+use Rattle.std.proofs.Common.{◌≡◌, drop}
+use Rattle.zl_abs.specs.Bounds.{least_from, imm_bounds}
+use Rattle.zl_abs.proofs.round_up.least_in_code.Given as goal
+
+abbrev pub invariant-loop-instr : goal.invariant-loop-instr
+invariant-loop-instr l = least_from l.number l.fn.best (imm_bounds l.code) ≡ least_from l.number l.best (imm_bounds (drop l.instr-index l.code))

@@ -1,5 +1,5 @@
 -- The calls on handles, close and dup, each from its table and objects to a step.
-use Rattle.zl_calls.proofs.Common.{◌≡◌, ◌+◌, ℕ, Bool, true, false, ◌==◌, List, [], ◌∷◌, refl, sym, ap, ◌∙◌, subst, cond, Option, Some, None, inl, inr, ◌⊎◌, IsTrue, arith, eq-eqb, bit_and, ◌||◌, if◌then◌else◌, is_some, count_by, sum_by-cons, cases_Bool, false≢true, none-some, same_Some, first_some, bits, within, Map, get, has_key, without, Ready, Library, Site, site, close, table_of, operand_of, operand, examined, any, row_of, refusal, handle_operands, listed, on_process, process_without, may_choose, new_handles, remove_all, taken_handles, insert_all, effect, gives_ok, AtCall, next_for, Calls, Values, Refused, replied, taken, cpu_answered, ◌^◌, not, map, Ok, Err, nat_le, nat_lt, eqb-true, or_left, nat_tests, then_some, option_or, narrowed, default_rights_of, DUPLICATE, is_empty, dup, by_look_up, has_room, handles_to, entry_at, copy_of, with_rights, answer_if, with_effect, get-update, Handles, IsTable, get-without, sorted_without, length-without, Objects, Releases, has_place, held_once_more, holding, IsAnswered, no_value, Replies, status_of, one_value, has_room_in, process_value, state_value, world_value, process_entry, object_value, IsConsistent, IsNamed, koid_in, World, and_le_r}
+use Rattle.zl_calls.proofs.Common.{◌≡◌, ◌+◌, ℕ, Bool, true, false, ◌==◌, List, [], ◌∷◌, refl, sym, ap, ◌∙◌, subst, cond, Option, Some, None, inl, inr, ◌⊎◌, IsTrue, arith, eq-eqb, bit_and, ◌||◌, if◌then◌else◌, is_some, count_by, sum_by-cons, cases_Bool, false≢true, none-some, same_Some, first_some, bits, within, Map, get, has_key, without, Ready, Library, Site, site, close, table_of, operand_of, operand, examined, any, row_of, refusal, handle_operands, listed, on_process, process_without, may_choose, new_handles, remove_all, taken_handles, insert_all, effect, gives_ok, AtCall, next_for, Calls, Values, Refused, replied, taken, cpu_answered, ◌^◌, not, map, Ok, Err, nat_le, nat_lt, eqb-true, or_left, nat_tests, then_some, option_or, narrowed, default_rights_of, DUPLICATE, is_empty, dup, by_look_up, has_room, handles_to, entry_at, copy_of, with_rights, answer_if, with_effect, get-update, Handles, IsTable, get-without, sorted_without, length-without, Objects, Releases, has_place, held_once_more, holding, IsAnswered, told_by, no_value, Replies, status_of, one_value, has_room_in, process_value, state_value, world_value, process_entry, object_value, IsConsistent, IsNamed, koid_in, World, and_le_r}
 use Rattle.zl_code.proofs.Common.{Object as ObjectValue}
 use Rattle.zl_rights.specs.declared.status.Status.{Status}
 use Rattle.zl_rights.specs.declared.status.Status.TheVariants as status
@@ -186,7 +186,7 @@ module _ (lib : Library) (before after : List Process) (r r2 : Objects) (p p2 : 
 
   pub close_done : (h : ℕ) (consumed destinations : List ℕ)
       → state_value p.state ≡ Ready → (call : CallName) → next_for lib (process_value p) ≡ AtCall call (site (close h) consumed destinations)
-      → (o : Outcome) → IsAnswered no_value (CloseDoes h) (site (close h) consumed destinations) p r o p2 r2 → IsDone lib before after r r2 p.pid call o
+      → (o : Outcome) → IsAnswered (told_by no_value) (CloseDoes h) (site (close h) consumed destinations) p r o p2 r2 → IsDone lib before after r r2 p.pid call o
   close_done h consumed destinations ready call next o acts =
       rw acts.ends (close_answered h consumed destinations (status_of acts.answer) acts.acts.answered acts.acts.table acts.acts.objects
       (replies_none (site (close h) consumed destinations) p p2 acts.answer acts.replied) ready call next)
@@ -261,7 +261,7 @@ module _ (lib : Library) (before after : List Process) (r r2 : Objects) (p p2 : 
 
     -- ---- the step
 
-    pub dup_done : state_value p.state ≡ Ready → (call : CallName) → next_for lib (process_value p) ≡ AtCall call dup_site → (o : Outcome) → IsAnswered one_value (DupDoes h asked) dup_site p r o p2 r2 → IsDone lib before after r r2 p.pid call o
+    pub dup_done : state_value p.state ≡ Ready → (call : CallName) → next_for lib (process_value p) ≡ AtCall call dup_site → (o : Outcome) → IsAnswered (told_by one_value) (DupDoes h asked) dup_site p r o p2 r2 → IsDone lib before after r r2 p.pid call o
     unfolding row_of taken_handles handle_operands remove_all
     dup_done ready call next o acts = answered_done lib before after r r2 p p2 lab write ready call dup_site next one_value (Dups p.table r h asked) true (dup_refusal p.table.entries r.objects h asked)
         refused refl refl dup_called o acts.answer acts.acts acts.replied acts.ends

@@ -1,5 +1,6 @@
 -- How a call is refused and answered, which is alike for all calls. No public clause cites this module.
-use Rattle.zl_code.specs.Common.{Map, answered, Site, cpu_answered}
+use Rattle.zl_code.specs.Common.{Cpu, Map, answered, Site, cpu_answered}
+use Rattle.zl_code.specs.Local.{overwritten}
 use Rattle.std.specs.Prelude.{ℕ, ℤ, ◌≡◌, ◌+◌, Bool, true, false, nat_le, List, [], ◌∷◌, length, Option, Some, None, Result, Ok, Err, ⊤, IfOk, IfErr, OnErr}
 use Rattle.zl_rights.specs.declared.status.Status.{Status}
 use Rattle.zl_rights.specs.declared.status.Status.TheVariants as status
@@ -46,12 +47,31 @@ values_of values (Err s) = []
 abbrev pub Replies : Site → Status → List ℕ → Process → Process → Type 0
 Replies s answer values old new = new ≡ record old { cpu = cpu_answered s answer values old.cpu; table = new.table }
 
--- a call is answered: so it changes the table of its caller and the objects, and replies
-pub record IsAnswered {A : Type 0} (values : A → List ℕ) (Acts : Handles → Objects → Result A Status → Handles → Objects → Type 0) (s : Site) (p : Process) (r : Objects) (o : Outcome) (p2 : Process) (r2 : Objects) : Type 0 where
-  pub answer : Result A Status
+-- what the caller of a call is told: the status, the values behind it, and the bytes that it finds in its memory from the address on
+pub record Told : Type 0 where
+  pub status : Status
+  pub values : List ℕ
+  pub stored : ℕ × List ℕ
+
+-- values, where the call isn't refused, and no bytes
+abbrev pub told_by : {A : Type 0} → (A → List ℕ) → Result A Status → Told
+told_by values answer = record { status = status_of answer; values = values_of values answer; stored = (0, []) }
+
+-- the Cpu with these bytes in its memory
+abbrev pub with_stored : ℕ × List ℕ → Cpu → Cpu
+with_stored (address, []) c = c
+with_stored (address, b ∷ bytes) c = record c { memory = overwritten c.memory address (b ∷ bytes) }
+
+-- the process has what it is told in its memory, and in the registers of the site; its table is that of new
+abbrev pub IsTold : Site → Told → Process → Process → Type 0
+IsTold s told old new = new ≡ record old { cpu = cpu_answered s told.status told.values (with_stored told.stored old.cpu); table = new.table }
+
+-- a call is answered: so it changes the table of its caller and the objects, and tells so much
+pub record IsAnswered {A : Type 0} (told : A → Told) (Acts : Handles → Objects → A → Handles → Objects → Type 0) (s : Site) (p : Process) (r : Objects) (o : Outcome) (p2 : Process) (r2 : Objects) : Type 0 where
+  pub answer : A
   pub acts : Acts p.table r answer p2.table r2
-  pub ends : o ≡ outcome.Answered (status_of answer)
-  pub replied : Replies s (status_of answer) (values_of values answer) p p2
+  pub ends : o ≡ outcome.Answered (told answer).status
+  pub replied : IsTold s (told answer) p p2
 
 -- the answer is a status alone
 abbrev pub no_value : ⊤ → List ℕ
@@ -69,15 +89,15 @@ answered_in p destinations values answer = record p { cpu = answered p.cpu desti
 
 -- what a call does to the table of its caller and to the objects, and how it ends
 pub data Action : Type 1 where
-  -- it is answered, with these values
-  answers : (A : Type 0) (values : A → List ℕ) (Acts : Handles → Objects → Result A Status → Handles → Objects → Type 0) → Action
+  -- it is answered, and the caller is told so much
+  answers : (A : Type 0) (told : A → Told) (Acts : Handles → Objects → A → Handles → Objects → Type 0) → Action
   -- its caller ends with the code, and gets no answer
   exits : (code : ℤ) → Action
 
 -- its answer gives no value
 abbrev pub gives_none : (Handles → Objects → Result ⊤ Status → Handles → Objects → Type 0) → Action
-gives_none = answers ⊤ no_value
+gives_none = answers (Result ⊤ Status) (told_by no_value)
 
 -- its answer gives the value of a new handle
 abbrev pub gives_one : (Handles → Objects → Result ℕ Status → Handles → Objects → Type 0) → Action
-gives_one = answers ℕ one_value
+gives_one = answers (Result ℕ Status) (told_by one_value)

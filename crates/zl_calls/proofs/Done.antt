@@ -9,7 +9,7 @@ use Rattle.zl_code.specs.declared.history.TraceItem.TheVariants as item
 use Rattle.zl_calls.specs.declared.process.Process.{Process}
 use Rattle.zl_calls.proofs.Answered.{IsWrite, same_world}
 use Rattle.zl_calls.proofs.Labs.{call_settles}
-use Rattle.zl_calls.proofs.Refused.{answers, refused_calls}
+use Rattle.zl_calls.proofs.Refused.{TellsNothing, answers, refused_calls}
 use Rattle.zl_calls.proofs.Settled.{still_settles}
 use Rattle.zl_calls.proofs.Written.{refusal_keeps}
 
@@ -39,13 +39,13 @@ module _ (lib : Library) (before after : List Process) (r r2 : Objects) (p p2 : 
 
   -- a call that takes no handle and is either done or refused
   module _ {A : Type 0} (values : A → List ℕ) (Done : A → Handles → Objects → Type 0) (wants : Bool) (o : Option Status)
-      (refused : refusal lib w p.pid s.request ≡ answers o) (may_want : wants ≡ grows s.request) (takes_none : taken w p.pid s ≡ w)
+      (refused : refusal lib w p.pid s.request ≡ answers o) (may_want : wants ≡ grows s.request) (takes_none : taken w p.pid s ≡ w) (nothing : TellsNothing lib w p.pid s)
       (done : (x : A) → Done x p2.table r2 → Replies s status.Ok (values x) p p2 → IsCalled lib before after r r2 p.pid s (outcome.Answered status.Ok)) where
     by_answer : (answer : Result A Status) → Does Done wants o p.table r answer p2.table r2 → Replies s (status_of answer) (values_of values answer) p p2
         → IsCalled lib before after r r2 p.pid s (outcome.Answered (status_of answer))
     by_answer (Ok x) does replies = done x does.ok replies
     by_answer (Err answer) does replies = record {
-      calls = refused_calls lib w p.pid s wants o answer (world_value after r2) refused may_want does.err
+      calls = refused_calls lib w p.pid s wants o answer (world_value after r2) nothing refused may_want does.err
           (same_world before after p p2 write r r2 s answer does.same_table does.same_objects replies ∙ ap (λ (v : World). replied v p.pid s answer []) (sym takes_none));
       keeps = subst (IsConsistent after) (sym does.same_objects) (refusal_keeps before after p p2 write r lab does.same_table (ap (λ (q : Process). q.state) replies));
     }

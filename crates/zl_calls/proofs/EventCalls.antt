@@ -1,5 +1,5 @@
 -- The calls on events, event_create and signal, each from its table and objects to a step.
-use Rattle.zl_calls.proofs.Common.{◌≡◌, ◌+◌, ◌^◌, ℕ, Bool, true, false, not, ◌&&◌, ◌==◌, List, [], ◌∷◌, map, refl, sym, ap, ◌∙◌, cond, Option, Some, None, IsTrue, nat_le, if◌then◌else◌, map-append, then_some, first_some, Map, get, put, Ready, EventBody, Library, Site, site, event_create, examined, has_room, has_koids, handles_to, table_of, answer_if, row_of, refusal, handle_operands, listed, may_choose, new_handles, insert_all, remove_all, taken_handles, effect, with_effect, with_object, gives_ok, AtCall, next_for, Values, replied, taken, Ok, Err, ⊤, option_or, bits, within, SIGNAL, kind_of, signal, body_of, body_in, operand_of, by_look_up, operand, any, cpu_answered, new_entry, on_object, object_changed, Objects, new_object, with_new, raised_changed, changing, IsAnswered, told_by, one_value, Replies, has_room_in, no_value, process_entry, process_value, object_entry, state_value, world_value, object_value, body_value, IsConsistent, IsNamed, koid_in, runs, settable_of, may_change, World}
+use Rattle.zl_calls.proofs.Common.{◌≡◌, ◌+◌, ◌^◌, ℕ, Bool, true, false, not, ◌&&◌, ◌==◌, List, [], ◌∷◌, map, refl, sym, ap, ◌∙◌, cond, Option, Some, None, IsTrue, nat_le, if◌then◌else◌, map-append, then_some, first_some, Map, get, put, Ready, EventBody, Library, Site, site, event_create, examined, has_room, has_koids, handles_to, table_of, answer_if, row_of, refusal, handle_operands, listed, may_choose, new_handles, insert_all, remove_all, taken_handles, effect, with_effect, with_object, gives_ok, gives_refused, AtCall, next_for, Values, replied, taken, Ok, Err, ⊤, option_or, bits, within, SIGNAL, kind_of, signal, body_of, body_in, operand_of, by_look_up, operand, any, cpu_answered, new_entry, on_object, object_changed, Objects, new_object, with_new, raised_changed, changing, IsAnswered, told_by, one_value, Replies, has_room_in, no_value, process_entry, process_value, object_entry, state_value, world_value, object_value, body_value, IsConsistent, IsNamed, koid_in, runs, settable_of, may_change, World}
 use Rattle.zl_code.proofs.Common.{Object as ObjectValue}
 use Rattle.zl_rights.specs.declared.kind.Kind.TheVariants as kind
 use Rattle.zl_rights.specs.declared.status.Status.TheVariants as status
@@ -130,9 +130,9 @@ module _ (lib : Library) (before after : List Process) (r r2 : Objects) (p p2 : 
     -- ---- the step
 
     pub event_create_done : state_value p.state ≡ Ready → (call : CallName) → next_for lib (process_value p) ≡ AtCall call create_site → (o : Outcome) → IsAnswered (told_by one_value) EventCreateDoes create_site p r o p2 r2 → IsDone lib before after r r2 p.pid call o
-    unfolding row_of taken_handles handle_operands remove_all
+    unfolding row_of taken_handles handle_operands remove_all gives_refused
     event_create_done ready call next o acts = answered_done lib before after r r2 p p2 lab write ready call create_site next one_value (CreatesEvent p.table r) true (event_refusal p.table.entries r.next_koid)
-        create_refused refl refl event_create_called o acts.answer acts.acts acts.replied acts.ends
+        create_refused refl refl (λ answer. refl) event_create_called o acts.answer acts.acts acts.replied acts.ends
 
   -- ---- signal
 
@@ -196,6 +196,6 @@ module _ (lib : Library) (before after : List Process) (r r2 : Objects) (p p2 : 
     -- ---- the step
 
     pub signal_done : state_value p.state ≡ Ready → (call : CallName) → next_for lib (process_value p) ≡ AtCall call signal_site → (o : Outcome) → IsAnswered (told_by no_value) (SignalDoes h clear set) signal_site p r o p2 r2 → IsDone lib before after r r2 p.pid call o
-    unfolding row_of taken_handles handle_operands remove_all
+    unfolding row_of taken_handles handle_operands remove_all gives_refused
     signal_done ready call next o acts = answered_done lib before after r r2 p p2 lab write ready call signal_site next no_value (λ _. SignalsObject p.table r h clear set) false (signal_refusal p.table.entries h clear set)
-        refused_signal refl refl signal_called o acts.answer acts.acts acts.replied acts.ends
+        refused_signal refl refl (λ answer. refl) signal_called o acts.answer acts.acts acts.replied acts.ends

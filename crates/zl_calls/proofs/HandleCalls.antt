@@ -1,5 +1,5 @@
 -- The calls on handles, close and dup, each from its table and objects to a step.
-use Rattle.zl_calls.proofs.Common.{◌≡◌, ◌+◌, ℕ, Bool, true, false, ◌==◌, List, [], ◌∷◌, refl, sym, ap, ◌∙◌, subst, cond, Option, Some, None, inl, inr, ◌⊎◌, IsTrue, arith, eq-eqb, bit_and, ◌||◌, if◌then◌else◌, is_some, count_by, sum_by-cons, cases_Bool, false≢true, none-some, same_Some, first_some, bits, within, Map, get, has_key, without, Ready, Library, Site, site, close, table_of, operand_of, operand, examined, any, row_of, refusal, handle_operands, listed, on_process, process_without, may_choose, new_handles, remove_all, taken_handles, insert_all, effect, gives_ok, AtCall, next_for, Calls, Values, Refused, replied, taken, cpu_answered, ◌^◌, not, map, Ok, Err, nat_le, nat_lt, eqb-true, or_left, nat_tests, then_some, option_or, narrowed, default_rights_of, DUPLICATE, is_empty, dup, by_look_up, has_room, handles_to, entry_at, copy_of, with_rights, answer_if, with_effect, get-update, Handles, IsTable, get-without, sorted_without, length-without, Objects, Releases, has_place, held_once_more, holding, IsAnswered, told_by, no_value, Replies, status_of, one_value, has_room_in, process_value, state_value, world_value, process_entry, object_value, IsConsistent, IsNamed, koid_in, World, and_le_r}
+use Rattle.zl_calls.proofs.Common.{◌≡◌, ◌+◌, ℕ, Bool, true, false, ◌==◌, List, [], ◌∷◌, refl, sym, ap, ◌∙◌, subst, cond, Option, Some, None, inl, inr, ◌⊎◌, IsTrue, arith, eq-eqb, bit_and, ◌||◌, if◌then◌else◌, is_some, count_by, sum_by-cons, cases_Bool, false≢true, none-some, same_Some, first_some, bits, within, Map, get, has_key, without, Ready, Library, Site, site, close, table_of, operand_of, operand, examined, any, row_of, refusal, handle_operands, listed, on_process, process_without, may_choose, new_handles, remove_all, taken_handles, insert_all, effect, gives_ok, gives_refused, AtCall, next_for, Calls, Values, Refused, replied, taken, cpu_answered, ◌^◌, not, map, Ok, Err, nat_le, nat_lt, eqb-true, or_left, nat_tests, then_some, option_or, narrowed, default_rights_of, DUPLICATE, is_empty, dup, by_look_up, has_room, handles_to, entry_at, copy_of, with_rights, answer_if, with_effect, get-update, Handles, IsTable, get-without, sorted_without, length-without, Objects, Releases, has_place, held_once_more, holding, IsAnswered, told_by, no_value, Replies, status_of, one_value, has_room_in, process_value, state_value, world_value, process_entry, object_value, IsConsistent, IsNamed, koid_in, World, and_le_r}
 use Rattle.zl_code.proofs.Common.{Object as ObjectValue}
 use Rattle.zl_rights.specs.declared.status.Status.{Status}
 use Rattle.zl_rights.specs.declared.status.Status.TheVariants as status
@@ -14,7 +14,7 @@ use Rattle.zl_calls.proofs.Answered.{IsWrite, table_is, replies_none, replied_wi
 use Rattle.zl_calls.proofs.Done.{IsDone, IsCalled, answered_done}
 use Rattle.zl_calls.proofs.Labs.{no_policy, call_settles, handles_counted}
 use Rattle.zl_calls.proofs.Counting.{count_without, queues_updated}
-use Rattle.zl_calls.proofs.Refused.{NoPolicy, fault_answers, no_values, answers}
+use Rattle.zl_calls.proofs.Refused.{NoPolicy, fault_answers, answers}
 use Rattle.zl_calls.proofs.Stopped.{sound_after}
 use Rattle.zl_calls.proofs.Settled.{IsSettled, settled, still_settles}
 use Rattle.zl_calls.proofs.Written.{refusal_keeps, IsNext, keeps_inserted, inserted_counts, updated_next}
@@ -111,13 +111,17 @@ module _ (lib : Library) (before after : List Process) (r r2 : Objects) (p p2 : 
         same : (j : ℕ) → (j == j) ≡ true
         same j = eq-eqb j j refl
 
+    nothing_told : gives_refused w p.pid (close h) status.BadHandle ≡ []
+    unfolding gives_refused
+    nothing_told = refl
+
     calls : Calls lib w p.pid close_site (outcome.Answered answer) (world_value after r)
     unfolding effect gives_ok new_handles insert_all
     calls = by_test (has_key p.table.entries h || h == 0) (close_refused lib w (no_policy before r lab) p.pid h ∙ rw (table_is before after p p2 write r) refl) is_answer
       where
         by_test : (passes : Bool) → refusal lib w p.pid (close h) ≡ (if passes then None else Some (outcome.Answered status.BadHandle)) → answer ≡ (if passes then status.Ok else status.BadHandle) → Calls lib w p.pid close_site (outcome.Answered answer) (world_value after r)
         by_test true refused same = (Values [], rw refused (close_chosen, ap (λ (x : Status). outcome.Answered x) same, close_ends ∙ rw same refl))
-        by_test false refused same = (Refused, rw refused (ap (λ (x : Status). outcome.Answered x) same, close_ends ∙ rw (same, no_values lib w p.pid close_site (close h) status.BadHandle) refl))
+        by_test false refused same = (Refused, rw refused (ap (λ (x : Status). outcome.Answered x) same, close_ends ∙ rw (same, nothing_told) refl))
 
     -- ---- the step
 
@@ -262,6 +266,6 @@ module _ (lib : Library) (before after : List Process) (r r2 : Objects) (p p2 : 
     -- ---- the step
 
     pub dup_done : state_value p.state ≡ Ready → (call : CallName) → next_for lib (process_value p) ≡ AtCall call dup_site → (o : Outcome) → IsAnswered (told_by one_value) (DupDoes h asked) dup_site p r o p2 r2 → IsDone lib before after r r2 p.pid call o
-    unfolding row_of taken_handles handle_operands remove_all
+    unfolding row_of taken_handles handle_operands remove_all gives_refused
     dup_done ready call next o acts = answered_done lib before after r r2 p p2 lab write ready call dup_site next one_value (Dups p.table r h asked) true (dup_refusal p.table.entries r.objects h asked)
-        refused refl refl dup_called o acts.answer acts.acts acts.replied acts.ends
+        refused refl refl (λ answer. refl) dup_called o acts.answer acts.acts acts.replied acts.ends

@@ -1,5 +1,5 @@
 -- What each call says where it isn't refused: its new handles have room, and it is made of these changes.
-use Rattle.zl_code.proofs.Common.{All, Body, Bool, EventBody, HandlesAreNamed, HandlesAreSound, IsTrue, Library, List, Map, None, Object, Option, PortBody, Process, Ready, Request, SIGNAL, Some, World, [], and_parts, answer_if, ap, arith, bits, by_look_up, cases_Bool, copy_of, default_rights_of, dup, effect, entry_at, event_create, examined, false, first_some, get, handle_operands, handles_to, has_koids, has_room, inl, inr, insert_all, kind_of, queue_of, leb-true, length, listed, may_choose, nat_le, new_handles, none-some, not, object_at, operand, raisable, refl, refusal, rights_of, row_of, runs, same_Some, signal, subst, sym, true, with_effect, with_object, within, ℕ, ◌&&◌, ◌^◌, ◌||◌, ◌∙◌, ◌∷◌, ◌≡◌, ◌≤◌, ⊤, not-false, or_parts, Packet, settable_of, by_policy, new_entry, object_changed, gets_all, true≢false}
+use Rattle.zl_code.proofs.Common.{◌<◌, All, Body, Bool, ChannelEnd, EventBody, HandlesAreNamed, HandlesAreSound, IsSound, IsTrue, Library, List, Map, None, Object, Option, PortBody, Process, Ready, Request, SIGNAL, Some, World, [], and_from, and_parts, answer_if, ap, arith, bits, by_look_up, cases_Bool, chan_create, chan_read_etc, chan_write, copy_of, default_rights_of, dup, effect, entry_at, eq-eqb, event_create, examined, false, first_some, get, handle_operands, handles_in, handles_to, has_key, has_koids, has_room, inl, inr, insert_all, is_some, kind_of, queue_of, leb-true, length, listed, may_choose, may_get, may_get_all, nat_le, new_handles, none-some, not, object_at, on_object, operand, raisable, refl, refusal, remove_all, replace, rights_of, row_of, runs, same_Some, signal, subst, sym, taken_handles, true, with_effect, with_object, within, without, ℕ, ◌+◌, ◌&&◌, ◌^◌, ◌||◌, ◌∙◌, ◌∷◌, ◌≡◌, ◌≤◌, ⊤, not-false, or_parts, Packet, settable_of, by_policy, new_entry, object_changed, gets_all, true≢false}
 use Rattle.zl_rights.specs.declared.kind.Kind.TheVariants as kind
 use Rattle.zl_rights.specs.declared.entry.Entry.{Entry}
 use Rattle.zl_rights.specs.declared.status.Status.{Status}
@@ -7,9 +7,15 @@ use Rattle.zl_rights.specs.declared.status.Status.TheVariants as status
 use Rattle.zl_rights.specs.LookUp.{granted}
 use Rattle.zl_rights.proofs.Narrowed.{narrowed_within}
 use Rattle.zl_code.specs.declared.history.Outcome.{Outcome}
-use Rattle.zl_code.proofs.Changes.{signals_change, Changes, stays, changes, one, object_changes, object_is_made}
+use Rattle.zl_code.specs.CallTable.{choosing}
+use Rattle.zl_code.specs.Effects.{message_read, storing, without_waits}
+use Rattle.zl_code.specs.Local.{overwritten}
+use Rattle.zl_code.specs.Tests.{entries_at, first_bytes, first_handles, peer_at, queue_at}
+use Rattle.zl_code.proofs.MapKept.{changed}
+use Rattle.zl_code.proofs.Changes.{computes, message_comes, message_goes, signals_change, Changes, stays, changes, join, one, object_changes, object_is_made, process_changes, waits_end}
 use Rattle.zl_code.specs.Refusals.{condition_of}
-use Rattle.zl_code.proofs.Entering.{IsFine, HaveRoom, IsLeft, all_enter, copy_is_fine, one_copy, entry_is_fine, new_is_fine}
+use Rattle.zl_code.proofs.Entering.{IsFine, HaveRoom, IsLeft, all_enter, copy_is_fine, one_copy, entry_is_fine, length_without, new_is_fine, removed_last}
+use Rattle.zl_code.proofs.Messages.{may_be_sent, received_are_fine, two_entries, both_are_fine}
 
 -- ---- what holds where a call isn't refused
 
@@ -48,25 +54,36 @@ room_or w p n b h = not-false _ (or_parts (not (has_room w p n)) b (test_fails _
 room_and : (w : World) (p n : ℕ) (b : Bool) → answer_if (not (has_room w p n && b)) status.NoResources ≡ None → has_room w p n ≡ true
 room_and w p n b h = (and_parts (has_room w p n) b (not-false _ (test_fails _ status.NoResources h))).0
 
+-- ---- what a look-up granted
+
+-- there is a handle, and it has the rights
+abbrev IsGranted : World → ℕ → ℕ → Option Entry → Type 0
+IsGranted w p needed o = (x : Entry) × (o ≡ Some x) × IsTrue (within needed (bits x.rights))
+
+is_granted : (w : World) (p needed : ℕ) (o : Option Entry) → by_look_up w p (granted o [] needed) ≡ None → IsGranted w p needed o
+is_granted w p needed None fails = absurd (none-some _ (sym fails))
+is_granted w p needed (Some x) fits = (
+  x,
+  refl,
+  elim (cases_Bool (within needed (bits x.rights))) as (λ _. IsTrue (within needed (bits x.rights))) [
+    | inl right ↦ right
+    | inr wrong ↦ absurd (none-some _ (sym (rw wrong at fits)))
+  ],
+)
+
+-- the handle that is replaced is live
+pub is_live : (w : World) (p h rights : ℕ) (q : Process) (lib : Library) → get w.processes p ≡ Some q → refusal lib w p (replace h rights) ≡ None → has_key q.handles h ≡ true
+unfolding row_of refusal handle_operands examined operand
+is_live w p h rights q lib there passes =
+    let found = is_granted w p 0 (entry_at w p h) (first_is_none _ _ (first_is_none _ _ passes)) in
+    ap is_some (sym (ap (λ o. get (handles_in o) h) there) ∙ found.1)
+
 -- ---- signals
 
 -- the handle that a signal is sent by has the right to it
-has_right : (w : World) (p h clear set : ℕ) (lib : Library) → refusal lib w p (signal h clear set) ≡ None → (e : Option Entry) → entry_at w p h ≡ e → (x : Entry) × (e ≡ Some x) × IsTrue (within SIGNAL (bits x.rights))
+has_right : (w : World) (p h clear set : ℕ) (lib : Library) → refusal lib w p (signal h clear set) ≡ None → IsGranted w p SIGNAL (entry_at w p h)
 unfolding row_of refusal handle_operands examined operand
-has_right w p h clear set lib passes e is =
-    let fits : by_look_up w p (granted (entry_at w p h) [] SIGNAL) ≡ None = first_is_none _ _ (first_is_none _ _ passes) in
-    by_entry e (rw is at fits)
-  where
-    by_entry : (o : Option Entry) → by_look_up w p (granted o [] SIGNAL) ≡ None → (x : Entry) × (o ≡ Some x) × IsTrue (within SIGNAL (bits x.rights))
-    by_entry None fails = absurd (none-some _ (sym fails))
-    by_entry (Some x) fits = (
-      x,
-      refl,
-      elim (cases_Bool (within SIGNAL (bits x.rights))) as (λ _. IsTrue (within SIGNAL (bits x.rights))) [
-        | inl right ↦ right
-        | inr wrong ↦ absurd (none-some _ (sym (rw wrong at fits)))
-      ],
-    )
+has_right w p h clear set lib passes = is_granted w p SIGNAL (entry_at w p h) (first_is_none _ _ (first_is_none _ _ passes))
 
 -- no handle to a port has it
 no_port : (w : World) (p h : ℕ) (e : Entry) (o : Object) (packets : List Packet) → entry_at w p h ≡ Some e → IsTrue (within SIGNAL (bits e.rights)) → get w.objects e.koid ≡ Some o → o.body ≡ PortBody packets
@@ -85,7 +102,7 @@ may_signal w p h clear set lib passes o there sound named = by_body o.body refl 
   where
     by_body : (b : Body) → o.body ≡ b → IsTrue (within set (settable_of (Some b))) → IsTrue (within set (raisable b))
     by_body (PortBody packets) is h2 =
-        let (e, at, right) = has_right w p h clear set lib passes (entry_at w p h) refl in
+        let (e, at, right) = has_right w p h clear set lib passes in
         absurd (no_port w p h e o packets at right (rw at at there) is sound named)
     by_body _ is h2 = h2
 
@@ -93,46 +110,129 @@ may_signal w p h clear set lib passes o there sound named = by_body o.body refl 
 
 -- what the call says in w; u is w after the handles that it takes have left the table of p, which is then that of after
 pub record IsLawful (lib : Library) (w u : World) (p : ℕ) (after : Process) (r : Request) : Type 0 where
-  -- its new handles have room
-  pub room : HaveRoom after (new_handles w p r)
+  -- there is room for the new handles that get a value
+  pub room : HaveRoom after (choosing w p r)
   -- it is made of changes, whichever values these get
   pub changes : (vs : List ℕ) → IsTrue (may_choose w u p r vs) → Changes w u (with_effect lib w u p r vs)
 
-module _ (lib : Library) (w : World) (p : ℕ) (q : Process) (there : get w.processes p ≡ Some q) (ready : q.state ≡ Ready) (u : World) (after : Process) (left : IsLeft w u p q after) where
-  -- room for n handles is room for at most n
-  room_for : (n : ℕ) (es : List Entry) → has_room w p n ≡ true → length es ≤ n → HaveRoom after es
-  unfolding has_room
-  room_for n es room few = let below = leb-true _ 1024 (rw there at room) in omega (arith, few, below, left.shorter)
+module _ (lib : Library) (w : World) (p : ℕ) (q : Process) (there : get w.processes p ≡ Some q) (ready : q.state ≡ Ready) where
+  module _ (u : World) (after : Process) (left : IsLeft w u p q after) where
+    -- room for n handles is room for at most n
+    room_for : (n : ℕ) (es : List Entry) → has_room w p n ≡ true → length es ≤ n → HaveRoom after es
+    unfolding has_room
+    room_for n es room few = let below = leb-true _ 1024 (rw there at room) in omega (arith, few, below, left.shorter)
 
-  -- the new handles enter, in a world whose processes are those of u
-  enter : (v : World) → v.processes ≡ u.processes → (es : List Entry) (vs : List ℕ) → HaveRoom after es → IsTrue (gets_all (get u.processes p) es vs) → All (IsFine w v.objects) es → Changes w v (insert_all v p es vs)
-  enter v same es vs room gets fine =
-      all_enter w v p after es vs (ap (λ m. get m p) same ∙ left.is_there) (ap runs (left.state ∙ ready)) (rw left.is_there at gets) room fine
+    -- the new handles enter, in a world whose processes are those of u
+    enter : (v : World) → v.processes ≡ u.processes → (es : List Entry) (vs : List ℕ) → (IsSound w → HaveRoom after es) → IsTrue (may_get_all after es vs) → All (IsFine w v.objects) es → Changes w v (insert_all v p es vs)
+    enter v same es vs room gets fine =
+        all_enter w v p after es vs (ap (λ m. get m p) same ∙ left.is_there) (ap runs (left.state ∙ ready)) gets room fine
 
-  -- the handles of w are fine in u too
-  fine_in : (h : ℕ) (e : Entry) → entry_at w p h ≡ Some e → IsFine w u.objects e
-  fine_in h e at = subst (λ (m : Map Object). IsFine w m e) (sym left.objects) (entry_is_fine w p h e at)
+    -- the values that were chosen
+    chosen : (es : List Entry) (vs : List ℕ) → IsTrue (gets_all (get u.processes p) es vs) → IsTrue (may_get_all after es vs)
+    chosen es vs gets = rw left.is_there at gets
 
-  -- a new object, and the first handle to it
-  one_made : (b : Body) → queue_of b ≡ [] → HaveRoom after (new_entry w.next_koid (kind_of b) ∷ []) → (vs : List ℕ) → IsTrue (gets_all (get u.processes p) (new_entry w.next_koid (kind_of b) ∷ []) vs)
-      → Changes w u (insert_all (with_object u b) p (new_entry w.next_koid (kind_of b) ∷ []) vs)
-  unfolding with_object
-  one_made b quiet room vs gets =
-      changes u (with_object u b) _ (object_is_made w u b quiet) (enter (with_object u b) refl (new_entry w.next_koid (kind_of b) ∷ []) vs room gets (new_is_fine w u b w.next_koid left.next_koid))
+    -- the handles of w are fine in u too
+    fine_in : (h : ℕ) (e : Entry) → entry_at w p h ≡ Some e → IsFine w u.objects e
+    fine_in h e at = subst (λ (m : Map Object). IsFine w m e) (sym left.objects) (entry_is_fine w p h e at)
 
-  pub laws : (r : Request) → refusal lib w p r ≡ None → IsLawful lib w u p after r
+    -- a new object, and the first handle to it
+    one_made : (b : Body) → queue_of b ≡ [] → HaveRoom after (new_entry w.next_koid (kind_of b) ∷ []) → (vs : List ℕ) → IsTrue (gets_all (get u.processes p) (new_entry w.next_koid (kind_of b) ∷ []) vs)
+        → Changes w u (insert_all (with_object u b) p (new_entry w.next_koid (kind_of b) ∷ []) vs)
+    unfolding with_object
+    one_made b quiet room vs gets =
+        changes u (with_object u b) _ (object_is_made w u b quiet)
+        (enter (with_object u b) refl (new_entry w.next_koid (kind_of b) ∷ []) vs (λ s. room) (chosen _ vs gets) (new_is_fine w u b w.next_koid left.next_koid))
+
+    -- two new ends of a channel, and the first handles to them
+    two_made : (first second : Body) → queue_of first ≡ [] → queue_of second ≡ [] → kind_of first ≡ kind.Channel → kind_of second ≡ kind.Channel
+        → HaveRoom after (two_entries w) → (vs : List ℕ) → IsTrue (gets_all (get u.processes p) (two_entries w) vs)
+        → Changes w u (insert_all (with_object (with_object u first) second) p (two_entries w) vs)
+    unfolding with_object
+    two_made first second quiet silent is_end other_end room vs gets =
+        changes u (with_object u first) _ (object_is_made w u first quiet)
+        (changes (with_object u first) (with_object (with_object u first) second) _ (object_is_made w (with_object u first) second silent)
+        (enter (with_object (with_object u first) second) refl (two_entries w) vs (λ s. room) (chosen _ vs gets) (both_are_fine w u first second w.next_koid left.next_koid is_end other_end)))
+
+    -- a handle enters at the value that was removed last
+    enter_again : (v : World) (h : ℕ) → v.processes ≡ u.processes → (es : List Entry) → length es ≤ 1 → IsTrue (may_get after h) → (IsSound w → HaveRoom after es) → All (IsFine w v.objects) es
+        → Changes w v (insert_all v p es (h ∷ []))
+    unfolding insert_all
+    enter_again v h same [] few gets room fine = stays v
+    enter_again v h same (e ∷ []) few gets room fine = enter v same (e ∷ []) (h ∷ []) room (and_from (may_get after h) true gets refl) fine
+    enter_again v h same (e ∷ f ∷ es) few gets room fine = absurd (omega arith)
+
+    -- the bytes are stored
+    store : (v : World) (address : ℕ) (bytes : List ℕ) → Changes w v (storing v p (address, bytes))
+    store v address [] = stays v
+    store v address (b ∷ bytes) = one w v _ (process_changes w v p (λ x. record x { cpu = record x.cpu { memory = overwritten x.cpu.memory address (b ∷ bytes) } }) (λ x at. changed x _ refl refl (computes _ refl)) (λ x. refl))
+
+    -- the first message at the end k is read: its handles enter, and its bytes are stored
+    received : (k address : ℕ) (es : List Entry) (bytes vs : List ℕ) → HaveRoom after es → IsTrue (gets_all (get u.processes p) es vs) → All (IsFine w (on_object u k message_read).objects) es
+        → Changes w u (storing (insert_all (on_object u k message_read) p es vs) p (address, bytes))
+    unfolding on_object
+    received k address es bytes vs room gets fine =
+        changes u (on_object u k message_read) _ (object_changes w u k message_read (λ o at. message_goes refl))
+        (join w (on_object u k message_read) (insert_all (on_object u k message_read) p es vs) _ (enter (on_object u k message_read) refl es vs (λ s. room) (chosen es vs gets) fine)
+        (store (insert_all (on_object u k message_read) p es vs) address bytes))
+
+  -- the world without the handles that the call takes
+  abbrev left_by : Request → World
+  left_by r = remove_all w p (taken_handles r)
+
+  -- the new handle enters at the value of the one that it replaces
+  replaced : (h rights : ℕ) (after : Process) (left : IsLeft w (left_by (replace h rights)) p q after) → refusal lib w p (replace h rights) ≡ None
+      → Changes w (left_by (replace h rights)) (insert_all (without_waits (left_by (replace h rights)) p h) p (copy_of (entry_at w p h) rights) (h ∷ []))
+  unfolding taken_handles handle_operands row_of remove_all
+  replaced h rights after left passes =
+      let live = is_live w p h rights q lib there passes in
+      let same : after ≡ record q { handles = without q.handles h; last = Some h } = same_Some after _ (sym left.is_there ∙ removed_last w p h q there live) in
+      let shorter : length (without q.handles h) < length q.handles = length_without q.handles h live in
+      changes _ (without_waits u p h) _ (waits_end w u p h)
+      (enter_again u after left (without_waits u p h) h refl (copy_of (entry_at w p h) rights) (one_copy (entry_at w p h) rights) (rw same (eq-eqb h h refl))
+      (λ s. let few : length q.handles ≤ 1024 = (s.tables p q there).few in let one = one_copy (entry_at w p h) rights in rw same (omega arith))
+      (copy_is_fine w u.objects (entry_at w p h) rights (fine_in u after left h)))
+    where
+      u : World
+      u = remove_all w p (h ∷ [])
+
+  pub laws : (r : Request) (after : Process) (left : IsLeft w (left_by r) p q after) → refusal lib w p r ≡ None → IsLawful lib w (left_by r) p after r
   unfolding effect new_handles insert_all may_choose listed with_object
-  laws (dup h rights) passes =
+  laws (dup h rights) after left passes =
+      let u = left_by (dup h rights) in
       let some_room = room_or w p 1 (nat_le (2 ^ 62) (handles_to w (object_at w p h))) (listed_none lib w p (dup h rights) passes).1.0 in
-      let room = room_for 1 (copy_of (entry_at w p h) rights) some_room (one_copy (entry_at w p h) rights) in
-      record { room = room; changes = λ vs gets. enter u refl _ vs room gets (copy_is_fine w u.objects (entry_at w p h) rights (fine_in h)) }
-  laws event_create passes =
+      let room = room_for u after left 1 (copy_of (entry_at w p h) rights) some_room (one_copy (entry_at w p h) rights) in
+      record { room = room; changes = λ vs gets. enter u after left u refl _ vs (λ s. room) (chosen u after left _ vs gets) (copy_is_fine w u.objects (entry_at w p h) rights (fine_in u after left h)) }
+  laws (replace h rights) after left passes = record { room = omega arith; changes = λ vs gets. replaced h rights after left passes }
+  laws chan_create after left passes =
+      let u = left_by chan_create in
+      let some_room = room_and w p 2 (has_koids w 2) (listed_none lib w p chan_create passes).0 in
+      let room = room_for u after left 2 (two_entries w) some_room (omega arith) in
+      record { room = room; changes = two_made u after left (ChannelEnd (w.next_koid + 1) []) (ChannelEnd w.next_koid []) refl refl refl refl room }
+  laws (chan_write c bytes hs) after left passes =
+      let u = left_by (chan_write c bytes hs) in
+      record {
+        room = omega arith;
+        changes = λ vs gets. one w u _ (object_changes w u (peer_at w p c) _
+            (λ o at. message_comes (record { bytes = bytes; handles = entries_at w p hs }) refl (may_be_sent w u p (peer_at w p c) bytes hs left.objects)));
+      }
+  laws (chan_read_etc c address room places) after left passes =
+      let u = left_by (chan_read_etc c address room places) in
+      let some_room = not-false _ (test_fails _ status.NoResources (listed_none lib w p (chan_read_etc c address room places) passes).1.1.1.0) in
+      let enough = room_for u after left (length (first_handles (queue_at w p c))) (first_handles (queue_at w p c)) some_room (omega arith) in
+      record {
+        room = enough;
+        changes = λ vs gets. received u after left (object_at w p c) address _ (first_bytes (queue_at w p c)) vs enough gets (received_are_fine w u p c left.objects);
+      }
+  laws event_create after left passes =
+      let u = left_by event_create in
       let some_room = room_and w p 1 (has_koids w 1) (listed_none lib w p event_create passes).0 in
-      let room = room_for 1 (new_entry w.next_koid kind.Event ∷ []) some_room (omega arith) in
-      record { room = room; changes = one_made EventBody refl room }
-  laws (signal h clear set) passes = record {
-    room = omega arith;
-    changes = λ vs gets. one w u _ (object_changes w u (object_at w p h) (object_changed clear set)
-        (λ o at. signals_change clear set refl (may_signal w p h clear set lib passes o (subst (λ (m : Map Object). get m (object_at w p h) ≡ Some o) left.objects at))));
-  }
-  laws _ passes = record { room = omega arith; changes = λ vs gets. stays u }
+      let room = room_for u after left 1 (new_entry w.next_koid kind.Event ∷ []) some_room (omega arith) in
+      record { room = room; changes = one_made u after left EventBody refl room }
+  laws (signal h clear set) after left passes =
+      let u = left_by (signal h clear set) in
+      record {
+        room = omega arith;
+        changes = λ vs gets. one w u _ (object_changes w u (object_at w p h) (object_changed clear set)
+            (λ o at. signals_change clear set refl (may_signal w p h clear set lib passes o (subst (λ (m : Map Object). get m (object_at w p h) ≡ Some o) left.objects at))));
+      }
+  laws _ after left passes = record { room = omega arith; changes = λ vs gets. stays _ }

@@ -1,6 +1,7 @@
 -- The elementary changes of which a step is made.
-use Rattle.zl_code.proofs.Common.{◌≡◌, ◌<◌, ◌≤◌, inl, inr, arith, ℕ, suc, Bool, true, false, not, ◌==◌, List, [], ◌∷◌, length, refl, ap, sym, subst, ◌∙◌, IsTrue, Option, Some, None, eq-eqb, if◌then◌else◌, ℤ, option_map, cases_Bool, eqb-true, within, Map, get, put, update, has_key, without, World, Cpu, answered, Process, State, Created, Ready, Blocked, Ended, Object, Body, ChannelEnd, EventBody, PortBody, JobBody, ProcessBody, is_process, state_passes, lives, runs, Settles, queue_of, fired, on_process, process_with, process_without, ended, with_object, may_get, in_order, has_default_rights, names_its_object, HandlesAreSound, HandlesAreNamed, raisable, IsSound, Packet, get-put, get-update, on_object, process_ended, object_changed, with_process, is_blocked, HasItsObject, packets_for, made_ready, with_body, body_with_packets, filter}
+use Rattle.zl_code.proofs.Common.{◌≡◌, ◌<◌, ◌≤◌, inl, inr, arith, ℕ, suc, Bool, true, false, not, ◌==◌, List, [], ◌∷◌, length, refl, ap, sym, subst, ◌∙◌, IsTrue, Option, Some, None, eq-eqb, if◌then◌else◌, ℤ, option_map, cases_Bool, eqb-true, within, Map, get, put, update, has_key, without, World, Cpu, answered, Process, State, Created, Ready, Blocked, Ended, Object, Body, ChannelEnd, EventBody, PortBody, JobBody, ProcessBody, is_process, state_passes, lives, runs, Settles, queue_of, fired, on_process, process_with, process_without, ended, with_object, may_get, in_order, has_default_rights, names_its_object, HandlesAreSound, HandlesAreNamed, raisable, IsSound, Packet, Message, All, list_all, get-put, get-update, on_object, process_ended, object_changed, with_process, is_blocked, HasItsObject, packets_for, made_ready, with_body, body_with_packets, filter}
 use Rattle.zl_rights.specs.declared.entry.Entry.{Entry}
+use Rattle.zl_code.specs.Effects.{message_sent, message_read, without_waits}
 use Rattle.zl_code.proofs.MapKept.{in_order-put, in_order-update, in_order-each, Changed, same, changed, new, EachChanged, unchanged, changed_put, changed_update, changed_each}
 
 -- ---- what becomes of one process and of one object, in a step that begins at the world start
@@ -8,7 +9,7 @@ use Rattle.zl_code.proofs.MapKept.{in_order-put, in_order-update, in_order-each,
 -- e may enter the table of x at the value v; after is the world in which it stands there
 pub record MayEnter (start after : World) (x : Process) (v : ℕ) (e : Entry) : Type 0 where
   pub value : IsTrue (may_get x v)
-  pub room : length x.handles < 1024
+  pub room : IsSound start → length x.handles < 1024
   pub running : IsTrue (runs x.state)
   pub rights : HandlesAreSound start → IsTrue (has_default_rights e)
   pub names : HandlesAreNamed start → names_its_object after.objects e
@@ -34,12 +35,21 @@ pub record IsNewProcess (start w after : World) (k : ℕ) (y : Process) : Type 0
   pub nothing_last : y.last ≡ None
   pub object : IsSound start → HasItsObject after.objects k
 
+-- the handles in the message are fine in the world after
+pub record MayBeSent (start after : World) (m : Message) : Type 0 where
+  pub rights : HandlesAreSound start → IsTrue (list_all has_default_rights m.handles)
+  pub names : HandlesAreNamed start → All (names_its_object after.objects) m.handles
+
 -- x becomes y
-pub data ObjectChange (start : World) (x y : Object) : Type 0 where
+pub data ObjectChange (start after : World) (x y : Object) : Type 0 where
   -- a call cleared and raised signals
-  signals_change : (clear set : ℕ) → y ≡ object_changed clear set x → (HandlesAreSound start → HandlesAreNamed start → IsTrue (within set (raisable x.body))) → ObjectChange start x y
+  signals_change : (clear set : ℕ) → y ≡ object_changed clear set x → (HandlesAreSound start → HandlesAreNamed start → IsTrue (within set (raisable x.body))) → ObjectChange start after x y
   -- packets came to a port, or left it
-  packets_change : (old packets : List Packet) → x.body ≡ PortBody old → y ≡ record x { body = PortBody packets } → ObjectChange start x y
+  packets_change : (old packets : List Packet) → x.body ≡ PortBody old → y ≡ record x { body = PortBody packets } → ObjectChange start after x y
+  -- a message came to a channel end
+  message_comes : (m : Message) → y ≡ message_sent m x → MayBeSent start after m → ObjectChange start after x y
+  -- the first message was read
+  message_goes : y ≡ message_read x → ObjectChange start after x y
 
 -- an object that is made between w and after
 pub record IsNewObject (w after : World) (k : ℕ) (y : Object) : Type 0 where
@@ -63,7 +73,7 @@ pub record Change (start w w2 : World) : Type 0 where
   pub processes_in_order : IsTrue (in_order w.processes) → IsTrue (in_order w2.processes)
   pub objects_in_order : IsTrue (in_order w.objects) → IsTrue (in_order w2.objects)
   pub processes : EachChanged (λ k. ProcessChange start w2) (IsNewProcess start w w2) w.processes w2.processes
-  pub objects : EachChanged (λ k. ObjectChange start) (IsNewObject w w2) w.objects w2.objects
+  pub objects : EachChanged (λ k. ObjectChange start w2) (IsNewObject w w2) w.objects w2.objects
   pub blocked : IsSound start → (p : ℕ) → KeepsBlocked w w2 p
 
 -- changes one after another, and what settles
@@ -225,7 +235,7 @@ process_is_made start w k y fine unblocked = record {
 
 -- a world with other objects alone
 objects_alone : (start w w2 : World) → w2.processes ≡ w.processes → w2.blocked ≡ w.blocked → w.next_koid ≤ w2.next_koid
-    → (IsTrue (in_order w.objects) → IsTrue (in_order w2.objects)) → EachChanged (λ k. ObjectChange start) (IsNewObject w w2) w.objects w2.objects → Change start w w2
+    → (IsTrue (in_order w.objects) → IsTrue (in_order w2.objects)) → EachChanged (λ k. ObjectChange start w2) (IsNewObject w w2) w.objects w2.objects → Change start w w2
 unfolding is_process
 objects_alone start w w2 processes blocked next order objects = record {
   next_koid = next;
@@ -236,7 +246,7 @@ objects_alone start w w2 processes blocked next order objects = record {
   blocked = λ s p. still (ap (times p) blocked) (ap (λ (m : Map Process). state_passes is_blocked (get m p)) processes);
 }
 
-pub object_changes : (start w : World) (k : ℕ) (f : Object → Object) → ((x : Object) → get w.objects k ≡ Some x → ObjectChange start x (f x)) → Change start w (on_object w k f)
+pub object_changes : (start w : World) (k : ℕ) (f : Object → Object) → ((x : Object) → get w.objects k ≡ Some x → ObjectChange start (on_object w k f) x (f x)) → Change start w (on_object w k f)
 unfolding on_object
 object_changes start w k f ok = objects_alone start w (on_object w k f) refl refl (omega arith) (λ h. rw (in_order-update w.objects k f) h) (changed_update _ _ w.objects k f (λ x there. changed x _ refl refl (ok x there)))
 
@@ -245,6 +255,10 @@ unfolding with_object
 object_is_made start w b quiet =
     objects_alone start w (with_object w b) refl refl (omega arith) (in_order-put w.objects w.next_koid _)
     (changed_put _ _ w.objects w.next_koid _ (new _ refl (record { next = refl; given = omega arith; quiet = quiet; unraised = refl })))
+
+-- waits end
+pub waits_end : (start w : World) (p v : ℕ) → Change start w (without_waits w p v)
+waits_end start w p v = objects_alone start w (without_waits w p v) refl refl (omega arith) (λ h. h) (unchanged _ _ w.objects w.objects refl)
 
 -- the first packet leaves the port
 pub packet_goes : (start w : World) (k : ℕ) (o : Object) (old rest : List Packet) → get w.objects k ≡ Some o → o.body ≡ PortBody old → Change start w (with_body w k o (PortBody rest))
@@ -258,10 +272,10 @@ waits_fire start w =
     objects_alone start w (fired w) refl refl (omega arith) (λ h. rw (in_order-each w.objects (λ k o. record o { body = body_with_packets (packets_for w k) o.body })) h)
     (changed_each _ _ w.objects (λ k o. record o { body = body_with_packets (packets_for w k) o.body }) (λ k x. by_body k x x.body refl))
   where
-    other : (k : ℕ) (x : Object) → body_with_packets (packets_for w k) x.body ≡ x.body → Changed (ObjectChange start) (IsNewObject w (fired w) k) (Some x) (Some (record x { body = body_with_packets (packets_for w k) x.body }))
+    other : (k : ℕ) (x : Object) → body_with_packets (packets_for w k) x.body ≡ x.body → Changed (ObjectChange start (fired w)) (IsNewObject w (fired w) k) (Some x) (Some (record x { body = body_with_packets (packets_for w k) x.body }))
     other k x e = same (ap (λ (b : Body). Some (record x { body = b })) e)
 
-    by_body : (k : ℕ) (x : Object) (b : Body) → x.body ≡ b → Changed (ObjectChange start) (IsNewObject w (fired w) k) (Some x) (Some (record x { body = body_with_packets (packets_for w k) x.body }))
+    by_body : (k : ℕ) (x : Object) (b : Body) → x.body ≡ b → Changed (ObjectChange start (fired w)) (IsNewObject w (fired w) k) (Some x) (Some (record x { body = body_with_packets (packets_for w k) x.body }))
     by_body k x (PortBody packets) is = changed x _ refl refl (packets_change packets _ is (ap (λ (b : Body). record x { body = body_with_packets (packets_for w k) b }) is))
     by_body k x (ChannelEnd peer queue) is = other k x (ap (body_with_packets (packets_for w k)) is ∙ sym is)
     by_body k x EventBody is = other k x (ap (body_with_packets (packets_for w k)) is ∙ sym is)

@@ -1,5 +1,5 @@
 -- Handles enter and leave the table of a process: where there is room values are free, and each handle is one change.
-use Rattle.zl_code.proofs.Common.{All, All-nil, Body, Bool, HandlesAreNamed, HandlesAreSound, IsTrue, List, Map, None, Object, Option, Process, Some, World, [], and_from, and_parts, ap, arith, cases_Bool, cond, copy_of, default_rights_of, entry_at, eq-eqb, false, get, has_default_rights, has_key, inl, inr, insert_all, is_some, kind_of, length, lt-ltb, may_get, names_its_object, narrowed, nat_tests, ne_eqb, none-some, not, on_process, process_with, process_without, put, refl, remove_all, runs, same_Some, subst, suc, sym, taken, true, where_key, with_object, with_rights, without, zero, ℕ, ◌-◌, ◌<◌, ◌==◌, ◌∙◌, ◌∷◌, ◌≡◌, ◌≤◌, get-put, get-update, get-where_key-in, handles_in, new_entry, may_get_all, All-cons, All-head, All-tail, filter, true≢false}
+use Rattle.zl_code.proofs.Common.{IsSound, All, All-nil, Body, Bool, HandlesAreNamed, HandlesAreSound, IsTrue, List, Map, None, Object, Option, Process, Some, World, [], and_from, and_parts, ap, arith, cases_Bool, cond, copy_of, default_rights_of, entry_at, eq-eqb, false, get, has_default_rights, has_key, inl, inr, insert_all, is_some, kind_of, length, lt-ltb, may_get, names_its_object, narrowed, nat_tests, ne_eqb, none-some, not, on_process, process_with, process_without, put, refl, remove_all, runs, same_Some, subst, suc, sym, taken, true, where_key, with_object, with_rights, without, zero, ℕ, ◌-◌, ◌<◌, ◌==◌, ◌∙◌, ◌∷◌, ◌≡◌, ◌≤◌, get-put, get-update, get-where_key-in, handles_in, new_entry, may_get_all, All-cons, All-head, All-tail, filter, true≢false}
 use Rattle.zl_rights.specs.declared.kind.Kind.TheVariants as kind
 use Rattle.zl_rights.specs.declared.rights.Rights.{Rights}
 use Rattle.zl_rights.specs.declared.entry.Entry.{Entry}
@@ -20,7 +20,7 @@ length_filter test (x ∷ xs) = by_test (test x) (length_filter test xs)
     by_test false h = omega arith
 
 -- without a key that is there a map is shorter
-length_without : {X : Type 0} (m : Map X) (k : ℕ) → has_key m k ≡ true → length (without m k) < length m
+pub length_without : {X : Type 0} (m : Map X) (k : ℕ) → has_key m k ≡ true → length (without m k) < length m
 unfolding get without
 length_without [] k h = absurd (true≢false (sym h))
 length_without {X = X} (e ∷ m) k h = elim (cases_Bool (e.0 == k)) as (λ _. length (without (e ∷ m) k) < suc (length m)) [
@@ -76,7 +76,7 @@ unfolding on_process
 changed_table w p q f there = get-update w.processes p f p ∙ rw (eq-eqb p p refl, there) refl
 
 pub all_enter : (start u : World) (p : ℕ) (q : Process) (es : List Entry) (vs : List ℕ) → get u.processes p ≡ Some q → IsTrue (runs q.state) → IsTrue (may_get_all q es vs)
-    → HaveRoom q es → All (IsFine start u.objects) es → Changes start u (insert_all u p es vs)
+    → (IsSound start → HaveRoom q es) → All (IsFine start u.objects) es → Changes start u (insert_all u p es vs)
 unfolding insert_all on_process
 all_enter start u p q [] vs there running gets room fine = stays u
 all_enter start u p q (e ∷ es) [] there running gets room fine = stays u
@@ -84,10 +84,10 @@ all_enter start u p q (e ∷ es) (v ∷ vs) there running gets room fine =
     let both = and_parts (may_get q v) (may_get_all (process_with v e q) es vs) gets in
     let longer : length (put q.handles v e) ≤ suc (length q.handles) = length_put q.handles v e in
     let head = All-head (IsFine start u.objects) e es fine in
-    let enters : MayEnter start (on_process u p (process_with v e)) q v e = record { value = both.0; room = omega arith; running = running; rights = head.rights; names = head.names } in
+    let enters : MayEnter start (on_process u p (process_with v e)) q v e = record { value = both.0; room = λ s. omega (arith, room s); running = running; rights = head.rights; names = head.names } in
     changes u (on_process u p (process_with v e)) _
     (process_changes start u p (process_with v e) (λ x at. changed x _ refl refl (handle_enters v e refl (subst (λ (y : Process). MayEnter start (on_process u p (process_with v e)) y v e) (same_Some q x (sym there ∙ at)) enters))) (λ x. refl))
-    (all_enter start (on_process u p (process_with v e)) p (process_with v e q) es vs (changed_table u p q (process_with v e) there) running both.1 (omega arith) (All-tail (IsFine start u.objects) e es fine))
+    (all_enter start (on_process u p (process_with v e)) p (process_with v e q) es vs (changed_table u p q (process_with v e) there) running both.1 (λ s. omega (arith, room s, longer)) (All-tail (IsFine start u.objects) e es fine))
 
 same_state : (v : ℕ) (q : Process) → (process_without v q).state ≡ q.state
 same_state v q = elim (cases_Bool (has_key q.handles v)) as (λ _. (process_without v q).state ≡ q.state) [ inl there ↦ rw there refl | inr gone ↦ rw gone refl ]
@@ -98,6 +98,10 @@ all_leave start u p [] = stays u
 all_leave start u p (h ∷ hs) =
     changes u (on_process u p (process_without h)) _ (handle_goes start u p h)
     (all_leave start (on_process u p (process_without h)) p hs)
+
+-- what is removed last is kept
+pub removed_last : (w : World) (p v : ℕ) (q : Process) → get w.processes p ≡ Some q → has_key q.handles v ≡ true → get (on_process w p (process_without v)).processes p ≡ Some (record q { handles = without q.handles v; last = Some v })
+removed_last w p v q there live = changed_table w p q (process_without v) there ∙ rw live refl
 
 -- u is w after handles left the table of p, which is q in u
 pub record IsLeft (w u : World) (p : ℕ) (before after : Process) : Type 0 where
@@ -158,7 +162,7 @@ new_is_named : (u : World) (b : Body) (k : ℕ) → u.next_koid ≡ k → names_
 unfolding with_object
 new_is_named u b k is = (record { body = b; raised = 0 }, get-put u.objects u.next_koid (record { body = b; raised = 0 }) k ∙ rw (eq-eqb u.next_koid k is) refl, refl)
 
-default_rights : (k : ℕ) (kind : Kind) → IsTrue (has_default_rights (new_entry k kind))
+pub default_rights : (k : ℕ) (kind : Kind) → IsTrue (has_default_rights (new_entry k kind))
 default_rights k kind.Event = refl
 default_rights k _ = refl
 

@@ -1,8 +1,9 @@
 -- Handles stay sound: at places of their own, with no right beyond the defaults of their kinds.
-use Rattle.zl_code.proofs.Common.{◌≡◌, ℕ, not, ◌==◌, [], refl, IsTrue, Some, list_all, none-some, Map, get, put, without, where_key, World, Process, Object, process_settled, Settles, without_others, queue_of, in_order, has_default_rights, HandlesAreSound}
+use Rattle.zl_code.proofs.Common.{◌≡◌, ℕ, Bool, true, List, Message, Body, ChannelEnd, ◌∷◌, and_from, and_parts, list_all-append, not, ◌==◌, [], refl, IsTrue, Some, list_all, none-some, Map, get, put, without, where_key, World, Process, Object, process_settled, Settles, without_others, queue_of, in_order, has_default_rights, HandlesAreSound}
 use Rattle.zl_rights.specs.declared.entry.Entry.{Entry}
 use Rattle.zl_code.proofs.MapKept.{in_order-put, in_order-where_key, in_order-each, each_put, each_where_key, changed, changed_each, each_changed}
-use Rattle.zl_code.proofs.Changes.{ObjectChange, signals_change, packets_change, Change, table_kept}
+use Rattle.zl_code.proofs.Changes.{ObjectChange, signals_change, packets_change, message_comes, message_goes, Change, table_kept}
+use Rattle.zl_code.specs.Effects.{body_with_message, body_after_read}
 
 record IsFineTable (m : Map Entry) : Type 0 where
   order : IsTrue (in_order m)
@@ -25,9 +26,23 @@ leaves m v t = record {
   rights = each_where_key (λ x. IsTrue (has_default_rights x)) m t.rights (λ j. not (j == v));
 }
 
-by_object : (start : World) (x y : Object) → ObjectChange start x y → HasFineQueue x → HasFineQueue y
-by_object start x y (signals_change clear set is may) t = rw is t
-by_object start x y (packets_change old packets port is) t = rw is refl
+abbrev AreFine : List Message → Bool
+AreFine ms = list_all (λ m. list_all has_default_rights m.handles) ms
+
+sent_fine : (m : Message) (b : Body) → IsTrue (list_all has_default_rights m.handles) → IsTrue (AreFine (queue_of b)) → IsTrue (AreFine (queue_of (body_with_message m b)))
+sent_fine m (ChannelEnd peer queue) fine t = rw (list_all-append (λ (x : Message). list_all has_default_rights x.handles) queue (m ∷ [])) (and_from _ _ t (and_from _ true fine refl))
+sent_fine m _ fine t = t
+
+read_fine : (b : Body) → IsTrue (AreFine (queue_of b)) → IsTrue (AreFine (queue_of (body_after_read b)))
+read_fine (ChannelEnd peer []) t = refl
+read_fine (ChannelEnd peer (m ∷ ms)) t = (and_parts _ _ t).1
+read_fine _ t = t
+
+by_object : (start after : World) (x y : Object) → HandlesAreSound start → ObjectChange start after x y → HasFineQueue x → HasFineQueue y
+by_object start after x y before (signals_change clear set is may) t = rw is t
+by_object start after x y before (packets_change old packets port is) t = rw is refl
+by_object start after x y before (message_comes m is may) t = rw is (sent_fine m x.body (may.rights before) t)
+by_object start after x y before (message_goes is) t = rw is (read_fine x.body t)
 
 -- the law by tables
 fine_tables : (w : World) → HandlesAreSound w → (p : ℕ) (q : Process) → get w.processes p ≡ Some q → IsFineTable q.handles
@@ -47,7 +62,7 @@ pub sound_change : (start u v : World) → HandlesAreSound start → Change star
 sound_change start u v before c s =
     from_tables v (c.processes_in_order s.processes) (c.objects_in_order s.objects)
     (each_changed _ _ (λ k q. IsFineTable q.handles) u.processes v.processes c.processes (λ k. table_kept IsFineTable start v empty_table leaves (λ m n e rights names. enters m n e (rights before))) (λ k y n. rw n.empty empty_table) (fine_tables u s))
-    (each_changed _ _ (λ k o. HasFineQueue o) u.objects v.objects c.objects (λ k x y. by_object start x y) (λ k y n. rw n.quiet refl) s.queued)
+    (each_changed _ _ (λ k o. HasFineQueue o) u.objects v.objects c.objects (λ k x y. by_object start v x y before) (λ k y n. rw n.quiet refl) s.queued)
 
 pub sound_settled : (u v : World) → Settles u v → HandlesAreSound u → HandlesAreSound v
 unfolding without_others

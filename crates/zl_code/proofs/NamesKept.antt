@@ -1,9 +1,11 @@
 -- What handles name stays there, of the kind that they have.
-use Rattle.zl_code.proofs.Common.{◌≡◌, ◌<◌, ◌⊎◌, inl, inr, arith, ℕ, Bool, not, ◌||◌, ◌==◌, [], ◌∷◌, length, refl, ap, sym, ◌∙◌, IsTrue, Some, eq-eqb, is_some, All, list_any, cases_Bool, eqb-true, and_from, or_left, or_right, none-some, same_Some, All-nil, Map, get, without, where_key, World, Process, Object, Body, kind_of, is_process, runs, process_settled, Koids, Settles, without_others, is_held, in_table, in_queue, has_living_child, queue_of, HasGivenKoids, names_its_object, HandlesAreNamed, slice_index_or, Message, get-where_key-in, get-where_key-out, is_held-larger, IsLargestHeld}
+use Rattle.zl_code.proofs.Common.{◌≡◌, ◌<◌, ◌⊎◌, inl, inr, arith, ℕ, Bool, not, ◌||◌, ◌==◌, [], ◌∷◌, length, refl, ap, sym, ◌∙◌, IsTrue, Some, eq-eqb, is_some, All, list_any, cases_Bool, eqb-true, and_from, or_left, or_right, none-some, same_Some, All-nil, All-cons, All-tail, ChannelEnd, Map, get, without, where_key, World, Process, Object, Body, kind_of, is_process, runs, process_settled, Koids, Settles, without_others, is_held, in_table, in_queue, has_living_child, queue_of, HasGivenKoids, names_its_object, HandlesAreNamed, slice_index_or, Message, get-where_key-in, get-where_key-out, is_held-larger, IsLargestHeld}
 use Rattle.std.proofs.lemmas.List.Folds.{list_any_at}
 use Rattle.zl_rights.specs.declared.entry.Entry.{Entry}
 use Rattle.zl_code.proofs.MapKept.{Each, each_put, each_where_key, same, changed, new, changed_each, each_changed}
-use Rattle.zl_code.proofs.Changes.{ObjectChange, signals_change, packets_change, Change, table_kept}
+use Rattle.zl_code.proofs.Changes.{ObjectChange, signals_change, packets_change, message_comes, message_goes, Change, table_kept}
+use Rattle.zl_code.specs.Effects.{body_with_message, body_after_read}
+use Rattle.std.proofs.lemmas.List.Elements.{All-append}
 use Rattle.zl_code.proofs.NotReused.{same_kind}
 
 -- ---- one process and one object, where handles name objects of m
@@ -25,9 +27,22 @@ leaves : (m : Map Object) (h : Map Entry) (v : ℕ) → Each (names_its_object m
 unfolding without where_key
 leaves m h v t = each_where_key (names_its_object m) h t (λ j. not (j == v))
 
-by_object : (start : World) (m : Map Object) (x y : Object) → ObjectChange start x y → QueueNames m x → QueueNames m y
-by_object start m x y (signals_change clear set is may) t = rw is t
-by_object start m x y (packets_change old packets port is) t = no_queue m y.body (rw is refl)
+sent_names : (objects : Map Object) (m : Message) (b : Body) → All (names_its_object objects) m.handles → All (λ x. All (names_its_object objects) x.handles) (queue_of b)
+    → All (λ x. All (names_its_object objects) x.handles) (queue_of (body_with_message m b))
+sent_names objects m (ChannelEnd peer queue) names t =
+    All-append (λ (x : Message). All (names_its_object objects) x.handles) queue (m ∷ []) t (All-cons (λ (x : Message). All (names_its_object objects) x.handles) m [] names (All-nil (λ (x : Message). All (names_its_object objects) x.handles)))
+sent_names objects m _ names t = t
+
+read_names : (objects : Map Object) (b : Body) → All (λ x. All (names_its_object objects) x.handles) (queue_of b) → All (λ x. All (names_its_object objects) x.handles) (queue_of (body_after_read b))
+read_names objects (ChannelEnd peer []) t = t
+read_names objects (ChannelEnd peer (m ∷ ms)) t = All-tail (λ (x : Message). All (names_its_object objects) x.handles) m ms t
+read_names objects _ t = t
+
+by_object : (start after : World) (x y : Object) → HandlesAreNamed start → ObjectChange start after x y → QueueNames after.objects x → QueueNames after.objects y
+by_object start after x y before (signals_change clear set is may) t = rw is t
+by_object start after x y before (packets_change old packets port is) t = no_queue after.objects y.body (rw is refl)
+by_object start after x y before (message_comes m is may) t = rw is (sent_names after.objects m x.body (may.names before) t)
+by_object start after x y before (message_goes is) t = rw is (read_names after.objects x.body t)
 
 -- ---- a change
 
@@ -38,7 +53,7 @@ StillNamed m n = (e : Entry) → names_its_object m e → names_its_object n e
 still : (start u v : World) → HasGivenKoids u → Change start u v → StillNamed u.objects v.objects
 still start u v given c e (o, there, kind) = elim (c.objects e.koid) as (λ _. names_its_object v.objects e) [
   | same is ↦ (o, is ∙ there, kind)
-  | changed x y was is r ↦ (y, is, kind ∙ (ap (λ (z : Object). kind_of z.body) (same_Some o x (sym there ∙ was)) ∙ sym (same_kind start x y r)))
+  | changed x y was is r ↦ (y, is, kind ∙ (ap (λ (z : Object). kind_of z.body) (same_Some o x (sym there ∙ was)) ∙ sym (same_kind start v x y r)))
   | new y is n ↦ let below : e.koid < u.next_koid = given.below e.koid (ap is_some there) in absurd (omega (arith, n.next))
 ]
 
@@ -48,7 +63,7 @@ queue_grows m n more o t i x inside j e below = more (slice_index_or (slice_inde
 pub named_change : (start u v : World) → HandlesAreNamed start → HasGivenKoids u → Change start u v → HandlesAreNamed u → HandlesAreNamed v
 named_change start u v before given c s = record {
   tables = λ p w q e there at. all_tables p q there w e at;
-  queues = each_changed _ _ (λ k o. QueueNames v.objects o) u.objects v.objects c.objects (λ k x y. by_object start v.objects x y) (λ k y n. no_queue v.objects y.body n.quiet)
+  queues = each_changed _ _ (λ k o. QueueNames v.objects o) u.objects v.objects c.objects (λ k x y. by_object start v x y before) (λ k y n. no_queue v.objects y.body n.quiet)
       (λ k o there. queue_grows u.objects v.objects (still start u v given c) o (s.queues k o there));
 }
   where

@@ -1,9 +1,10 @@
 -- No koid is given again, no object changes its kind, and no process vanishes or changes its program.
-use Rattle.zl_code.proofs.Common.{◌≡◌, ◌<◌, ◌≤◌, inl, inr, arith, ℕ, refl, ap, sym, ◌∙◌, Option, Some, None, is_some, cases_Bool, none-some, same_Some, get, World, Process, Object, kind_of, Settles, without_others, process_settled, HasGivenKoids, IsSound, get-each, get-where_key-in, get-where_key-out, KeepsProcesses, true≢false}
+use Rattle.zl_code.proofs.Common.{◌≡◌, ◌<◌, ◌≤◌, inl, inr, arith, ℕ, refl, ap, sym, ◌∙◌, Option, Some, None, is_some, cases_Bool, none-some, same_Some, get, World, Process, Object, Body, ChannelEnd, Message, kind_of, Settles, without_others, process_settled, HasGivenKoids, IsSound, get-each, get-where_key-in, get-where_key-out, KeepsProcesses, true≢false}
 use Rattle.zl_rights.specs.declared.kind.Kind.{Kind}
 use Rattle.zl_code.specs.Koids.{KeepsKoids}
 use Rattle.zl_code.proofs.MapKept.{same, changed, new}
-use Rattle.zl_code.proofs.Changes.{ProcessChange, handle_enters, handle_leaves, computes, ends, wakes, ObjectChange, signals_change, packets_change, Change, Changes, kept}
+use Rattle.zl_code.proofs.Changes.{ProcessChange, handle_enters, handle_leaves, computes, ends, wakes, ObjectChange, signals_change, packets_change, message_comes, message_goes, Change, Changes, kept}
+use Rattle.zl_code.specs.Effects.{body_with_message, body_after_read}
 
 -- ---- koids
 
@@ -41,16 +42,26 @@ follows u v w a b = record {
   koids = λ k. koid_follows u v w k a.next b.next (a.koids k) (b.koids k);
 }
 
-pub same_kind : (start : World) (x y : Object) → ObjectChange start x y → kind_of y.body ≡ kind_of x.body
-same_kind start x y (signals_change clear set is may) = rw is refl
-same_kind start x y (packets_change old packets port is) = rw (is, port) refl
+sent_kind : (m : Message) (b : Body) → kind_of (body_with_message m b) ≡ kind_of b
+sent_kind m (ChannelEnd peer queue) = refl
+sent_kind m _ = refl
+
+read_kind : (b : Body) → kind_of (body_after_read b) ≡ kind_of b
+read_kind (ChannelEnd peer queue) = refl
+read_kind _ = refl
+
+pub same_kind : (start after : World) (x y : Object) → ObjectChange start after x y → kind_of y.body ≡ kind_of x.body
+same_kind start after x y (signals_change clear set is may) = rw is refl
+same_kind start after x y (packets_change old packets port is) = rw (is, port) refl
+same_kind start after x y (message_comes m is may) = rw is (sent_kind m x.body)
+same_kind start after x y (message_goes is) = rw is (read_kind x.body)
 
 by_change : (start u v : World) → Change start u v → Keeps u v
 by_change start u v c = record {
   next = c.next_koid;
   koids = λ k. elim (c.objects k) as (λ _. KoidKept u v k) [
     | same e ↦ alike (ap kind_in e)
-    | changed x y was is r ↦ alike (ap kind_in is ∙ (ap Some (same_kind start x y r) ∙ sym (ap kind_in was)))
+    | changed x y was is r ↦ alike (ap kind_in is ∙ (ap Some (same_kind start v x y r) ∙ sym (ap kind_in was)))
     | new y is n ↦ fresh (omega (arith, n.next)) n.given
   ];
 }

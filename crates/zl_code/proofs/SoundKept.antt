@@ -1,11 +1,12 @@
 -- Every world of a run from a boot world is sound.
-use Rattle.zl_code.proofs.Common.{◌≡◌, ◌<◌, ◌≤◌, inl, inr, arith, ℕ, suc, Bool, true, false, not, ◌||◌, ◌==◌, List, [], length, refl, ap, sym, ◌∙◌, IsTrue, Option, Some, None, eq-eqb, if◌then◌else◌, is_some, nat_lt, bit_and, option_map, cases_Bool, eqb-true, and_parts, and_from, or_left, or_right, false≢true, none-some, same_Some, within, get, put, without, where_key, each, has_key, World, Process, State, Created, Ready, Blocked, Gone, Object, Body, PortBody, ProcessBody, is_process, state_passes, lives, runs, process_settled, Koids, Settles, without_others, is_held, in_table, in_queue, has_living_child, body_in, may_get, is_job_body, HasGivenKoids, raisable, IsSound, min, max, Packet, get-put, get-each, get-where_key-in, get-where_key-out, may_get_after, is_value, IsSoundTable, is_blocked, HasItsObject, bit_xor, state_without, IsLargestHeld, filter, true≢false}
+use Rattle.zl_code.proofs.Common.{◌≡◌, ◌<◌, ◌≤◌, inl, inr, arith, ℕ, suc, Bool, true, false, not, ◌||◌, ◌==◌, List, [], length, refl, ap, sym, ◌∙◌, IsTrue, Option, Some, None, eq-eqb, if◌then◌else◌, is_some, nat_lt, bit_and, option_map, cases_Bool, eqb-true, and_parts, and_from, or_left, or_right, false≢true, none-some, same_Some, within, get, put, without, where_key, each, has_key, World, Process, State, Created, Ready, Blocked, Gone, Object, Body, ChannelEnd, JobBody, PortBody, ProcessBody, Message, is_process, state_passes, lives, runs, process_settled, Koids, Settles, without_others, is_held, in_table, in_queue, has_living_child, body_in, may_get, is_job_body, HasGivenKoids, raisable, IsSound, min, max, Packet, get-put, get-each, get-where_key-in, get-where_key-out, may_get_after, is_value, IsSoundTable, is_blocked, HasItsObject, bit_xor, state_without, IsLargestHeld, filter, true≢false}
 use Rattle.std.specs.Int.{bit_at}
 use Rattle.std.proofs.lemmas.Nat.Bits.{same_from_bits, bit_at_and, bit_at_or, bit_at-zero}
 use Rattle.zl_rights.specs.declared.entry.Entry.{Entry}
 use Rattle.zl_rights.specs.Numbers.{changed as signals_changed}
 use Rattle.zl_code.proofs.MapKept.{each_where_key, EachChanged, same, changed, new, changed_each, each_changed}
-use Rattle.zl_code.proofs.Changes.{MayEnter, ProcessChange, handle_enters, handle_leaves, computes, ends, wakes, ObjectChange, signals_change, packets_change, still, awake, Change}
+use Rattle.zl_code.proofs.Changes.{MayEnter, ProcessChange, handle_enters, handle_leaves, computes, ends, wakes, ObjectChange, signals_change, packets_change, message_comes, message_goes, still, awake, Change}
+use Rattle.zl_code.specs.Effects.{body_with_message, body_after_read}
 use Rattle.zl_code.proofs.Entering.{length_filter, length_put}
 use Rattle.zl_code.proofs.StepChanges.{job_is_there}
 use Rattle.zl_code.proofs.HandlesKept.{sound_change, sound_settled}
@@ -33,9 +34,9 @@ value_given x v t = by_last x.last refl
         let below = and_parts (nat_lt v 65536) _ above.1 in
         (and_from _ _ above.0 below.0, elim (cases_Bool (has_key x.handles v)) as (λ _. has_key x.handles v ≡ false) [ inl there ↦ absurd (false≢true (rw there at below.1)) | inr free ↦ free ])
 
-handle_in : (start after : World) (x : Process) (v : ℕ) (e : Entry) → MayEnter start after x v e → IsSoundTable (runs x.state) x.handles x.last → IsSoundTable (runs x.state) (put x.handles v e) None
-handle_in start after x v e may t = record {
-  few = let longer : length (put x.handles v e) ≤ suc (length x.handles) = length_put x.handles v e in omega (arith, may.room);
+handle_in : (start after : World) (x : Process) (v : ℕ) (e : Entry) → IsSound start → MayEnter start after x v e → IsSoundTable (runs x.state) x.handles x.last → IsSoundTable (runs x.state) (put x.handles v e) None
+handle_in start after x v e s may t = record {
+  few = let longer : length (put x.handles v e) ≤ suc (length x.handles) = length_put x.handles v e in omega (arith, may.room s);
   values = λ j h. elim (cases_Bool (v == j)) as (λ _. IsTrue (is_value j)) [
     | inl here ↦ rw (← eqb-true v j here) (value_given x v t may.value).0
     | inr other ↦ t.values j (rw (get-put x.handles v e j, other) at h)
@@ -56,12 +57,12 @@ handle_out x v there t = record {
   idle = λ h. absurd (true≢false (sym (rw (t.idle h).0 at there) ∙ no_key v));
 }
 
-by_process : (start after : World) (x y : Process) → ProcessChange start after x y → IsSoundTable (runs x.state) x.handles x.last → IsSoundTable (runs y.state) y.handles y.last
-by_process start after x y (handle_enters v e is may) t = rw is (handle_in start after x v e may t)
-by_process start after x y (handle_leaves v is there) t = rw is (handle_out x v there t)
-by_process start after x y (computes c is) t = rw is t
-by_process start after x y (ends code is) t = rw is (empty_table false)
-by_process start after x y (wakes c is running) t = rw is (rw running at t)
+by_process : (start after : World) (x y : Process) → IsSound start → ProcessChange start after x y → IsSoundTable (runs x.state) x.handles x.last → IsSoundTable (runs y.state) y.handles y.last
+by_process start after x y s (handle_enters v e is may) t = rw is (handle_in start after x v e s may t)
+by_process start after x y s (handle_leaves v is there) t = rw is (handle_out x v there t)
+by_process start after x y s (computes c is) t = rw is t
+by_process start after x y s (ends code is) t = rw is (empty_table false)
+by_process start after x y s (wakes c is running) t = rw is (rw running at t)
 
 -- ---- a living process has its object
 
@@ -81,25 +82,45 @@ has_body : (o : Option Object) (b : Body) → body_in o ≡ Some b → IsTrue (i
 has_body None b e = absurd (none-some b e)
 has_body (Some o) b e = refl
 
--- no change but settling takes away an object, or changes its body, but for a port
-body_stays : (start u v : World) → HasGivenKoids u → Change start u v → (k : ℕ) (b : Body) → ((packets : List Packet) → b ≡ PortBody packets → ⊥) → body_in (get u.objects k) ≡ Some b
-    → body_in (get v.objects k) ≡ Some b
-body_stays start u v given c k b no_port there = elim (c.objects k) as (λ _. body_in (get v.objects k) ≡ Some b) [
+-- a job or a process
+abbrev is_steady : Body → Bool
+is_steady (JobBody parent depth policy killed) = true
+is_steady (ProcessBody job) = true
+is_steady _ = false
+
+sent_steady : (m : Message) (b : Body) → IsTrue (is_steady b) → body_with_message m b ≡ b
+sent_steady m (ChannelEnd peer queue) h = absurd (false≢true h)
+sent_steady m _ h = refl
+
+read_steady : (b : Body) → IsTrue (is_steady b) → body_after_read b ≡ b
+read_steady (ChannelEnd peer queue) h = absurd (false≢true h)
+read_steady _ h = refl
+
+job_steady : (b : Body) → IsTrue (is_job_body (Some b)) → IsTrue (is_steady b)
+job_steady (JobBody parent depth policy killed) h = refl
+job_steady (ProcessBody job) h = refl
+job_steady _ h = absurd (false≢true h)
+
+-- no change but settling takes away a job or a process, or changes its body
+body_stays : (start u v : World) → HasGivenKoids u → Change start u v → (k : ℕ) (b : Body) → IsTrue (is_steady b) → body_in (get u.objects k) ≡ Some b → body_in (get v.objects k) ≡ Some b
+body_stays start u v given c k b steady there = elim (c.objects k) as (λ _. body_in (get v.objects k) ≡ Some b) [
   | same e ↦ ap body_in e ∙ there
   | changed x y was is r ↦ ap body_in is ∙ by_change x y r (same_Some x.body b (rw was at there))
   | new y is n ↦ let below : k < u.next_koid = given.below k (has_body (get u.objects k) b there) in absurd (omega (arith, n.next))
 ]
   where
-    by_change : (x y : Object) → ObjectChange start x y → x.body ≡ b → Some y.body ≡ Some b
+    by_change : (x y : Object) → ObjectChange start v x y → x.body ≡ b → Some y.body ≡ Some b
     by_change x y (signals_change clear set is may) e = rw is (ap Some e)
-    by_change x y (packets_change old packets port is) e = absurd (no_port old (sym e ∙ port))
+    by_change x y (packets_change old packets port is) e = absurd (false≢true (rw (← e, port) at steady))
+    by_change x y (message_comes m is may) e = rw (is, e) (ap Some (sent_steady m b steady))
+    by_change x y (message_goes is) e = rw (is, e) (ap Some (read_steady b steady))
 
 object_stays : (start u v : World) → HasGivenKoids u → Change start u v → (p : ℕ) → HasItsObject u.objects p → HasItsObject v.objects p
-object_stays start u v given c p (job, is, job_there) = (job, body_stays start u v given c p (ProcessBody job) (λ packets e. cc) is, by_job (body_in (get u.objects job)) refl job_there)
+object_stays start u v given c p (job, is, job_there) = (job, body_stays start u v given c p (ProcessBody job) refl is, by_job (body_in (get u.objects job)) refl job_there)
   where
     by_job : (o : Option Body) → body_in (get u.objects job) ≡ o → IsTrue (is_job_body o) → IsTrue (is_job_body (body_in (get v.objects job)))
     by_job None at j = absurd (false≢true j)
-    by_job (Some b) at j = rw (body_stays start u v given c job b (λ packets e. false≢true (rw e at j)) at) j
+    by_job (Some b) at j = rw (body_stays start u v given c job b (job_steady b j) at) j
 
 -- ---- raised signals
 
@@ -120,9 +141,19 @@ within_changed raised clear set whole old fresh = eq-eqb _ _ (same_from_bits _ _
         bit_at_and whole (signals_changed raised clear set) i ∙ (ap (λ (m : ℕ). min (bit_at whole i) m) (bits i)
         ∙ (inside (bit_at whole i) (bit_at raised i) (bit_at set i) (bit_at (bit_xor clear 0xffff_ffff) i) (bit_of raised old i) (bit_of set fresh i) ∙ sym (bits i)))
 
-by_object : (start : World) (x y : Object) → IsSound start → ObjectChange start x y → IsTrue (within x.raised (raisable x.body)) → IsTrue (within y.raised (raisable y.body))
-by_object start x y s (signals_change clear set is may) t = rw is (within_changed x.raised clear set (raisable x.body) t (may s.handles s.named))
-by_object start x y s (packets_change old packets port is) t = rw is (rw port at t)
+sent_raisable : (m : Message) (b : Body) → raisable (body_with_message m b) ≡ raisable b
+sent_raisable m (ChannelEnd peer queue) = refl
+sent_raisable m _ = refl
+
+read_raisable : (b : Body) → raisable (body_after_read b) ≡ raisable b
+read_raisable (ChannelEnd peer queue) = refl
+read_raisable _ = refl
+
+by_object : (start after : World) (x y : Object) → IsSound start → ObjectChange start after x y → IsTrue (within x.raised (raisable x.body)) → IsTrue (within y.raised (raisable y.body))
+by_object start after x y s (signals_change clear set is may) t = rw is (within_changed x.raised clear set (raisable x.body) t (may s.handles s.named))
+by_object start after x y s (packets_change old packets port is) t = rw is (rw port at t)
+by_object start after x y s (message_comes m is may) t = rw (is, sent_raisable m x.body) t
+by_object start after x y s (message_goes is) t = rw (is, read_raisable x.body) t
 
 pub none_raised : (whole : ℕ) → IsTrue (within 0 whole)
 none_raised whole = eq-eqb _ _ (same_from_bits _ _ (λ i. bit_at_and whole 0 i ∙ (ap (λ (m : ℕ). min (bit_at whole i) m) (bit_at-zero i) ∙ (nothing (bit_at whole i) ∙ sym (bit_at-zero i)))))
@@ -142,14 +173,14 @@ kept_by_change start u v before c s = record {
     | changed x y was is r ↦ let below : p < u.next_koid = s.processes p (ap is_some was) in omega (arith, c.next_koid)
     | new y is n ↦ n.given
   ];
-  tables = each_changed _ _ (λ k q. IsSoundTable (runs q.state) q.handles q.last) u.processes v.processes c.processes (λ k x y. by_process start v x y) (λ k y n. rw (n.empty, n.nothing_last) (empty_table (runs y.state))) s.tables;
+  tables = each_changed _ _ (λ k q. IsSoundTable (runs q.state) q.handles q.last) u.processes v.processes c.processes (λ k x y. by_process start v x y before) (λ k y n. rw (n.empty, n.nothing_last) (empty_table (runs y.state))) s.tables;
   living = each_changed _ _ (λ k q. IsTrue (lives q.state) → HasItsObject v.objects k) u.processes v.processes c.processes (λ k x y r has alive. has (lives_before start v x y r alive)) (λ k y n alive. n.object before)
       (λ p q there alive. object_stays start u v s.objects c p (s.living p q there alive));
   blocked = λ p. elim (c.blocked before p) as (λ _. length (filter (λ q. q == p) v.blocked) ≡ (if is_process v is_blocked p then 1 else 0)) [
     | still count state ↦ count ∙ (s.blocked p ∙ ap (λ (b : Bool). if b then 1 else 0) (sym state))
     | awake count state ↦ count ∙ rw state refl
   ];
-  raised = each_changed _ _ (λ k o. IsTrue (within o.raised (raisable o.body))) u.objects v.objects c.objects (λ k x y. by_object start x y before) (λ k y n. rw n.unraised (none_raised (raisable y.body))) s.raised;
+  raised = each_changed _ _ (λ k o. IsTrue (within o.raised (raisable o.body))) u.objects v.objects c.objects (λ k x y. by_object start v x y before) (λ k y n. rw n.unraised (none_raised (raisable y.body))) s.raised;
 }
 
 -- ---- settling

@@ -31,7 +31,7 @@ module _ (lib : Library) (w : World) (p : ℕ) (q : Process) (there : get w.proc
   done_changes : (s : Site) (vs : List ℕ) → refusal lib w p s.request ≡ None → IsTrue (may_choose w (taken w p s) p s.request vs) → Changes w w (with_effect lib w (taken w p s) p s.request vs)
   done_changes s vs passes gets =
       let behind = left_behind w p q (taken_handles s.request) there in
-      join w w (taken w p s) _ (all_leave w w p (taken_handles s.request)) ((laws lib w p q there ready (taken w p s) behind.0 behind.1 s.request passes).changes vs gets)
+      join w w (taken w p s) _ (all_leave w w p (taken_handles s.request)) ((laws lib w p q there ready s.request behind.0 behind.1 passes).changes vs gets)
 
   ok_changes : (s : Site) (vs : List ℕ) (o : Outcome) → refusal lib w p s.request ≡ None → IsTrue (may_choose w (taken w p s) p s.request vs) → Changes w w (after_ok lib w p s vs o)
   ok_changes s vs (outcome.Answered answer) passes gets = join w w _ _ (done_changes s vs passes gets) (reply_changes _ s status.Ok (gives_ok w p s.request vs))
@@ -138,7 +138,7 @@ boot_changes lib w (statement.Process job program word handles) vs given fine ma
       object = λ s. (job, rw (get-put w.objects w.next_koid new_object w.next_koid, eq-eqb w.next_koid w.next_koid refl) refl, rw same_job can.in_job);
     }) refl)
     (subst (λ (x : World). Changes w begun x) (made_with_all made w.next_koid first es vs ∙ ap (with_process made w.next_koid) (started_with_all es vs vs word (created_process lib program)))
-    (all_enter w begun w.next_koid first es vs there refl (rw (started_may_get es vs vs word (created_process lib program)) may) (omega (arith, can.few, handles_at_most w.objects handles))
+    (all_enter w begun w.next_koid first es vs there refl (rw (started_may_get es vs vs word (created_process lib program)) may) (λ s. omega (arith, can.few, handles_at_most w.objects handles))
     (given_are_fine w made.objects handles (λ k o at. stays k (rw at refl) ∙ at) can.rights))))
   where
     made : World

@@ -1,6 +1,6 @@
 -- The table of calls, column by column: all that the definitions say of one call alone, beside its row of the table of instructions.
-use Rattle.std.specs.Prelude.{ℕ, ◌^◌, ◌&&◌, ◌||◌, not, nat_le, List, [], ◌∷◌, Option, Some, None}
-use Rattle.zl_rights.specs.Common.{World, EventBody, is_empty}
+use Rattle.std.specs.Prelude.{ℕ, ◌+◌, ◌^◌, ◌&&◌, ◌||◌, not, nat_le, List, [], ◌∷◌, ◌++◌, length, Option, Some, None}
+use Rattle.zl_rights.specs.Common.{World, ChannelEnd, EventBody, has_key, is_empty}
 use Rattle.zl_rights.specs.declared.kind.Kind.TheVariants as kind
 use Rattle.zl_rights.specs.declared.status.Status.{Status}
 use Rattle.zl_rights.specs.declared.status.Status.TheVariants as status
@@ -12,8 +12,8 @@ use Rattle.zl_code.specs.declared.history.CallName.TheVariants as name
 use Rattle.zl_code.specs.declared.history.Outcome.{Outcome}
 use Rattle.zl_code.specs.declared.history.Outcome.TheVariants as outcome
 use Rattle.zl_code.specs.Image.{Library}
-use Rattle.zl_code.specs.Tests.{answer_if, entry_at, object_at, body_of, may_change, has_room, has_koids, copy_of}
-use Rattle.zl_code.specs.Effects.{on_object, with_object, new_entry, object_changed, signed_word}
+use Rattle.zl_code.specs.Tests.{answer_if, entry_at, object_at, body_of, may_change, has_room, has_koids, copy_of, contains, is_too_large, has_place_for, peer_at, queue_at, first_bytes, first_handles, sizes_of, entries_at}
+use Rattle.zl_code.specs.Effects.{on_object, with_object, new_entry, object_changed, message_sent, message_read, told_of, without_waits, signed_word}
 
 -- ---- what it asks for
 
@@ -21,6 +21,12 @@ use Rattle.zl_code.specs.Effects.{on_object, with_object, new_entry, object_chan
 pub data Request : Type 0 where
   close : (h : ℕ) → Request
   dup : (h rights : ℕ) → Request
+  replace : (h rights : ℕ) → Request
+  chan_create : Request
+  -- the bytes are those in the memory, hs the handles of the list
+  chan_write : (c : ℕ) (bytes hs : List ℕ) → Request
+  -- the bytes go to the address, and there is room for so many bytes and handles
+  chan_read_etc : (c address room places : ℕ) → Request
   event_create : Request
   signal : (h clear set : ℕ) → Request
   process_exit : (code : ℕ) → Request
@@ -34,13 +40,22 @@ request_of name.Signal (h ∷ clear ∷ set ∷ []) number = Some (signal h clea
 request_of name.ProcessExit (code ∷ []) number = Some (process_exit code)
 request_of _ operands number = None
 
--- the row of a request, by its opcode, and the values of its handle operands from left to right
+-- the row of a request, by its opcode, and the values of its handle operands from left to right, without those of a list
 abbrev pub asks : Request → ℕ × List ℕ
 asks (close h) = (64, h ∷ [])
 asks (dup h rights) = (65, h ∷ [])
+asks (replace h rights) = (66, h ∷ [])
+asks chan_create = (67, [])
+asks (chan_write c bytes hs) = (68, c ∷ [])
+asks (chan_read_etc c address room places) = (69, c ∷ [])
 asks event_create = (70, [])
 asks (signal h clear set) = (71, h ∷ [])
 asks (process_exit code) = (83, [])
+
+-- the values of the handles in its list, where it has one
+abbrev pub lists : Request → List ℕ
+lists (chan_write c bytes hs) = hs
+lists request = []
 
 -- ---- how it is refused
 
@@ -50,6 +65,23 @@ listed lib w p (close h) = []
 listed lib w p (dup h rights) =
     answer_if (is_empty (copy_of (entry_at w p h) rights)) status.InvalidArgs
     ∷ answer_if (not (has_room w p 1) || nat_le (2 ^ 62) (handles_to w (object_at w p h))) status.NoResources
+    ∷ []
+listed lib w p (replace h rights) =
+    answer_if (is_empty (copy_of (entry_at w p h) rights)) status.InvalidArgs
+    ∷ []
+listed lib w p chan_create =
+    answer_if (not (has_room w p 2 && has_koids w 2)) status.NoResources
+    ∷ []
+listed lib w p (chan_write c bytes hs) =
+    answer_if (contains hs c) status.NotSupported
+    ∷ answer_if (is_too_large bytes hs) status.OutOfRange
+    ∷ answer_if (not (has_key w.objects (peer_at w p c))) status.PeerClosed
+    ∷ []
+listed lib w p (chan_read_etc c address room places) =
+    answer_if (is_empty (queue_at w p c) && not (has_key w.objects (peer_at w p c))) status.PeerClosed
+    ∷ answer_if (is_empty (queue_at w p c)) status.ShouldWait
+    ∷ answer_if (not (has_place_for room places (queue_at w p c))) status.BufferTooSmall
+    ∷ answer_if (not (has_room w p (length (first_handles (queue_at w p c))))) status.NoResources
     ∷ []
 listed lib w p event_create =
     answer_if (not (has_room w p 1 && has_koids w 1)) status.NoResources
@@ -64,6 +96,9 @@ listed lib w p (process_exit code) = []
 -- the handles that enter the caller's table
 unfoldable pub new_handles : World → ℕ → Request → List Entry
 new_handles w p (dup h rights) = copy_of (entry_at w p h) rights
+new_handles w p (replace h rights) = copy_of (entry_at w p h) rights
+new_handles w p chan_create = new_entry w.next_koid kind.Channel ∷ new_entry (w.next_koid + 1) kind.Channel ∷ []
+new_handles w p (chan_read_etc c address room places) = first_handles (queue_at w p c)
 new_handles w p event_create = new_entry w.next_koid kind.Event ∷ []
 new_handles w p _ = []
 
@@ -71,12 +106,14 @@ new_handles w p _ = []
 abbrev pub receiver_of : World → ℕ → Request → ℕ
 receiver_of w p request = p
 
--- the new handles whose values may be chosen; all of them, at each call of today
+-- the new handles whose values may be chosen: all but that of replace, which keeps the value
 abbrev pub choosing : World → ℕ → Request → List Entry
+choosing w p (replace h rights) = []
 choosing w p request = new_handles w p request
 
--- the values at which new handles enter, where the chosen ones are vs; just these, at each call of today
+-- the values at which new handles enter, where the chosen ones are vs
 abbrev pub entering_at : Request → List ℕ → List ℕ
+entering_at (replace h rights) vs = h ∷ []
 entering_at request vs = vs
 
 -- ---- what it does
@@ -86,22 +123,32 @@ entering_at request vs = vs
 unfoldable pub effect : Library → World → World → ℕ → Request → World
 effect lib w taken p (close h) = taken
 effect lib w taken p (dup h rights) = taken
+effect lib w taken p (replace h rights) = without_waits taken p h
+effect lib w taken p chan_create =
+    with_object (with_object taken (ChannelEnd (w.next_koid + 1) [])) (ChannelEnd w.next_koid [])
+effect lib w taken p (chan_write c bytes hs) =
+    on_object taken (peer_at w p c) (message_sent (record { bytes = bytes; handles = entries_at w p hs }))
+effect lib w taken p (chan_read_etc c address room places) = on_object taken (object_at w p c) message_read
 effect lib w taken p event_create = with_object taken EventBody
 effect lib w taken p (signal h clear set) = on_object taken (object_at w p h) (object_changed clear set)
 effect lib w taken p (process_exit code) = taken
 
--- the bytes that the call stores in its caller's memory, and the address of the first; none, at each call of today
+-- the bytes that the call stores in its caller's memory, and the address of the first
 abbrev pub stored_by : World → ℕ → Request → ℕ × List ℕ
+stored_by w p (chan_read_etc c address room places) = (address, first_bytes (queue_at w p c))
 stored_by w p request = (0, [])
 
 -- ---- what its answer gives, and how it ends
 
 -- the values of the destinations behind the status, where the call is answered OK and vs were chosen
 unfoldable pub gives_ok : World → ℕ → Request → List ℕ → List ℕ
+gives_ok w p (replace h rights) vs = h ∷ []
+gives_ok w p (chan_read_etc c address room places) vs = sizes_of (queue_at w p c) ++ told_of (first_handles (queue_at w p c)) vs
 gives_ok w p request vs = vs
 
 -- the same where it is refused with the status
 unfoldable pub gives_refused : World → ℕ → Request → Status → List ℕ
+gives_refused w p (chan_read_etc c address room places) status.BufferTooSmall = sizes_of (queue_at w p c)
 gives_refused w p request answer = []
 
 -- what the caller waits for, if the call blocks; no call of today does

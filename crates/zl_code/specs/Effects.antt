@@ -1,11 +1,11 @@
 -- What a call can do to a world, in words that name no call.
-use Rattle.zl_rights.specs.Common.{rights_of, default_rights_of, put, without, update, has_key, World, Process, Blocked, Ended, Object, Body, lives}
-use Rattle.std.specs.Prelude.{ℕ, ◌+◌, ◌%◌, ◌^◌, ℤ, pos, Bool, true, false, ◌&&◌, not, ◌==◌, nat_lt, List, [], ◌∷◌, ◌++◌, Option, Some, None, if◌then◌else◌, ◌-ℤ◌}
+use Rattle.zl_rights.specs.Common.{bits, rights_of, default_rights_of, put, without, update, has_key, World, Process, Blocked, Ended, Object, Body, ChannelEnd, lives}
+use Rattle.std.specs.Prelude.{ℕ, ◌+◌, ◌%◌, ◌^◌, ℤ, pos, Bool, true, false, ◌&&◌, not, ◌==◌, nat_lt, List, [], ◌∷◌, ◌++◌, drop, Option, Some, None, if◌then◌else◌, ◌-ℤ◌}
 use Rattle.std.specs.List.{filter}
 use Rattle.zl_rights.specs.declared.kind.Kind.{Kind}
 use Rattle.zl_rights.specs.declared.entry.Entry.{Entry}
-use Rattle.zl_rights.specs.Numbers.{changed}
-use Rattle.zl_rights.specs.World.{Awaited}
+use Rattle.zl_rights.specs.Numbers.{changed, kind_number}
+use Rattle.zl_rights.specs.World.{Awaited, Message}
 use Rattle.zl_code.specs.Local.{overwritten}
 
 -- ---- changes of a world
@@ -81,11 +81,41 @@ abbrev pub gets_all : Option Process → List Entry → List ℕ → Bool
 gets_all None es vs = false
 gets_all (Some q) es vs = may_get_all q es vs
 
+-- ---- messages
+
+-- the channel end with a message more, which goes last
+abbrev pub body_with_message : Message → Body → Body
+body_with_message m (ChannelEnd peer queue) = ChannelEnd peer (queue ++ m ∷ [])
+body_with_message m b = b
+
+-- the object to which the message was sent
+abbrev pub message_sent : Message → Object → Object
+message_sent m o = record o { body = body_with_message m o.body }
+
+-- the channel end without its first message
+abbrev pub body_after_read : Body → Body
+body_after_read (ChannelEnd peer queue) = ChannelEnd peer (drop 1 queue)
+body_after_read b = b
+
+-- the object at which the first message was read
+abbrev pub message_read : Object → Object
+message_read o = record o { body = body_after_read o.body }
+
+-- what a reader is told of each handle: its value, its kind and its rights
+abbrev pub told_of : List Entry → List ℕ → List ℕ
+told_of [] vs = []
+told_of (e ∷ es) [] = []
+told_of (e ∷ es) (v ∷ vs) = v ∷ kind_number e.kind ∷ bits e.rights ∷ told_of es vs
+
 -- ---- signals, memory and waits
 
 -- the object after some of its signals were cleared, and then some raised
 abbrev pub object_changed : ℕ → ℕ → Object → Object
 object_changed clear set o = record o { raised = changed o.raised clear set }
+
+-- the world without the waits that the process p made by the value h
+abbrev pub without_waits : World → ℕ → ℕ → World
+without_waits w p h = record w { waits = filter (λ x. not ((x.pid == p) && (x.value == h))) w.waits }
 
 -- the world with these bytes in the memory of p
 abbrev pub storing : World → ℕ → ℕ × List ℕ → World

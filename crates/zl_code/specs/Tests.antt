@@ -1,8 +1,10 @@
 -- The words in which the table of calls is written.
-use Rattle.std.specs.List.{list_any}
+use Rattle.std.specs.List.{list_any, flat_map}
+use Rattle.std.specs.Option.{option_to_list}
 use Rattle.std.specs.Bool.{then_some}
-use Rattle.zl_rights.specs.Common.{SIGNALED, within, narrowed, condition_number, Map, get, World, Process, Object, Body, EventBody, JobBody, ProcessBody}
-use Rattle.std.specs.Prelude.{ℕ, ◌+◌, ◌^◌, Bool, ◌&&◌, ◌==◌, nat_le, List, [], ◌∷◌, length, Option, Some, None, Result, Ok, Err, if◌then◌else◌, unwrap_or}
+use Rattle.zl_rights.specs.Common.{SIGNALED, within, narrowed, condition_number, Map, get, World, Process, Object, Body, ChannelEnd, EventBody, JobBody, ProcessBody, queue_of}
+use Rattle.zl_rights.specs.World.{Message}
+use Rattle.std.specs.Prelude.{ℕ, ◌+◌, ◌^◌, Bool, ◌&&◌, ◌||◌, ◌==◌, nat_le, nat_lt, List, [], ◌∷◌, length, Option, Some, None, Result, Ok, Err, if◌then◌else◌, unwrap_or}
 use Rattle.zl_code.specs.First.{first_some}
 use Rattle.zl_rights.specs.declared.rights.Rights.{Rights}
 use Rattle.zl_rights.specs.declared.kind.Kind.{Kind}
@@ -186,3 +188,49 @@ with_rights e (Some rights) = record e { rights = rights } ∷ []
 abbrev pub copy_of : Option Entry → ℕ → List Entry
 copy_of None asked = []
 copy_of (Some e) asked = with_rights e (narrowed e.rights asked)
+
+-- ---- channels
+
+-- the peer of a channel end; 0, which no object has, of anything else
+abbrev pub peer_in : Option Body → ℕ
+peer_in (Some (ChannelEnd peer queue)) = peer
+peer_in _ = 0
+
+-- the peer of the end that the handle h of the process p names
+abbrev pub peer_at : World → ℕ → ℕ → ℕ
+peer_at w p h = peer_in (body_of w (object_at w p h))
+
+-- what is to be read at a channel end
+abbrev pub queue_in : Option Body → List Message
+queue_in None = []
+queue_in (Some b) = queue_of b
+
+-- what is to be read at the end that the handle h of the process p names
+abbrev pub queue_at : World → ℕ → ℕ → List Message
+queue_at w p h = queue_in (body_of w (object_at w p h))
+
+-- the bytes of the first message
+abbrev pub first_bytes : List Message → List ℕ
+first_bytes [] = []
+first_bytes (m ∷ ms) = m.bytes
+
+-- the handles in the first message
+abbrev pub first_handles : List Message → List Entry
+first_handles [] = []
+first_handles (m ∷ ms) = m.handles
+
+-- how many bytes and how many handles the first message has
+abbrev pub sizes_of : List Message → List ℕ
+sizes_of queue = length (first_bytes queue) ∷ length (first_handles queue) ∷ []
+
+-- the first message has at most so many bytes and handles
+abbrev pub has_place_for : ℕ → ℕ → List Message → Bool
+has_place_for room places queue = nat_le (length (first_bytes queue)) room && nat_le (length (first_handles queue)) places
+
+-- no message has so many bytes or handles
+abbrev pub is_too_large : List ℕ → List ℕ → Bool
+is_too_large bytes hs = nat_lt 65536 (length bytes) || nat_lt 64 (length hs)
+
+-- the handles of the process p at these values, as far as they are there
+abbrev pub entries_at : World → ℕ → List ℕ → List Entry
+entries_at w p hs = flat_map (λ h. option_to_list (entry_at w p h)) hs

@@ -93,6 +93,8 @@ pub data Action : Type 1 where
   answers : (A : Type 0) (told : A → Told) (Acts : Handles → Objects → A → Handles → Objects → Type 0) → Action
   -- its caller ends with the code, and gets no answer
   exits : (code : ℤ) → Action
+  -- no instruction asks for it yet
+  unbuilt : Action
 
 -- its answer gives no value
 abbrev pub gives_none : (Handles → Objects → Result ⊤ Status → Handles → Objects → Type 0) → Action

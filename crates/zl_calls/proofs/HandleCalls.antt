@@ -9,7 +9,8 @@ use Rattle.zl_code.specs.declared.history.CallName.{CallName}
 use Rattle.zl_code.specs.declared.history.Outcome.{Outcome}
 use Rattle.zl_code.specs.declared.history.Outcome.TheVariants as outcome
 use Rattle.zl_calls.specs.declared.process.Process.{Process}
-use Rattle.zl_calls.specs.calls.Handle.{CloseDoes, Closes, close_answer, without_handle, Dups, DupDoes, dup_refusal, dup_refusal_of}
+use Rattle.zl_calls.specs.calls.Answer.{without_handle}
+use Rattle.zl_calls.specs.calls.Handle.{CloseDoes, Closes, close_answer, Dups, DupDoes, dup_refusal, dup_refusal_of}
 use Rattle.zl_calls.proofs.Answered.{IsWrite, table_is, replies_none, replied_with, may_get_inserted, replied_inserted}
 use Rattle.zl_calls.proofs.Done.{IsDone, IsCalled, answered_done}
 use Rattle.zl_calls.proofs.Labs.{no_policy, call_settles, handles_counted}

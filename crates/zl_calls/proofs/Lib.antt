@@ -1,6 +1,7 @@
 pub mod Common
 pub mod Slots
 pub mod Tables
+pub mod Taking
 pub mod Places
 pub mod Quiet
 pub mod Refused

@@ -1,12 +1,12 @@
 -- Tables that handles enter and leave, and empty ones.
-use Rattle.zl_calls.proofs.Common.{false, ◌^◌, bit_and, ◌≡◌, ◌<◌, ◌≤◌, ℕ, [], ◌∷◌, length, Some, None, Result, Err, refl, sym, ap, ◌∙◌, arith, inl, inr, ◌==◌, if◌then◌else◌, cases_Bool, eqb-true, same_Some, Map, get, without, within, get-put, Handles, IsTable, Inserts, Drains, sorted_put, length-put_new, put_key, Objects, Releases, Drained, and_le_l}
+use Rattle.zl_calls.proofs.Common.{false, ◌^◌, bit_and, ◌≡◌, ◌<◌, ◌≤◌, ℕ, [], ◌∷◌, length, Some, None, Result, Err, List, refl, sym, ap, ◌∙◌, arith, inl, inr, ◌==◌, if◌then◌else◌, cases_Bool, eqb-true, same_Some, Map, get, without, within, get-put, Handles, IsTable, Inserts, Drains, sorted_put, length-put_new, put_key, Objects, Releases, Drained, and_le_l}
 use Rattle.zl_rights.specs.declared.entry.Entry.{Entry}
 use Rattle.zl_rights.specs.declared.kind.Kind.{Kind}
 use Rattle.zl_rights.specs.declared.kind.Kind.TheVariants as kind
 use Rattle.zl_rights.specs.declared.status.Status.{Status}
 use Rattle.zl_rights.specs.declared.status.Status.TheVariants as status
 use Rattle.zl_rights.specs.LookUp.{looked_up}
-use Rattle.zl_calls.specs.calls.Handle.{without_handle}
+use Rattle.zl_calls.specs.calls.Answer.{without_handle}
 use Rattle.zl_calls.specs.calls.Process.{none_left, one_more}
 use Rattle.zl_calls.specs.calls.Event.{settable_at}
 
@@ -29,10 +29,10 @@ shorter (e ∷ m) k v h = elim (cases_Bool (e.0 == k)) as (λ _. length (without
 pub drained_is_shorter : (old : Handles) (entry : Entry) (new : Handles) → Drains old entry new → length new.entries < length old.entries
 drained_is_shorter old entry new d = rw d.removes.entries (shorter old.entries d.value entry d.removes.was)
 
-pub empty_refuses : (m : Map Entry) (value needed n : ℕ) → n ≡ length m → n ≡ 0 → ◌≡◌ {A = Result Entry Status} (Err status.BadHandle) (looked_up m value [] needed)
+pub empty_refuses : (m : Map Entry) (value needed n : ℕ) (kinds : List Kind) → n ≡ length m → n ≡ 0 → ◌≡◌ {A = Result Entry Status} (Err status.BadHandle) (looked_up m value kinds needed)
 unfolding get
-empty_refuses [] value needed n count empty = refl
-empty_refuses (e ∷ m) value needed n count empty = absurd (omega (arith, count, empty))
+empty_refuses [] value needed n kinds count empty = refl
+empty_refuses (e ∷ m) value needed n kinds count empty = absurd (omega (arith, count, empty))
 
 by_entries : (t : Handles) (value : ℕ) (m : Map Entry) → t.entries ≡ m → length m ≡ 0 → (None ≡ get t.entries value) × (t ≡ without_handle t value)
 unfolding get

@@ -3,3 +3,4 @@ pub mod Answer
 pub mod Handle
 pub mod Event
 pub mod Process
+pub mod Channel

@@ -1,7 +1,8 @@
 -- How a call is refused and answered, which is alike for all calls. No public clause cites this module.
-use Rattle.zl_code.specs.Common.{Cpu, Map, answered, Site, cpu_answered}
+use Rattle.zl_code.specs.Common.{Cpu, Map, get, has_key, without, answered, Site, cpu_answered}
 use Rattle.zl_code.specs.Local.{overwritten}
-use Rattle.std.specs.Prelude.{ℕ, ℤ, ◌≡◌, ◌+◌, Bool, true, false, nat_le, List, [], ◌∷◌, length, Option, Some, None, Result, Ok, Err, ⊤, IfOk, IfErr, OnErr}
+use Rattle.std.specs.Option.{option_to_list}
+use Rattle.std.specs.Prelude.{ℕ, ℤ, ◌≡◌, ◌+◌, Bool, true, false, nat_le, List, [], ◌∷◌, ◌++◌, if◌then◌else◌, length, Option, Some, None, Result, Ok, Err, ⊤, IfOk, IfErr, OnErr}
 use Rattle.zl_rights.specs.declared.status.Status.{Status}
 use Rattle.zl_rights.specs.declared.status.Status.TheVariants as status
 use Rattle.zl_rights.specs.declared.entry.Entry.{Entry}
@@ -11,6 +12,7 @@ use Rattle.zl_code.specs.declared.history.Outcome.TheVariants as outcome
 use Rattle.zl_table.specs.Table.{Handles}
 use Rattle.zl_calls.specs.declared.process.Process.{Process}
 use Rattle.zl_objects.specs.Objects.{Objects}
+use Rattle.zl_objects.specs.Release.{Releases, koids_of}
 
 -- ---- refusals
 
@@ -30,6 +32,33 @@ pub record Does {A : Type 0} (Done : A → Handles → Objects → Type 0) (want
   pub err : IfErr answer (IsRefusedBy wants refusal)
   pub same_table : OnErr answer (t2 ≡ t)
   pub same_objects : OnErr answer (r2 ≡ r)
+
+-- ---- handles that a call takes
+
+-- the table without the handle
+abbrev pub without_handle : Handles → ℕ → Handles
+without_handle t value = if has_key t.entries value then record { entries = without t.entries value; last = Some value } else t
+
+-- the table without the handles at these values, which leave it from left to right
+abbrev pub without_handles : Handles → List ℕ → Handles
+without_handles t [] = t
+without_handles t (h ∷ hs) = without_handles (without_handle t h) hs
+
+-- the handles that leave it so
+abbrev pub taken_from : Handles → List ℕ → List Entry
+taken_from t [] = []
+taken_from t (h ∷ hs) = option_to_list (get t.entries h) ++ taken_from (without_handle t h) hs
+
+-- the handles at these values closed
+pub record ClosesEach (hs : List ℕ) (t : Handles) (r : Objects) (t2 : Handles) (r2 : Objects) : Type 0 where
+  pub table : t2 ≡ without_handles t hs
+  pub objects : Releases (koids_of (taken_from t hs)) [] r r2
+
+-- a call was done; or else it was refused, and the handles at the values hs closed, which it takes however it is answered
+pub record DoesTaking {A : Type 0} (Done : A → Handles → Objects → Type 0) (wants : Bool) (refusal : Option Status) (hs : List ℕ) (t : Handles) (r : Objects) (answer : Result A Status) (t2 : Handles) (r2 : Objects) : Type 0 where
+  pub ok : IfOk answer (λ x. Done x t2 r2)
+  pub err : IfErr answer (IsRefusedBy wants refusal)
+  pub closed : OnErr answer (ClosesEach hs t r t2 r2)
 
 -- ---- answers
 

@@ -1,8 +1,8 @@
 -- What calls on handles do: close and dup. No public clause cites this module.
-use Rattle.std.specs.Prelude.{ℕ, ◌≡◌, ◌<◌, IsTrue, true, ◌||◌, not, [], ◌∷◌, length, Option, Some, None, Result, ⊤, ◌==◌, if◌then◌else◌}
+use Rattle.std.specs.Prelude.{ℕ, ◌≡◌, ◌<◌, IsTrue, true, ◌||◌, not, [], ◌∷◌, length, Option, Some, None, Result, false, ⊤, ◌==◌, if◌then◌else◌}
 use Rattle.std.specs.Bool.{then_some}
 use Rattle.std.specs.Option.{option_or}
-use Rattle.zl_code.specs.Common.{bits, within, narrowed, DUPLICATE, Map, get, has_key, without, is_empty, with_rights}
+use Rattle.zl_code.specs.Common.{bits, within, narrowed, DUPLICATE, Map, get, has_key, update, is_empty, with_rights}
 use Rattle.zl_rights.specs.declared.status.Status.{Status}
 use Rattle.zl_rights.specs.declared.status.Status.TheVariants as status
 use Rattle.zl_rights.specs.declared.entry.Entry.{Entry}
@@ -11,17 +11,13 @@ use Rattle.zl_table.specs.Table.{Handles, Inserts}
 use Rattle.zl_objects.specs.declared.object.Object.{Object}
 use Rattle.zl_objects.specs.Objects.{Objects, has_place, holding}
 use Rattle.zl_objects.specs.Release.{Releases}
-use Rattle.zl_calls.specs.calls.Answer.{Does, has_room_in, status_of}
+use Rattle.zl_calls.specs.calls.Answer.{Does, DoesTaking, has_room_in, status_of, without_handle}
 
 -- ---- close
 
 -- the answer of close; 0 passes
 abbrev pub close_answer : Map Entry → ℕ → Status
 close_answer entries value = if has_key entries value || value == 0 then status.Ok else status.BadHandle
-
--- the table without the handle
-abbrev pub without_handle : Handles → ℕ → Handles
-without_handle t value = if has_key t.entries value then record { entries = without t.entries value; last = Some value } else t
 
 -- the handle, if there is one, went from the objects
 abbrev pub Closes : Option Entry → Objects → Objects → Type 0
@@ -63,3 +59,30 @@ pub record Dups (t : Handles) (r : Objects) (value asked made : ℕ) (t2 : Handl
 -- dup of the handle at the value, with these rights asked for
 abbrev pub DupDoes : ℕ → ℕ → Handles → Objects → Result ℕ Status → Handles → Objects → Type 0
 DupDoes value asked t r = Does (Dups t r value asked) true (dup_refusal t.entries r.objects value asked) t r
+
+-- ---- replace
+
+-- why no handle is replaced, with the caller's handle looked up
+abbrev pub replace_refusal_of : ℕ → Option Entry → Option Status
+replace_refusal_of asked None = Some status.BadHandle
+replace_refusal_of asked (Some e) = then_some (is_empty (with_rights e (narrowed e.rights asked))) status.InvalidArgs
+
+-- the answer of replace other than OK
+abbrev pub replace_refusal : Map Entry → ℕ → ℕ → Option Status
+replace_refusal entries value asked = replace_refusal_of asked (get entries value)
+
+-- the handle at the value has the rights that were granted, and no value is the one removed last
+pub record Replaces (t : Handles) (r : Objects) (value asked made : ℕ) (t2 : Handles) (r2 : Objects) : Type 0 where
+  pub unrefused : replace_refusal t.entries value asked ≡ None
+  pub original : Entry
+  pub was : get t.entries value ≡ Some original
+  pub granted : Rights
+  pub allowed : narrowed original.rights asked ≡ Some granted
+  pub same_value : made ≡ value
+  pub entries : t2.entries ≡ update t.entries value (λ e. record e { rights = granted })
+  pub last : t2.last ≡ None
+  pub objects : r2 ≡ r
+
+-- replace of the handle at the value, with these rights asked for; where it is refused the handle closes
+abbrev pub ReplaceDoes : ℕ → ℕ → Handles → Objects → Result ℕ Status → Handles → Objects → Type 0
+ReplaceDoes value asked t r = DoesTaking (Replaces t r value asked) false (replace_refusal t.entries value asked) (value ∷ []) t r

@@ -51,7 +51,7 @@ pub fn signal(
 ) -> Result<(), Status>
     ensures { SignalDoes value clear set table.now objects.old result table.now objects.new }
 {
-    let entry = look_up(table, value, Rights::SIGNAL)?;
+    let entry = look_up(table, value, &[], Rights::SIGNAL)?;
     let (Some(clear), Some(set)) = (
         signals_within(clear, entry.kind),
         signals_within(set, entry.kind),

@@ -1,9 +1,10 @@
 //! Calls on handles.
 
 ghost use Rattle.std.specs.Prelude.{◌≡◌, ◌==◌, if◌then◌else◌};
+ghost use Rattle.std.specs.Option.{option_map};
 ghost use Rattle.zl_rights.specs.Map.{get};
-ghost use Rattle.zl_calls.specs.calls.Answer.{status_of};
-ghost use Rattle.zl_calls.specs.calls.Handle.{CloseDoes, DupDoes, without_handle};
+ghost use Rattle.zl_calls.specs.calls.Answer.{ClosesEach, status_of, without_handle};
+ghost use Rattle.zl_calls.specs.calls.Handle.{CloseDoes, DupDoes, ReplaceDoes};
 
 use crate::calls::{insert, look_up};
 use zl_objects::Objects;
@@ -38,7 +39,7 @@ fn unless_zero(value: u64) -> Result<(), Status>
 }
 
 /// The handle at the value leaves the table, if it is live.
-fn take_out(table: &mut Table, value: u64) -> Option<Entry>
+pub fn take_out(table: &mut Table, value: u64) -> Option<Entry>
     ensures entry { result ≡ get table.old.entries value }
     ensures table { table.new ≡ without_handle table.old value }
 {
@@ -49,6 +50,16 @@ fn take_out(table: &mut Table, value: u64) -> Option<Entry>
     match HValue::try_from(value) {
         Ok(value) => table.remove(value),
         Err(_) => None,
+    }
+}
+
+/// The handles at these values close, those that are live.
+pub fn close_each(table: &mut Table, objects: &mut Objects, values: &[u64])
+    ensures { ClosesEach values.now table.old objects.old table.new objects.new }
+{
+    for value in values {
+        // A value that isn't live any more was listed twice.
+        let _ = close(table, objects, *value);
     }
 }
 
@@ -66,7 +77,7 @@ pub fn dup(
 ) -> Result<HValue, Status>
     ensures { DupDoes value asked table.old objects.old result table.new objects.new }
 {
-    let entry = look_up(table, value, Rights::DUPLICATE)?;
+    let entry = look_up(table, value, &[], Rights::DUPLICATE)?;
     let rights = narrow(entry.rights, asked)?;
     if table.len() >= Table::CAPACITY || !objects.may_hold(entry.koid) {
         return Err(Status::NoResources);
@@ -74,4 +85,45 @@ pub fn dup(
     let made = insert(table, Entry { rights, ..entry })?;
     objects.hold(entry.koid);
     Ok(made)
+}
+
+/// Gives the handle's place to a new one, with the rights asked for; the waits of the old handle end.
+/// However it is answered, the old handle is gone.
+///
+/// `BadHandle`, `InvalidArgs` where `asked` is neither `Rights::SAME_RIGHTS` alone nor a subset of
+/// the handle's rights.
+/// Source: the page "zx_handle_replace" of the Fuchsia documentation.
+pub fn replace(
+    table: &mut Table,
+    objects: &mut Objects,
+    value: u64,
+    asked: u32,
+) -> Result<HValue, Status>
+    ensures { ReplaceDoes value asked table.old objects.old result table.new objects.new }
+{
+    let Some((place, entry)) = live_at(table, value) else {
+        return Err(Status::BadHandle);
+    };
+    match narrow(entry.rights, asked) {
+        Ok(rights) => {
+            table.rewrite(place, rights);
+            Ok(place)
+        }
+        Err(refused) => {
+            close_each(table, objects, &[value]);
+            Err(refused)
+        }
+    }
+}
+
+/// The value and its handle, if it is live.
+fn live_at(table: &Table, value: u64) -> Option<(HValue, Entry)>
+    ensures { result ≡ option_map (λ entry. (value, entry)) (get table.now.entries value) }
+{
+    // A fact that the prover needs below, as in `look_up`.
+    if table.len() == 0 {
+        return None;
+    }
+    let place = HValue::try_from(value).ok()?;
+    Some((place, table.get(place)?))
 }

@@ -1,0 +1,7 @@
+use Rattle.zl_calls.proofs.Common.{◌≡◌, [], take}
+use Rattle.zl_code.proofs.Common.{drop}
+use Rattle.zl_calls.specs.calls.Channel.{list_refusal}
+use Rattle.zl_calls.proofs.calls.channel.examine_list.Given as goal
+
+abbrev pub invariant-loop-n : goal.invariant-loop-n
+invariant-loop-n l = record { so_far : list_refusal l.table.entries (take l.n l.handles) (drop l.n l.handles) ≡ list_refusal l.table.entries [] l.handles }

@@ -1,0 +1,227 @@
+//! Calls on channels.
+
+ghost use Rattle.std.specs.Prelude.{◌≡◌, ◌++◌, [], true, length, IsTrue, IfOk, IfErr, OnOk, OnErr};
+ghost use Rattle.std.specs.Option.{option_to_list};
+ghost use Rattle.zl_rights.specs.Map.{get};
+ghost use Rattle.smallvec.specs.SmallVec.{HasRoomFor};
+ghost use Rattle.zl_code.specs.Effects.{new_entry};
+ghost use Rattle.zl_objects.specs.Objects.{is_end_at, sending};
+ghost use Rattle.zl_objects.specs.Release.{Releases, koids_of};
+ghost use Rattle.zl_calls.specs.calls.Answer.{IsRefusedBy, taken_from, without_handle, without_handles};
+ghost use Rattle.zl_calls.specs.calls.Channel.{ChanCreateDoes, ChanWriteDoes, IsPeerOf, IsReady, fault_of, list_refusal, write_refusal};
+
+use crate::calls::handle::{close_each, take_out};
+use crate::calls::{insert, look_up};
+use std::alloc::Global;
+use zl_channel::{ChannelEnd, Handles, Message, PushFault};
+use zl_objects::Objects;
+use zl_rights::{Entry, HValue, Kind, Koid, Rights, Status};
+use zl_table::Table;
+
+/// Makes a channel, with a handle to each end that has the default rights. The first is to the end
+/// with the lower koid.
+///
+/// `NoResources` where the table has no place for both or fewer than two koids are left,
+/// `NoMemory`.
+/// Source: the page "zx_channel_create" of the Fuchsia documentation.
+pub fn chan_create(
+    table: &mut Table,
+    objects: &mut Objects,
+) -> Result<(HValue, HValue), Status>
+    ensures { ChanCreateDoes table.old objects.old result table.new objects.new }
+{
+    if table.len() + 2 > Table::CAPACITY || !objects.has_koids(2) {
+        return Err(Status::NoResources);
+    }
+    let koid = objects.next_koid();
+    let last = table.last();
+    let first = insert(table, handle_to_end(koid))?;
+    let Ok(second) = insert(table, handle_to_end(koid + 1)) else {
+        table.undo(first, last);
+        return Err(Status::NoMemory);
+    };
+    if objects.create_channel(1).is_err() {
+        table.undo(second, None);
+        table.undo(first, last);
+        return Err(Status::NoMemory);
+    }
+    Ok((first, second))
+}
+
+/// Writes a message with the bytes and with the handles at these values: it goes last into the
+/// queue of the end's peer. However it is answered, the handles have left the table.
+///
+/// Of the end `BadHandle`, `WrongType` for what is no channel, `AccessDenied` without the right to
+/// write; of each handle in turn `BadHandle`, also where it is listed twice, and `AccessDenied`
+/// without the right to transfer; `NotSupported` for the end's own value; `OutOfRange` for more
+/// than 65,536 bytes or 64 handles; `PeerClosed`; `NoMemory`.
+/// Source: the page "zx_channel_write" of the Fuchsia documentation.
+pub fn chan_write(
+    alloc: Global,
+    table: &mut Table,
+    objects: &mut Objects,
+    channel: u64,
+    bytes: &[u8],
+    handles: &[u64],
+) -> Result<(), Status>
+    ensures { ChanWriteDoes channel bytes.now handles.now
+        table.old objects.old result table.new objects.new }
+{
+    match prepare(alloc, table, objects, channel, bytes, handles) {
+        Ok(letter) => send(table, objects, letter, handles),
+        Err(refused) => {
+            close_each(table, objects, handles);
+            Err(refused)
+        }
+    }
+}
+
+/// A message that is written: the end to whose queue it goes, its bytes, and room for its handles.
+#[derive(Drop)]
+struct Letter {
+    peer: Koid,
+    bytes: Vec<u8>,
+    room: Handles,
+}
+
+/// What chan_write needs before it changes anything, or its answer.
+fn prepare(
+    alloc: Global,
+    table: &Table,
+    objects: &Objects,
+    channel: u64,
+    bytes: &[u8],
+    handles: &[u64],
+) -> Result<Letter, Status>
+    ensures ready { IfOk result (λ letter.
+        IsReady table.now.entries objects.now.objects channel bytes.now handles.now letter) }
+    ensures refused { IfErr result (IsRefusedBy true (write_refusal
+        table.now.entries objects.now.objects channel (length bytes.now) handles.now)) }
+{
+    let peer = find_peer(table, objects, channel, bytes.len(), handles)?;
+    let Ok(bytes) = bytes.to_vec(alloc) else {
+        return Err(Status::NoMemory);
+    };
+    let mut room = Handles::new(alloc);
+    if room.reserve(handles.len()).is_err() {
+        return Err(Status::NoMemory);
+    }
+    Ok(Letter { peer, bytes, room })
+}
+
+/// The end to whose queue a message goes that is written at the end at the value `channel`.
+fn find_peer(
+    table: &Table,
+    objects: &Objects,
+    channel: u64,
+    size: usize,
+    handles: &[u64],
+) -> Result<Koid, Status>
+    ensures refusal { fault_of result
+        ≡ write_refusal table.now.entries objects.now.objects channel size handles.now }
+    ensures peer { IfOk result (λ peer.
+        IsPeerOf table.now.entries objects.now.objects channel peer) }
+{
+    let end = look_up(table, channel, &[Kind::Channel], Rights::WRITE)?;
+    examine_list(table, handles)?;
+    if handles.contains(&channel) {
+        return Err(Status::NotSupported);
+    }
+    if size > ChannelEnd::MOST_BYTES || handles.len() > ChannelEnd::MOST_HANDLES {
+        return Err(Status::OutOfRange);
+    }
+    objects.peer(end.koid).ok_or(Status::PeerClosed)
+}
+
+/// Whether each handle of the list may be sent, and none is listed twice.
+fn examine_list(table: &Table, handles: &[u64]) -> Result<(), Status>
+    ensures { fault_of result ≡ list_refusal table.now.entries [] handles.now }
+{
+    for (n, handle) in handles.iter().enumerate() {
+        if handles[..n].contains(handle) {
+            return Err(Status::BadHandle);
+        }
+        look_up(table, *handle, &[], Rights::TRANSFER)?;
+    }
+    Ok(())
+}
+
+/// Sends the message with the handles at these values. They leave the table; where memory is
+/// refused they close.
+fn send(
+    table: &mut Table,
+    objects: &mut Objects,
+    letter: Letter,
+    handles: &[u64],
+) -> Result<(), Status>
+    requires end { IsTrue (is_end_at objects.old.objects letter.peer) }
+    requires room { HasRoomFor letter.room (length handles.now) }
+    requires empty { letter.room.items ≡ [] }
+    ensures sent { OnOk result (objects.new ≡ sending objects.old letter.peer
+        (record { bytes = letter.bytes.items; handles = taken_from table.old handles.now })) }
+    ensures wants { IfErr result (λ refused. refused ≡ Status.NoMemory) }
+    ensures released { OnErr result
+        (Releases (koids_of (taken_from table.old handles.now)) [] objects.old objects.new) }
+    ensures table { table.new ≡ without_handles table.old handles.now }
+{
+    let Letter { peer, bytes, mut room } = letter;
+    take_each(table, &mut room, handles);
+    let message = Message {
+        bytes,
+        handles: room,
+    };
+    match objects.send(peer, message) {
+        Ok(()) => Ok(()),
+        Err(PushFault::NoMemory(message)) => {
+            release_each(objects, message.handles.as_slice());
+            Err(Status::NoMemory)
+        }
+        Err(PushFault::OutOfRange(message)) => {
+            release_each(objects, message.handles.as_slice());
+            Err(Status::NoMemory)
+        }
+    }
+}
+
+/// The handles at these values leave the table, those that are live, into room that is there.
+fn take_each(table: &mut Table, taken: &mut Handles, values: &[u64])
+    requires { HasRoomFor taken.old (length values.now) }
+    ensures table { table.new ≡ without_handles table.old values.now }
+    ensures taken { taken.new.items ≡ taken.old.items ++ taken_from table.old values.now }
+{
+    for value in values {
+        take_into(table, taken, *value);
+    }
+}
+
+/// The handle at the value leaves the table, if it is live, into room that is there.
+fn take_into(table: &mut Table, taken: &mut Handles, value: u64)
+    requires { HasRoomFor taken.old 1 }
+    ensures table { table.new ≡ without_handle table.old value }
+    ensures taken { taken.new.items ≡ taken.old.items ++ option_to_list (get table.old.entries value) }
+    ensures capacity { taken.new.capacity ≡ taken.old.capacity }
+{
+    if let Some(entry) = take_out(table, value) {
+        taken.push_reserved(entry);
+    }
+}
+
+/// The handles have gone, and what isn't held any more.
+fn release_each(objects: &mut Objects, handles: &[Entry])
+    ensures { Releases (koids_of handles.now) [] objects.old objects.new }
+{
+    for handle in handles {
+        objects.release(handle.koid);
+    }
+}
+
+/// The first handle to the end of a channel with the koid.
+fn handle_to_end(koid: Koid) -> Entry
+    ensures { result ≡ new_entry koid Kind.Channel }
+{
+    Entry {
+        koid,
+        kind: Kind::Channel,
+        rights: Kind::Channel.default_rights(),
+    }
+}

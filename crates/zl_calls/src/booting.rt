@@ -119,7 +119,7 @@ impl Made {
             return Err(BootCause::NoMemory);
         };
         let mut process = Process {
-            pid: self.objects.next_koid(),
+            pid: self.objects.end_of_koids(),
             program: program as usize,
             state: State::Ready,
             cpu,
@@ -159,7 +159,7 @@ impl Made {
         if handles.len() > Grants::MOST || !self.may_give(handles) {
             return Err(BootCause::BadHandleList);
         }
-        if self.processes.len() >= MOST_PROCESSES || self.objects.next_koid() > MOST_KOIDS {
+        if self.processes.len() >= MOST_PROCESSES || self.objects.end_of_koids() > MOST_KOIDS {
             return Err(BootCause::Limit);
         }
         Ok(listed.image())
@@ -226,7 +226,7 @@ impl Made {
         ensures lab { IsConsistent self.new.processes.items self.new.objects }
     {
         // What is newer goes first, as a job is older than what is in it.
-        for koid in (0..self.objects.next_koid()).rev() {
+        for koid in (0..self.objects.end_of_koids()).rev() {
             self.objects.remove_unheld(koid);
         }
     }

@@ -22,6 +22,10 @@ pub record Objects : Type 0 where
 abbrev pub has_koids : ℕ → ℕ → Bool
 has_koids next_koid count = nat_le (next_koid + count) (2 ^ 62)
 
+-- the least koid that was not given yet, if one is left
+abbrev pub next_of : ℕ → Option ℕ
+next_of next_koid = if has_koids next_koid 1 then Some next_koid else None
+
 -- ---- counts of handles
 
 -- one handle more may name the object

@@ -1,6 +1,6 @@
 ghost use Rattle.std.specs.Prelude.{[], Err, Some, false, ◌≡◌, ◌↔◌, ◌+◌, ◌<◌, ◌^◌, ◌∷◌, IsTrue, IfErr, IfOk, IfSome, OnErr, OnOk, slice_get};
 ghost use Rattle.zl_rights.specs.Map.{get, has_key};
-ghost use Rattle.zl_objects.specs.Objects.{changing, has_koids, has_place, holding, is_end_at, is_end_body, is_job_at, job_in, kind_at, new_object, peer_at, queue_in, receiving, root_alone, sending, stopping, with_channel, with_new, without_newest};
+ghost use Rattle.zl_objects.specs.Objects.{changing, has_koids, has_place, holding, is_end_at, is_end_body, is_job_at, job_in, kind_at, new_object, next_of, peer_at, queue_in, receiving, root_alone, sending, stopping, with_channel, with_new, without_newest};
 ghost use Rattle.zl_channel.specs.Queue.{front_entry, front_sizes, is_too_large, refused_message};
 ghost use Rattle.zl_objects.specs.Release.{Ends, Releases};
 ghost use Rattle.zl_objects.specs.Seen.{LeavesLargest};
@@ -67,8 +67,19 @@ impl Objects {
         self.next_koid <= Objects::MOST - u64::from(count)
     }
 
-    /// The least koid that was not given yet.
-    pub fn next_koid(&self) -> Koid
+    /// The least koid that was not given yet, if one is left.
+    pub fn next_koid(&self) -> Option<Koid>
+        ensures { result ≡ next_of self.now.next_koid }
+    {
+        if self.has_koids(1) {
+            Some(self.next_koid)
+        } else {
+            None
+        }
+    }
+
+    /// All koids that were given lie below this one.
+    pub fn end_of_koids(&self) -> Koid
         ensures { result ≡ self.now.next_koid }
     {
         self.next_koid

@@ -79,7 +79,7 @@ fn a_job_goes_with_its_last_process(rt: HostRuntime) -> Result<(), Fail> {
         job: Objects::ROOT_JOB,
         lives: true,
     };
-    assert_eq!(rt; objects.next_koid(), 2);
+    assert_eq!(rt; objects.next_koid(), Some(2));
     let pid = objects.create(process, 0)?;
     objects.remove_unheld(Objects::ROOT_JOB);
     assert!(rt; objects.is_job(Objects::ROOT_JOB));

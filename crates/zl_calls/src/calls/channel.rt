@@ -33,7 +33,7 @@ pub fn chan_create(
     if table.len() + 2 > Table::CAPACITY || !objects.has_koids(2) {
         return Err(Status::NoResources);
     }
-    let koid = objects.next_koid();
+    let koid = objects.end_of_koids();
     let last = table.last();
     let first = insert(table, handle_to_end(koid))?;
     let Ok(second) = insert(table, handle_to_end(koid + 1)) else {

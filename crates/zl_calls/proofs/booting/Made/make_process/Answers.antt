@@ -30,8 +30,8 @@ create-requires-clause-koid c =
 pub returns-clause-ok : goal.returns-clause-ok
 returns-clause-ok c =
     makes c.args.library.now c.args.self.now c.give.new.self (record { processes = c.push.new.self; objects = c.create.new.self }) c.args.job c.args.program c.args.word c.args.handles.now c.in_ok-image.image.now
-    (record { pid = c.next_koid.result; program = c.args.program; state = state.Ready; cpu = c.in-Ok.cpu; table = c.new-2.result }) c.give.new.process
+    (record { pid = c.end_of_koids.result; program = c.args.program; state = state.Ready; cpu = c.in-Ok.cpu; table = c.new-2.result }) c.give.new.process
     (c.in_ok-image.ensures {u = tt}).image ((c.in_ok-image.ensures {u = tt}).fault c.args.word)
-    (record { pid = c.next_koid.ensures; program_is = refl; cpu = c.in-Ok.ensures {u = tt}; ready = refl; bare = record { no_handles = c.new-2.ensures.entries; none_removed = c.new-2.ensures.last } })
+    (record { pid = c.end_of_koids.ensures; program_is = refl; cpu = c.in-Ok.ensures {u = tt}; ready = refl; bare = record { no_handles = c.new-2.ensures.entries; none_removed = c.new-2.ensures.last } })
     (done _ _ (c.if-is_err.ensures {u = tt}).value c.give.ensures)
     (rw (c.if-is_err-2.ensures {u = tt}).negation at c.push.ensures.items) c.in-Ok-create.ensures.created

@@ -4,7 +4,7 @@ use Rattle.zl_calls.proofs.booting.Made.settle.Goals as goal
 
 pub loop-koid-init : goal.loop-koid-init
 loop-koid-init c = record {
-  swept = rw c.next_koid-koid.ensures (none_swept c.args.self.now.processes.items c.args.self.now.objects c.requires);
+  swept = rw c.end_of_koids-koid.ensures (none_swept c.args.self.now.processes.items c.args.self.now.objects c.requires);
   processes = refl;
 }
 

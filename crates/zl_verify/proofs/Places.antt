@@ -1,0 +1,42 @@
+-- Lists by their places: what a write leaves.
+use Rattle.std.proofs.Common.{◌≡◌, ◌≢◌, ℕ, zero, suc, ◌<◌, ◌≤◌, Bool, true, false, List, [], ◌∷◌, length, Some, None, refl, ap, ◌⊎◌, inl, inr, arith}
+use Rattle.std.specs.Prelude.{slice_get, slice_set}
+
+pub get_put : {X : Type 0} (xs : List X) (n : ℕ) (v : X) → n < length xs → slice_get (slice_set xs n v) n ≡ Some v
+get_put [] n v h = absurd (omega arith)
+get_put (x ∷ xs) zero v h = refl
+get_put (x ∷ xs) (suc n) v h = get_put xs n v (omega arith)
+
+pub get_put_other : {X : Type 0} (xs : List X) (n m : ℕ) (v : X) → n ≢ m → slice_get (slice_set xs n v) m ≡ slice_get xs m
+get_put_other [] n m v h = refl
+get_put_other (x ∷ xs) zero zero v h = absurd (h refl)
+get_put_other (x ∷ xs) zero (suc m) v h = refl
+get_put_other (x ∷ xs) (suc n) zero v h = refl
+get_put_other (x ∷ xs) (suc n) (suc m) v h = get_put_other xs n m v (λ e. h (ap suc e))
+
+pub there : {X : Type 0} (xs : List X) (n : ℕ) (x : X) → slice_get xs n ≡ Some x → n < length xs
+there [] n x h = cc
+there (y ∷ xs) zero x h = omega arith
+there (y ∷ xs) (suc n) x h = let k = there xs n x h in omega arith
+
+pub nowhere : {X : Type 0} (xs : List X) (n : ℕ) → slice_get xs n ≡ None → n < length xs → ⊥
+nowhere [] n e h = omega arith
+nowhere (x ∷ xs) zero e h = cc
+nowhere (x ∷ xs) (suc n) e h = nowhere xs n e (omega arith)
+
+pub off : (xs : List Bool) (n : ℕ) → slice_get (slice_set xs n false) n ≡ Some true → ⊥
+off [] n e = cc
+off (x ∷ xs) zero e = cc
+off (x ∷ xs) (suc n) e = off xs n e
+
+pub equal_or_not : (n m : ℕ) → (n ≡ m) ⊎ (n ≢ m)
+equal_or_not zero zero = inl refl
+equal_or_not zero (suc m) = inr (λ e. omega arith)
+equal_or_not (suc n) zero = inr (λ e. omega arith)
+equal_or_not (suc n) (suc m) = elim (equal_or_not n m) [ inl e ↦ inl (ap suc e) | inr d ↦ inr (λ e. d (omega arith)) ]
+
+pub below_or_not : (n m : ℕ) → (n < m) ⊎ (m ≤ n)
+below_or_not zero zero = inr (omega arith)
+below_or_not zero (suc m) = inl (omega arith)
+below_or_not (suc n) zero = inr (omega arith)
+below_or_not (suc n) (suc m) = elim (below_or_not n m) [ inl h ↦ inl (omega arith) | inr h ↦ inr (omega arith) ]

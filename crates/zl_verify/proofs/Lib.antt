@@ -1,2 +1,6 @@
 pub mod Places
 pub mod Numbering
+pub mod Rising
+pub mod Searching
+pub mod Ending
+pub mod Turning

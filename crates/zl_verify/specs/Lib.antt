@@ -1,4 +1,5 @@
 pub mod Lists
 pub mod Steps
 pub mod Numbers
+pub mod Search
 pub mod Checks

@@ -1,8 +1,8 @@
 -- Handles that a call takes: they leave the table one after another, and close where the call is refused.
-use Rattle.zl_calls.proofs.Common.{false, koids_of, map-append, take, ◌-◌, ◌≡◌, ◌<◌, ◌≤◌, ◌+◌, ℕ, suc, List, [], ◌∷◌, length, refl, sym, subst, ◌∙◌, ap, Option, Some, None, IsTrue, arith, ◌++◌, append-nil, is_some, Map, get, Objects, none_left, Releases, AreKeptBut, Result, Ok, Err}
+use Rattle.zl_calls.proofs.Common.{false, koids_of, map-append, take, ◌-◌, ◌≡◌, ◌<◌, ◌≤◌, ◌+◌, ℕ, List, [], ◌∷◌, length, refl, sym, subst, ◌∙◌, ap, Option, Some, None, arith, ◌++◌, append-nil, Map, get, Objects, none_left, Releases, AreKeptBut, Err}
 use Rattle.zl_rights.specs.declared.entry.Entry.{Entry}
 use Rattle.zl_table.specs.Table.{Handles, Inserts}
-use Rattle.zl_code.proofs.Common.{append_assoc, length-append, drop, get_or, take_more}
+use Rattle.zl_code.proofs.Common.{append_assoc, length-append, get_or, take_more}
 use Rattle.std.specs.Option.{option_map, option_to_list}
 use Rattle.zl_objects.proofs.Released.{releases_then}
 use Rattle.zl_rights.specs.declared.status.Status.TheVariants as status

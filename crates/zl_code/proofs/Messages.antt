@@ -1,5 +1,5 @@
 -- Handles on their way: those in a message, and those to both ends of a new channel.
-use Rattle.zl_code.proofs.Common.{All, All-cons, All-head, All-nil, All-tail, Body, HandlesAreNamed, HandlesAreSound, IsTrue, List, Map, None, Object, Option, Some, World, [], and_from, and_parts, ap, arith, body_in, cases_Bool, entry_at, eq-eqb, get, get-put, get-update, has_default_rights, inl, inr, kind_of, list_all, names_its_object, ne_eqb, new_entry, object_at, option_map, put, queue_of, refl, subst, sym, update, with_object, ℕ, ◌+◌, ◌==◌, ◌∙◌, ◌∷◌, ◌≡◌, true, Bool, Message, slice_index_or, ◌++◌, ChannelEnd, if◌then◌else◌, on_object}
+use Rattle.zl_code.proofs.Common.{All, All-cons, All-head, All-nil, All-tail, Body, HandlesAreNamed, HandlesAreSound, IsTrue, List, Map, None, Object, Option, Some, World, [], and_from, and_parts, arith, body_in, cases_Bool, entry_at, eq-eqb, get, get-put, get-update, has_default_rights, inl, inr, kind_of, list_all, names_its_object, ne_eqb, new_entry, object_at, put, queue_of, refl, subst, sym, update, with_object, ℕ, ◌+◌, ◌==◌, ◌∙◌, ◌∷◌, ◌≡◌, Message, slice_index_or, ◌++◌, ChannelEnd, on_object}
 use Rattle.std.specs.Option.{option_to_list}
 use Rattle.zl_rights.specs.declared.kind.Kind.TheVariants as kind
 use Rattle.zl_rights.specs.declared.entry.Entry.{Entry}

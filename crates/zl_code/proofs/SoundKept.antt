@@ -1,5 +1,5 @@
 -- Every world of a run from a boot world is sound.
-use Rattle.zl_code.proofs.Common.{◌≡◌, ◌<◌, ◌≤◌, inl, inr, arith, ℕ, suc, Bool, true, false, not, ◌||◌, ◌==◌, List, [], length, refl, ap, sym, ◌∙◌, IsTrue, Option, Some, None, eq-eqb, if◌then◌else◌, is_some, nat_lt, bit_and, option_map, cases_Bool, eqb-true, and_parts, and_from, or_left, or_right, false≢true, none-some, same_Some, within, get, put, without, where_key, each, has_key, World, Process, State, Created, Ready, Blocked, Gone, Object, Body, ChannelEnd, JobBody, PortBody, ProcessBody, Message, is_process, state_passes, lives, runs, process_settled, Koids, Settles, without_others, is_held, in_table, in_queue, has_living_child, body_in, may_get, is_job_body, HasGivenKoids, raisable, IsSound, min, max, Packet, get-put, get-each, get-where_key-in, get-where_key-out, may_get_after, is_value, IsSoundTable, is_blocked, HasItsObject, bit_xor, state_without, IsLargestHeld, filter, true≢false}
+use Rattle.zl_code.proofs.Common.{◌≡◌, ◌<◌, ◌≤◌, inl, inr, arith, ℕ, suc, Bool, true, false, not, ◌||◌, ◌==◌, [], length, refl, ap, sym, ◌∙◌, IsTrue, Option, Some, None, eq-eqb, if◌then◌else◌, is_some, nat_lt, bit_and, option_map, cases_Bool, eqb-true, and_parts, and_from, or_left, or_right, false≢true, none-some, same_Some, within, get, put, without, where_key, each, has_key, World, Process, State, Created, Ready, Blocked, Gone, Object, Body, ChannelEnd, JobBody, ProcessBody, Message, is_process, state_passes, lives, runs, process_settled, Koids, Settles, without_others, is_held, in_table, in_queue, has_living_child, body_in, may_get, is_job_body, HasGivenKoids, raisable, IsSound, min, max, get-put, get-each, get-where_key-in, get-where_key-out, may_get_after, is_value, IsSoundTable, is_blocked, HasItsObject, bit_xor, state_without, IsLargestHeld, filter, true≢false}
 use Rattle.std.specs.Int.{bit_at}
 use Rattle.std.proofs.lemmas.Nat.Bits.{same_from_bits, bit_at_and, bit_at_or, bit_at-zero}
 use Rattle.zl_rights.specs.declared.entry.Entry.{Entry}

@@ -1,5 +1,5 @@
 -- Which changes a step is made of: a call with its answer, a statement of a boot, and waking.
-use Rattle.zl_code.proofs.Common.{◌≡◌, ◌<◌, arith, ℕ, true, false, List, [], ◌∷◌, refl, ap, sym, IsTrue, Option, Some, None, eq-eqb, if◌then◌else◌, is_some, ne_eqb, get, put, World, Process, State, Ready, Blocked, Object, Body, PortBody, ProcessBody, runs, wakes, fired, Library, Site, body_in, refusal, with_object, with_effect, gives_ok, gives_refused, taken_handles, may_choose, cpu_answered, replied, taken, ok_outcome, Choice, Refused, WantsMemory, Values, Next, Moves, AtCall, IsStuck, next_for, Acts, Step, boot_fault, boot_effect, is_job_body, IsSound, ◌+◌, subst, ◌∙◌, All, and_parts, nat_tests, All-nil, Map, has_key, on_process, insert_all, process_with, has_default_rights, HasGivenKoids, ◌++◌, may_boot, update, meets, SignalOf, PacketAt, Packet, get-put, is_job, handle_given, handles_given, process_with_all, with_process, All-cons, active, packet_values, woken, made_ready, with_body, woken_by_first, woken_by, woken_at_port, woken_from, woken_if_there, after_refusal, after_ok, CallBy, created_process, started_with, fold, list_all, true≢false}
+use Rattle.zl_code.proofs.Common.{◌≡◌, ◌<◌, arith, ℕ, true, false, List, [], ◌∷◌, refl, ap, sym, IsTrue, Option, Some, None, eq-eqb, if◌then◌else◌, is_some, ne_eqb, get, put, World, Process, State, Ready, Blocked, Object, Body, PortBody, ProcessBody, runs, wakes, fired, Library, Site, body_in, refusal, with_object, with_effect, gives_ok, gives_refused, taken_handles, may_choose, cpu_answered, replied, taken, ok_outcome, Choice, Refused, WantsMemory, Values, Next, Moves, AtCall, IsStuck, next_for, Acts, Step, boot_fault, boot_effect, is_job_body, IsSound, subst, ◌∙◌, All, and_parts, nat_tests, All-nil, Map, has_key, on_process, insert_all, process_with, has_default_rights, HasGivenKoids, ◌++◌, may_boot, update, meets, SignalOf, PacketAt, Packet, get-put, is_job, handle_given, handles_given, process_with_all, with_process, All-cons, active, packet_values, woken, made_ready, with_body, woken_by_first, woken_by, woken_at_port, woken_from, woken_if_there, after_refusal, after_ok, CallBy, created_process, started_with, fold, list_all, true≢false}
 use Rattle.std.specs.Option.{option_to_list}
 use Rattle.zl_rights.specs.declared.entry.Entry.{Entry}
 use Rattle.zl_rights.specs.declared.status.Status.{Status}
@@ -14,7 +14,7 @@ use Rattle.zl_code.proofs.CanStart.{CanStart, can_start, handles_at_most, starte
 use Rattle.zl_code.proofs.MapKept.{changed}
 use Rattle.zl_code.proofs.Changes.{computes, Changes, stays, changes, settles, join, one, process_changes, process_ends, process_wakes, process_is_made, object_is_made, packet_goes, waits_fire}
 use Rattle.zl_code.proofs.Entering.{IsFine, all_enter, all_leave, left_behind}
-use Rattle.zl_code.proofs.CallLaws.{first_is_none, laws}
+use Rattle.zl_code.proofs.CallLaws.{laws}
 
 -- ---- calls
 

@@ -1,5 +1,5 @@
 -- Going up from job to job.
-use Rattle.zl_rights.proofs.Common.{◌≡◌, ◌≢◌, ◌<◌, ◌≤◌, ◌+◌, ◌-◌, ◌==◌, ◌||◌, ℕ, zero, suc, Bool, true, false, [], ◌∷◌, refl, sym, ap, ◌∙◌, arith, eq-eqb, ne_eqb}
+use Rattle.zl_rights.proofs.Common.{◌≡◌, ◌≢◌, ◌<◌, ◌≤◌, ◌+◌, ◌-◌, ◌==◌, ◌||◌, ℕ, zero, suc, true, false, refl, sym, ap, ◌∙◌, arith, eq-eqb, ne_eqb}
 use Rattle.zl_jobs.specs.Tree.{Tree, parent_at, is_below_by}
 
 -- one level up, where i of the 16 are done

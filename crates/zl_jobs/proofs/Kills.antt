@@ -1,5 +1,5 @@
 -- A kill that goes from koid to koid.
-use Rattle.zl_rights.proofs.Common.{◌≡◌, ◌<◌, ◌≤◌, ◌==◌, ◌||◌, ◌⊎◌, ℕ, Bool, true, false, List, [], ◌∷◌, map, refl, sym, ap, ◌∙◌, subst, cond, Option, Some, None, inl, inr, arith, eq-eqb, eqb-true, IsTrue, is_some, if◌then◌else◌, cases_Bool, false≢true, true≢false, nat_tests, nat_cmp, nat_le, le-leb, none-some, Map, get, each, update, has_key, option_map}
+use Rattle.zl_rights.proofs.Common.{◌≡◌, ◌<◌, ◌≤◌, ◌==◌, ◌||◌, ℕ, Bool, true, false, List, [], ◌∷◌, refl, sym, ap, ◌∙◌, subst, Option, Some, None, inl, inr, arith, eq-eqb, eqb-true, IsTrue, is_some, if◌then◌else◌, cases_Bool, false≢true, true≢false, nat_tests, nat_cmp, nat_le, get, each, update, has_key, option_map}
 use Rattle.std.specs.Cmp.{nat_cmp_is, unsigned_tied}
 use Rattle.std.specs.Ordering.{is_gt}
 use Rattle.std.specs.List.{AllByRecursion}
@@ -11,7 +11,7 @@ use Rattle.std.specs.declared.cmp.Ordering.TheVariants.{Less}
 use Rattle.std.specs.declared.ops.Bound.TheVariants.{Excluded, Unbounded}
 use Rattle.zl_rights.specs.World.{Body}
 use Rattle.zl_rights.proofs.MapLaws.{get-each}
-use Rattle.zl_jobs.specs.Tree.{Tree, found_or, parent_of, parent_at, is_below_by, is_among, killed, killed_if}
+use Rattle.zl_jobs.specs.Tree.{Tree, found_or, parent_of, parent_at, is_among, killed, killed_if}
 use Rattle.zl_jobs.specs.Members.{IsTree, IsLeastAbove, IsNext}
 use Rattle.zl_jobs.proofs.ByKoid.{behind_first, looked_up}
 use Rattle.zl_jobs.proofs.Climbing.{same_below}

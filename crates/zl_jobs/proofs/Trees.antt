@@ -1,9 +1,9 @@
 -- The invariant of the tree, after each change.
-use Rattle.zl_rights.proofs.Common.{◌≡◌, ◌<◌, ◌+◌, ◌==◌, ◌⊎◌, ℕ, Bool, true, false, [], ◌∷◌, ◌++◌, refl, sym, ap, ◌∙◌, subst, cond, Option, Some, None, inl, inr, arith, IsTrue, is_some, if◌then◌else◌, cases_Bool, eqb-true, none-some, same_Some, nat_tests, nat_cmp, false≢true, Map, get, update, without, has_key, option_map}
+use Rattle.zl_rights.proofs.Common.{◌≡◌, ◌<◌, ◌==◌, ◌⊎◌, ℕ, Bool, true, false, [], ◌∷◌, ◌++◌, refl, sym, ◌∙◌, subst, Option, Some, None, inl, inr, arith, IsTrue, is_some, if◌then◌else◌, cases_Bool, eqb-true, none-some, same_Some, nat_tests, nat_cmp, false≢true, Map, get, update, without, has_key, option_map}
 use Rattle.std.specs.Prelude.{Result, Ok, Err, OnOk, OnErr}
 use Rattle.std.specs.BTreeMap.{is_at, insert_entry}
 use Rattle.std.specs.Map.{lookup, set_value}
-use Rattle.zl_rights.specs.World.{Body, JobBody, ProcessBody}
+use Rattle.zl_rights.specs.World.{Body, JobBody}
 use Rattle.zl_rights.specs.declared.policy.Condition.{Condition}
 use Rattle.zl_rights.specs.declared.policy.Action.{Action}
 use Rattle.zl_rights.proofs.MapLaws.{get-update}
@@ -11,7 +11,7 @@ use Rattle.zl_policy.specs.Policies.{answer_of, conflicts}
 use Rattle.zl_rights.specs.declared.policy.Condition.TheVariants as condition
 use Rattle.zl_rights.specs.declared.policy.Mode.{Mode}
 use Rattle.zl_rights.specs.declared.policy.Mode.TheVariants as mode
-use Rattle.zl_jobs.specs.Tree.{Tree, parent_of, is_dead, is_dead_at, found_or, killed_body, killed_if, policy_of, with_policy}
+use Rattle.zl_jobs.specs.Tree.{Tree, parent_of, is_dead, is_dead_at, found_or, killed_if, policy_of, with_policy}
 use Rattle.zl_jobs.specs.Members.{IsTree}
 use Rattle.zl_jobs.proofs.ByKoid.{entry_inserted, written, written_back}
 

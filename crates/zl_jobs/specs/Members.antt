@@ -1,5 +1,5 @@
 -- What the definitions see of what stands in the tree at a koid.
-use Rattle.std.specs.Prelude.{ℕ, ◌≡◌, ◌<◌, ◌≤◌, IsTrue, false, map, Option, Some, None}
+use Rattle.std.specs.Prelude.{ℕ, ◌≡◌, ◌<◌, ◌≤◌, IsTrue, false, Option, Some, None}
 use Rattle.zl_rights.specs.Map.{get, has_key}
 use Rattle.zl_rights.specs.World.{Body, JobBody, ProcessBody}
 use Rattle.zl_jobs.specs.Tree.{Tree, parent_of}

@@ -1,7 +1,7 @@
 -- The tree of jobs and what stands in them: who is above, who is below, and what a kill does.
-use Rattle.std.specs.Prelude.{ℕ, zero, suc, ◌+◌, ◌≡◌, Bool, true, false, not, ◌&&◌, ◌||◌, ◌==◌, nat_le, List, [], ◌∷◌, map, Option, Some, None, if◌then◌else◌}
+use Rattle.std.specs.Prelude.{ℕ, zero, suc, ◌+◌, Bool, true, false, ◌||◌, ◌==◌, nat_le, List, [], ◌∷◌, map, Option, Some, None, if◌then◌else◌}
 use Rattle.std.specs.List.{list_any, filter}
-use Rattle.zl_rights.specs.Map.{Map, get, has_key, each}
+use Rattle.zl_rights.specs.Map.{Map, get, each}
 use Rattle.zl_rights.specs.Signals.{is_job_below, is_process_of}
 use Rattle.zl_rights.specs.World.{Body, JobBody, ProcessBody}
 use Rattle.zl_rights.specs.declared.policy.Action.{Action}

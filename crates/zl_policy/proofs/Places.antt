@@ -1,5 +1,5 @@
 -- A row of places and the policy that is set in it.
-use Rattle.zl_rights.proofs.Common.{◌≡◌, ◌≢◌, ℕ, zero, suc, ◌+◌, ◌<◌, ◌==◌, ◌||◌, Bool, true, false, List, [], ◌∷◌, length, map, drop, get_or, slice_set, refl, sym, ap, ◌∙◌, arith, eq-eqb, nat_tests, ne_eqb, nat_lt, Option, Some, None, is_some, fold, list_any, at_drop_more, at_drop_all, Map, get, put}
+use Rattle.zl_rights.proofs.Common.{◌≡◌, ℕ, zero, suc, ◌+◌, ◌<◌, ◌||◌, Bool, true, false, List, [], ◌∷◌, length, map, get_or, slice_set, refl, sym, ap, ◌∙◌, arith, eq-eqb, nat_tests, ne_eqb, Option, Some, None, is_some, list_any, Map, get, put}
 use Rattle.zl_rights.specs.declared.policy.Action.{Action}
 use Rattle.zl_policy.specs.Policies.{set_from, with_unset}
 

@@ -1,7 +1,6 @@
 use Rattle.std.proofs.Common.{rules, ◌∙◌, ap}
 use Rattle.std.specs.List.{list_any}
 use Rattle.std.proofs.lemmas.Iterator.Search.{any_from_yields_List}
-use Rattle.std.proofs.lemmas.Iterator.Consumers.{YieldsList-from_rest}
 use Rattle.std.proofs.lemmas.Iterator.{YieldsList-from_slice}
 use Rattle.zl_rights.specs.Map.{get}
 use Rattle.zl_rights.specs.Numbers.{condition_number}

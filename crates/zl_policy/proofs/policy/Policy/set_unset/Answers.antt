@@ -1,7 +1,4 @@
-use Rattle.std.proofs.Common.{arith, sym, ◌∙◌, ap, ◌≡◌, true, false}
-use Rattle.std.specs.Option.{is_some}
-use Rattle.zl_rights.specs.Map.{get}
-use Rattle.zl_policy.specs.Policies.{set_from}
+use Rattle.std.proofs.Common.{arith}
 use Rattle.zl_policy.proofs.Places.{set_more, set_same}
 use Rattle.zl_policy.proofs.policy.Policy.set_unset.Goals as goal
 

@@ -24,10 +24,7 @@ use zl_table::Table;
 /// `NoResources` where the table has no place for both or fewer than two koids are left,
 /// `NoMemory`.
 /// Source: the page "zx_channel_create" of the Fuchsia documentation.
-pub fn chan_create(
-    table: &mut Table,
-    objects: &mut Objects,
-) -> Result<(HValue, HValue), Status>
+pub fn chan_create(table: &mut Table, objects: &mut Objects) -> Result<(HValue, HValue), Status>
     ensures { ChanCreateDoes table.old objects.old result table.new objects.new }
 {
     if table.len() + 2 > Table::CAPACITY || !objects.has_koids(2) {
@@ -164,7 +161,11 @@ fn send(
         (Releases (koids_of (taken_from table.old handles.now)) [] objects.old objects.new) }
     ensures table { table.new ≡ without_handles table.old handles.now }
 {
-    let Letter { peer, bytes, mut room } = letter;
+    let Letter {
+        peer,
+        bytes,
+        mut room,
+    } = letter;
     take_each(table, &mut room, handles);
     let message = Message {
         bytes,

@@ -4,3 +4,4 @@ pub mod Rising
 pub mod Searching
 pub mod Ending
 pub mod Turning
+pub mod Leading

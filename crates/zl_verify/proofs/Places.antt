@@ -1,6 +1,7 @@
 -- Lists by their places: what a write leaves.
-use Rattle.std.proofs.Common.{◌≡◌, ◌≢◌, ℕ, zero, suc, ◌<◌, ◌≤◌, Bool, true, false, List, [], ◌∷◌, length, Some, None, refl, ap, ◌⊎◌, inl, inr, arith}
+use Rattle.std.proofs.Common.{Option, ◌≡◌, ◌≢◌, ℕ, zero, suc, ◌<◌, ◌≤◌, Bool, true, false, List, [], ◌∷◌, length, Some, None, refl, ap, ◌⊎◌, inl, inr, arith}
 use Rattle.std.specs.Prelude.{slice_get, slice_set}
+use Rattle.zl_verify.specs.Lists.{within, at}
 
 pub get_put : {X : Type 0} (xs : List X) (n : ℕ) (v : X) → n < length xs → slice_get (slice_set xs n v) n ≡ Some v
 get_put [] n v h = absurd (omega arith)
@@ -18,6 +19,13 @@ pub there : {X : Type 0} (xs : List X) (n : ℕ) (x : X) → slice_get xs n ≡ 
 there [] n x h = cc
 there (y ∷ xs) zero x h = omega arith
 there (y ∷ xs) (suc n) x h = let k = there xs n x h in omega arith
+
+pub mapped : {X : Type 0} (xs : List (Option X)) (n : ℕ) (x : X) → at xs n ≡ Some x → n < length xs
+mapped {X} xs n x e = by (slice_get xs n) refl e
+  where
+    by : (o : Option (Option X)) → slice_get xs n ≡ o → within o ≡ Some x → n < length xs
+    by None e g = absurd (let z : None ≡ Some x = g in cc)
+    by (Some o) e g = there xs n o e
 
 pub nowhere : {X : Type 0} (xs : List X) (n : ℕ) → slice_get xs n ≡ None → n < length xs → ⊥
 nowhere [] n e h = omega arith

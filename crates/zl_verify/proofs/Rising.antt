@@ -199,13 +199,6 @@ raising_all t (e ∷ es) q = one (λ u k. raising_all u es k) (raised t (e.0) (e
     one more None h = λ y l a i. h y l (a.0) (i (e.0) (e.1) (a.0))
     one more (Some u) h = both u h (raised_all u es) (more u (h.rises.same ∙ (q ∙ sym h.rises.long)))
 
-pub mapped : (states : List (Option State)) (n : ℕ) (s : State) → at states n ≡ Some s → n < length states
-mapped states n s e = by (slice_get states n) refl e
-  where
-    by : (o : Option (Option State)) → slice_get states n ≡ o → within o ≡ Some s → n < length states
-    by None e g = absurd (let z : None ≡ Some s = g in cc)
-    by (Some o) e g = there states n o e
-
 -- ---- edges one list after another
 
 raised_append : (t : Table) (es fs : List Edge) → raised_all t (es ++ fs) ≡ option_and_then (λ u. raised_all u fs) (raised_all t es)

@@ -15,8 +15,8 @@ use Rattle.zl_abs.proofs.RuleLowering.{rule_below}
 use Rattle.zl_abs.proofs.RuleSteps.{nothing_there}
 use Rattle.zl_verify.specs.Lists.{at}
 use Rattle.zl_verify.specs.Search.{Table, raised_all, cleared}
-use Rattle.zl_verify.proofs.Places.{get_put, get_put_other, off, nowhere, equal_or_not, below_or_not}
-use Rattle.zl_verify.proofs.Rising.{Quiet, Lower, Inside, AllRaise, AllRaiseOr, above_trans, leads_still, typed_still, raising_all, mapped}
+use Rattle.zl_verify.proofs.Places.{get_put, get_put_other, off, nowhere, equal_or_not, below_or_not, mapped}
+use Rattle.zl_verify.proofs.Rising.{Quiet, Lower, Inside, AllRaise, AllRaiseOr, above_trans, leads_still, typed_still, raising_all}
 
 none_some : {X : Type 0} (x : X) → None ≡ Some x → ⊥
 none_some x e = cc

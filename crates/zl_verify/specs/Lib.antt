@@ -2,4 +2,5 @@ pub mod Lists
 pub mod Steps
 pub mod Numbers
 pub mod Search
+pub mod Leading
 pub mod Checks

@@ -1,0 +1,19 @@
+-- Where the instructions of a typing lead, as the code keeps it. No public clause cites this module.
+use Rattle.std.specs.Prelude.{ℕ, ◌≡◌, List, length, Option, Some, None}
+use Rattle.zl_code.specs.Image.{Image}
+use Rattle.zl_abs.specs.declared.rules.Edge.{Edge}
+use Rattle.zl_abs.specs.States.{State}
+use Rattle.zl_verify.specs.Lists.{at}
+use Rattle.zl_verify.specs.Numbers.{places_at}
+use Rattle.zl_verify.specs.declared.steps.Targets.{Targets}
+use Rattle.zl_verify.specs.Steps.{leads}
+
+-- where the edge leads, if it is followed
+abbrev pub target_in : Option Edge → Option ℕ
+target_in None = None
+target_in (Some e) = Some e.target
+
+-- each of these is where the instruction leads in these states
+pub record AreTargets (i : Image) (states : List (Option State)) (targets : List Targets) : Type 0 where
+  pub long : length targets ≡ length states
+  pub same : (n : ℕ) → places_at targets n ≡ leads i (at states) n

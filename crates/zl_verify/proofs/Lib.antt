@@ -5,3 +5,4 @@ pub mod Searching
 pub mod Ending
 pub mod Turning
 pub mod Leading
+pub mod Bounding

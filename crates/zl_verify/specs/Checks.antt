@@ -1,11 +1,23 @@
 -- What it says that an image is accepted, or refused.
-use Rattle.std.specs.Prelude.{ℕ, ◌≡◌, ◌<◌, Bool, true, false, Option, Some}
+use Rattle.std.specs.Prelude.{ℕ, ◌≡◌, ◌<◌, Bool, true, false, List, Option, Some}
 use Rattle.zl_code.specs.Image.{Image}
 use Rattle.zl_abs.specs.States.{State}
 use Rattle.zl_abs.specs.Typing.{IsAbove, IsTyping}
+use Rattle.zl_verify.specs.Lists.{at}
 use Rattle.zl_verify.specs.declared.refusal.RefusalCause.{RefusalCause}
 use Rattle.zl_verify.specs.declared.refusal.RefusalCause.TheVariants as cause
 use Rattle.zl_verify.specs.Steps.{IsStepBound, IsOver}
+
+-- an accepted image, with a state and a number of steps at some of its instructions
+pub record Accepted : Type 0 where
+  pub image : Image
+  pub states : List (Option State)
+  pub steps : List (Option ℕ)
+
+-- the states are a typing of the image, and the numbers a step bound of it
+pub record IsAccepted (i : Image) (states : List (Option State)) (steps : List (Option ℕ)) : Type 0 where
+  pub typing : IsTyping i (at states)
+  pub bound : IsStepBound i (at states) (at steps)
 
 -- a typing whose states lie below those of every typing
 pub record IsLeastTyping (i : Image) (t : ℕ → Option State) : Type 0 where

@@ -1,14 +1,17 @@
-//! The verifier: which images are accepted, and what their refusals say.
+//! The verifier: `check` accepts an image, or refuses it and says why.
 //!
-//! It stands on `zl_abs`, for states and rules. Today it has the definitions of the step bound and
-//! of what a yes and a refusal say, and what finds them: the search for the least typing, which
-//! finds one just where there is one, where its instructions lead, and the numbers of steps, which
-//! are proved to be those of instructions that follow one another.
+//! It stands on `zl_abs`, for states and rules, and on `zl_code`, for images. It promises that an
+//! accepted image has a typing and a step bound, which `Checked` keeps, and that a refusal is exact:
+//! but for want of memory, an image is refused for a rule or a join only where it has no typing, and
+//! for its budget only where no typing of it has a step bound. A refusal hands the image back. The
+//! search for the least typing knows nothing of handles.
 #![tactic(auto)]
 
+mod checked;
 mod refusal;
 mod search;
 mod steps;
 mod targets;
 
+pub use checked::{Checked, check};
 pub use refusal::{Refusal, RefusalCause};

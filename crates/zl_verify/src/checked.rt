@@ -1,0 +1,119 @@
+//! Which images are accepted.
+
+ghost use Rattle.std.specs.Prelude.{◌≡◌, length, IfOk, IfErr};
+ghost use Rattle.zl_abs.specs.Typing.{IsTyping};
+ghost use Rattle.zl_verify.specs.Lists.{at};
+ghost use Rattle.zl_verify.specs.Steps.{IsStepBound};
+ghost use Rattle.zl_verify.specs.Checks.{IsLeastTyping, IsRefused};
+
+use crate::refusal::{Refusal, RefusalCause};
+use crate::search::{Fault, solve};
+use crate::steps::{first_over, numbers};
+use crate::targets::targets_of;
+use std::alloc::Global;
+use std::marker::Model;
+use zl_abs::AbsState;
+use zl_code::Image;
+
+/// An accepted image, with what is known at each instruction that can be reached, and how many
+/// instructions follow one another from there at most before a wait or an exit. Own profile.
+#[derive(Drop)]
+pub struct Checked {
+    image: Image,
+    states: Vec<Option<AbsState>>,
+    steps: Vec<Option<u32>>,
+}
+
+impl Model for Checked {
+    ghost use Rattle.zl_verify.specs.Checks.{Accepted, IsAccepted};
+
+    ghost Value = { Accepted };
+
+    ghost view = { λ c. record { image = c.image; states = c.states.items; steps = c.steps.items } };
+
+    ghost invariant = { λ c. IsAccepted c.image c.states.items c.steps.items };
+}
+
+impl Checked {
+    /// The image that was accepted.
+    pub fn image(&self) -> &Image
+        ensures value { result.now ≡ self.now.image }
+        // What is public of the invariant: callers learn it here of any accepted image.
+        ensures typing { IsTyping self.now.image (at self.now.states) }
+        ensures bound { IsStepBound self.now.image (at self.now.states) (at self.now.steps) }
+    {
+        &self.image
+    }
+}
+
+const NO_MEMORY: Fault = Fault {
+    at: 0,
+    cause: RefusalCause::NoMemory,
+};
+
+/// A step bound of the least typing, or why there is none.
+fn bound(
+    alloc: Global,
+    image: &Image,
+    states: &[Option<AbsState>],
+) -> Result<Vec<Option<u32>>, Fault>
+    requires typing { IsLeastTyping image.now (at states.now) }
+    ensures bound { IfOk result (λ steps.
+        IsStepBound image.now (at states.now) (at steps.items)) }
+    ensures exact { IfErr result (λ fault. IsRefused image.now fault.at fault.cause) }
+{
+    let Ok(targets) = targets_of(alloc, image, states) else {
+        return Err(NO_MEMORY);
+    };
+    let most = image.budget() + 1;
+    let Ok(steps) = numbers(alloc, &targets, most) else {
+        return Err(NO_MEMORY);
+    };
+    match first_over(&steps, most) {
+        None => Ok(steps),
+        Some(at) => Err(Fault {
+            at,
+            cause: RefusalCause::Budget,
+        }),
+    }
+}
+
+fn refuse(image: Image, fault: Fault) -> Refusal
+    ensures { result ≡ record { at = fault.at; cause = fault.cause; image = image } }
+{
+    Refusal {
+        at: fault.at,
+        cause: fault.cause,
+        image,
+    }
+}
+
+/// Accepts the image, where it has a typing and a step bound of it, or refuses it, with the
+/// instruction at which it was seen why not. It takes memory for what is known at each instruction,
+/// and three numbers more.
+///
+/// `Rule` where the rule of the instruction doesn't hold at what is known there, and `JoinConflict`
+/// where nothing describes what may come to it: both only of an image that has no typing. `Budget`
+/// only of one that has a typing, and none with a step bound; the instruction is then the least from
+/// which too many may follow one another. `NoMemory` where memory is refused. Own profile.
+pub fn check(alloc: Global, image: Image) -> Result<Checked, Refusal>
+    ensures accepted { IfOk result (λ checked. checked.image ≡ image) }
+    ensures typing { IfOk result (λ checked. IsTyping image (at checked.states)) }
+    ensures bound { IfOk result (λ checked.
+        IsStepBound image (at checked.states) (at checked.steps)) }
+    ensures given_back { IfErr result (λ refusal. refusal.image ≡ image) }
+    ensures exact { IfErr result (λ refusal. IsRefused image refusal.at refusal.cause) }
+{
+    let states = match solve(alloc, &image) {
+        Ok(states) => states,
+        Err(fault) => return Err(refuse(image, fault)),
+    };
+    match bound(alloc, &image, &states) {
+        Ok(steps) => Ok(Checked {
+            image,
+            states,
+            steps,
+        }),
+        Err(fault) => Err(refuse(image, fault)),
+    }
+}

@@ -15,3 +15,6 @@ mod targets;
 
 pub use checked::{Checked, check};
 pub use refusal::{Refusal, RefusalCause};
+
+#[cfg(test)]
+mod tests;

@@ -41,9 +41,11 @@ fn bytes_of(
     code: &[[u8; 16]],
 ) -> Result<Vec<u8>, AllocError> {
     let mut bytes = Vec::new(alloc);
+    let count = u8::try_from(code.len()).unwrap_or(u8::MAX);
+    let handles = u8::try_from(starts.len()).unwrap_or(u8::MAX);
     bytes.extend_from_slice(b"ZLAB")?;
-    bytes.extend_from_slice(&[1, 0, code.len() as u8, 0, 0, 0, 0, 0])?;
-    bytes.extend_from_slice(&[budget, 0, 0, 0, 0, starts.len() as u8, 0, 0])?;
+    bytes.extend_from_slice(&[1, 0, count, 0, 0, 0, 0, 0])?;
+    bytes.extend_from_slice(&[budget, 0, 0, 0, 0, handles, 0, 0])?;
     for start in starts {
         bytes.extend_from_slice(start)?;
     }

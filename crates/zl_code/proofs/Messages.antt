@@ -1,12 +1,13 @@
 -- Handles on their way: those in a message, and those to both ends of a new channel.
-use Rattle.zl_code.proofs.Common.{All, All-cons, All-head, All-nil, All-tail, Body, HandlesAreNamed, HandlesAreSound, IsTrue, List, Map, None, Object, Option, Some, World, [], and_from, and_parts, arith, body_in, cases_Bool, entry_at, eq-eqb, get, get-put, get-update, has_default_rights, inl, inr, kind_of, list_all, names_its_object, ne_eqb, new_entry, object_at, put, queue_of, refl, subst, sym, update, with_object, ℕ, ◌+◌, ◌==◌, ◌∙◌, ◌∷◌, ◌≡◌, Message, slice_index_or, ◌++◌, ChannelEnd, on_object}
+use Rattle.zl_code.proofs.Common.{All, All-cons, All-head, All-nil, All-tail, Body, HandlesAreNamed, HandlesAreSound, IsTrue, List, Map, None, Object, Option, Some, World, [], and_from, and_parts, arith, body_in, cases_Bool, entry_at, eq-eqb, get, get-put, get-update, has_default_rights, inl, inr, kind_of, list_all, names_its_object, ne_eqb, new_entry, object_at, put, queue_of, refl, subst, sym, update, with_object, ℕ, ◌+◌, ◌==◌, ◌∙◌, ◌∷◌, ◌≡◌, Message, slice_index_or, ◌++◌, on_object}
 use Rattle.std.specs.Option.{option_to_list}
 use Rattle.zl_rights.specs.declared.kind.Kind.TheVariants as kind
 use Rattle.zl_rights.specs.declared.entry.Entry.{Entry}
-use Rattle.zl_code.specs.Effects.{body_with_message, body_after_read, message_sent, message_read}
+use Rattle.zl_code.specs.Effects.{message_sent, message_read}
 use Rattle.zl_code.specs.Tests.{entries_at, first_handles, queue_at, queue_in}
 use Rattle.zl_code.proofs.Changes.{MayBeSent}
 use Rattle.zl_code.proofs.Entering.{IsFine, default_rights, entry_is_fine}
+use Rattle.zl_code.proofs.NotReused.{sent_kind, read_kind}
 
 -- ---- handles that are fine
 
@@ -25,13 +26,6 @@ all_fine w m (e ∷ es) rights names =
     (all_fine w m es (λ s. (and_parts _ _ (rights s)).1) (λ s. All-tail (names_its_object m) e es (names s)))
 
 -- ---- a message that is sent
-
-sent_kind : (m : Message) (o : Object) → kind_of (message_sent m o).body ≡ kind_of o.body
-sent_kind m o = by_body o.body
-  where
-    by_body : (b : Body) → kind_of (body_with_message m b) ≡ kind_of b
-    by_body (ChannelEnd peer queue) = refl
-    by_body _ = refl
 
 rights_there : (w : World) (p : ℕ) (hs : List ℕ) → HandlesAreSound w → IsTrue (list_all has_default_rights (entries_at w p hs))
 rights_there w p [] s = refl
@@ -55,17 +49,10 @@ pub may_be_sent : (w u : World) (p k : ℕ) (bytes hs : List ℕ) → u.objects 
 unfolding on_object
 may_be_sent w u p k bytes hs same = record {
   rights = rights_there w p hs;
-  names = names_there w p hs _ (λ e names. names_updated u.objects k _ (sent_kind _) e (subst (λ (m : Map Object). names_its_object m e) (sym same) names));
+  names = names_there w p hs _ (λ e names. names_updated u.objects k _ (λ o. sent_kind _ o.body) e (subst (λ (m : Map Object). names_its_object m e) (sym same) names));
 }
 
 -- ---- a message that is read
-
-read_kind : (o : Object) → kind_of (message_read o).body ≡ kind_of o.body
-read_kind o = by_body o.body
-  where
-    by_body : (b : Body) → kind_of (body_after_read b) ≡ kind_of b
-    by_body (ChannelEnd peer queue) = refl
-    by_body _ = refl
 
 -- the handles in the first message at the end that p names by c
 pub received_are_fine : (w u : World) (p c : ℕ) → u.objects ≡ w.objects → All (IsFine w (on_object u (object_at w p c) message_read).objects) (first_handles (queue_at w p c))
@@ -85,7 +72,7 @@ received_are_fine w u p c same =
     rights (Some o) at s = first_rights (queue_of o.body) (s.queued k o at)
 
     still : (e : Entry) → names_its_object w.objects e → names_its_object (update u.objects k message_read) e
-    still e names = names_updated u.objects k message_read read_kind e (subst (λ (m : Map Object). names_its_object m e) (sym same) names)
+    still e names = names_updated u.objects k message_read (λ o. read_kind o.body) e (subst (λ (m : Map Object). names_its_object m e) (sym same) names)
 
     first_names : (ms : List Message) → All (λ x. All (names_its_object w.objects) x.handles) ms → All (names_its_object (update u.objects k message_read)) (first_handles ms)
     first_names [] h = All-nil (names_its_object (update u.objects k message_read))

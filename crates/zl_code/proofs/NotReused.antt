@@ -42,11 +42,11 @@ follows u v w a b = record {
   koids = λ k. koid_follows u v w k a.next b.next (a.koids k) (b.koids k);
 }
 
-sent_kind : (m : Message) (b : Body) → kind_of (body_with_message m b) ≡ kind_of b
+pub sent_kind : (m : Message) (b : Body) → kind_of (body_with_message m b) ≡ kind_of b
 sent_kind m (ChannelEnd peer queue) = refl
 sent_kind m _ = refl
 
-read_kind : (b : Body) → kind_of (body_after_read b) ≡ kind_of b
+pub read_kind : (b : Body) → kind_of (body_after_read b) ≡ kind_of b
 read_kind (ChannelEnd peer queue) = refl
 read_kind _ = refl
 

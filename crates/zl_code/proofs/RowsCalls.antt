@@ -1,5 +1,5 @@
 -- Each cause of each call, by computation in small worlds.
-use Rattle.zl_code.proofs.Common.{◌≡◌, ℕ, ◌+◌, ◌-◌, ◌^◌, ◌==◌, IsTrue, [], ◌∷◌, refl, Option, Some, None, true, false, pos, and_parts, eqb-true, option_map, DUPLICATE, SIGNAL, SIGNALED, condition_number, has_key, World, Ended, kind_of, Request, close, dup, event_create, signal, process_exit, table_of, body_of, refusal, may_choose, effect, Choice, Refused, WantsMemory, Values, ok_outcome, SAME_RIGHTS, READABLE, TERMINATED, negsuc, active}
+use Rattle.zl_code.proofs.Common.{◌≡◌, ℕ, ◌+◌, ◌-◌, ◌^◌, ◌==◌, IsTrue, [], ◌∷◌, refl, Option, Some, None, true, false, pos, and_parts, eqb-true, option_map, DUPLICATE, SIGNAL, SIGNALED, condition_number, has_key, World, Ended, kind_of, close, dup, event_create, signal, process_exit, table_of, body_of, may_choose, effect, Choice, Refused, WantsMemory, Values, ok_outcome, SAME_RIGHTS, READABLE, TERMINATED, negsuc, active}
 use Rattle.zl_rights.specs.declared.kind.Kind.{Kind}
 use Rattle.zl_rights.specs.declared.kind.Kind.TheVariants as kind
 use Rattle.zl_rights.specs.declared.status.Status.TheVariants as status
@@ -11,21 +11,12 @@ use Rattle.zl_code.specs.declared.instr.Instr.TheVariants as instr
 use Rattle.zl_code.specs.declared.instr.CallInstr.{CallInstr}
 use Rattle.zl_code.specs.declared.instr.CallInstr.TheVariants as call
 use Rattle.zl_code.specs.declared.history.CallName.TheVariants as name
-use Rattle.zl_code.specs.declared.history.Outcome.{Outcome}
 use Rattle.zl_code.specs.declared.history.Outcome.TheVariants as outcome
 use Rattle.zl_code.specs.declared.history.TraceItem.TheVariants as item
 use Rattle.zl_code.proofs.Running.{Acted, step_by, computing}
-use Rattle.zl_code.proofs.RowsWords.{world_of, process_of, event_with, job_with, FIRST_RIGHTS, times, program_of, told, after, state_of, last_of}
+use Rattle.zl_code.proofs.RowsWords.{Refuses, Passes, world_of, process_of, event_with, job_with, FIRST_RIGHTS, times, program_of, told, after, state_of, last_of}
 
 -- ---- the words of the rows
-
--- process 2 of the world is refused so
-abbrev Refuses : World → Request → Outcome → Type 0
-Refuses w request answer = refusal [] w 2 request ≡ Some answer
-
--- process 2 of the world isn't refused
-abbrev Passes : World → Request → Type 0
-Passes w request = refusal [] w 2 request ≡ None
 
 -- the kind of object 1
 abbrev kind_at_1 : World → Option Kind

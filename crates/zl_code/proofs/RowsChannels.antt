@@ -1,5 +1,5 @@
 -- Each cause of replace and of the calls on channels, by computation in small worlds.
-use Rattle.zl_code.proofs.Common.{◌≡◌, ℕ, ◌^◌, ◌-◌, List, [], ◌∷◌, refl, replicate, Option, Some, None, true, false, DUPLICATE, READ, READABLE, SAME_RIGHTS, has_key, rights_of, active, Map, World, Object, ChannelEnd, EventBody, JobBody, ProcessBody, Process, get, Request, replace, chan_create, chan_write, chan_read_etc, table_of, body_of, refusal, may_choose, effect, Site, site, Choice, Refused, WantsMemory, Values, condition_number, negsuc, Message}
+use Rattle.zl_code.proofs.Common.{◌≡◌, ℕ, ◌^◌, ◌-◌, List, [], ◌∷◌, refl, replicate, Option, Some, None, true, false, DUPLICATE, READ, READABLE, SAME_RIGHTS, has_key, rights_of, active, Map, World, Object, ChannelEnd, EventBody, JobBody, ProcessBody, Process, get, replace, chan_create, chan_write, chan_read_etc, table_of, body_of, refusal, may_choose, effect, Site, site, Choice, Refused, WantsMemory, Values, condition_number, negsuc, Message}
 use Rattle.zl_rights.specs.Numbers.{PEER_CLOSED, TRANSFER, WRITE, WRITABLE}
 use Rattle.zl_rights.specs.World.{Wait}
 use Rattle.std.specs.Prelude.{bit_or, map}
@@ -10,22 +10,13 @@ use Rattle.zl_rights.specs.declared.policy.Condition.TheVariants as condition
 use Rattle.zl_rights.specs.declared.entry.Entry.{Entry}
 use Rattle.zl_code.specs.declared.history.CallName.{CallName}
 use Rattle.zl_code.specs.declared.history.CallName.TheVariants as name
-use Rattle.zl_code.specs.declared.history.Outcome.{Outcome}
 use Rattle.zl_code.specs.declared.history.Outcome.TheVariants as outcome
 use Rattle.zl_code.specs.declared.history.TraceItem.TheVariants as item
 use Rattle.zl_code.specs.Tests.{queue_in}
 use Rattle.zl_code.proofs.Running.{Acted, call_by, settle_by, computing}
-use Rattle.zl_code.proofs.RowsWords.{world_of, process_of, event_with, FIRST_RIGHTS, times, told, after, last_of}
+use Rattle.zl_code.proofs.RowsWords.{Refuses, Passes, world_of, process_of, event_with, FIRST_RIGHTS, times, told, after, last_of}
 
 -- ---- the words of the rows
-
--- process 2 of the world is refused so
-abbrev Refuses : World → Request → Outcome → Type 0
-Refuses w request answer = refusal [] w 2 request ≡ Some answer
-
--- process 2 of the world isn't refused
-abbrev Passes : World → Request → Type 0
-Passes w request = refusal [] w 2 request ≡ None
 
 -- process 2 does the call at these registers, with this choice
 abbrev turn : CallName → Site → World → Choice → Acted

@@ -1,10 +1,11 @@
 -- Small worlds for worked examples, and what is told of them.
-use Rattle.zl_code.proofs.Common.{ℕ, zero, suc, List, [], ◌∷◌, ◌++◌, take, replicate, Option, Some, None, true, false, rights_of, Map, get, World, Process, State, Ready, EventBody, JobBody, ProcessBody, Library}
+use Rattle.zl_code.proofs.Common.{◌≡◌, refusal, Request, ℕ, zero, suc, List, [], ◌∷◌, ◌++◌, take, replicate, Option, Some, None, true, false, rights_of, Map, get, World, Process, State, Ready, EventBody, JobBody, ProcessBody, Library}
 use Rattle.zl_rights.specs.declared.kind.Kind.TheVariants as kind
 use Rattle.zl_rights.specs.declared.policy.Action.{Action}
 use Rattle.zl_rights.specs.declared.entry.Entry.{Entry}
 use Rattle.zl_code.specs.declared.instr.Instr.{Instr}
 use Rattle.zl_code.specs.declared.history.TraceItem.{TraceItem}
+use Rattle.zl_code.specs.declared.history.Outcome.{Outcome}
 use Rattle.zl_code.proofs.Running.{Acted}
 
 -- ---- what is told
@@ -42,6 +43,14 @@ last_of w p = last_in (get w.processes p)
 abbrev pub after : World → Acted → World
 after w None = w
 after w (Some (x, w2)) = w2
+
+-- process 2 of the world is refused so
+abbrev pub Refuses : World → Request → Outcome → Type 0
+Refuses w request answer = refusal [] w 2 request ≡ Some answer
+
+-- process 2 of the world isn't refused
+abbrev pub Passes : World → Request → Type 0
+Passes w request = refusal [] w 2 request ≡ None
 
 -- ---- small worlds
 

@@ -199,7 +199,8 @@ fn take_each(table: &mut Table, taken: &mut Handles, values: &[u64])
 fn take_into(table: &mut Table, taken: &mut Handles, value: u64)
     requires { HasRoomFor taken.old 1 }
     ensures table { table.new ≡ without_handle table.old value }
-    ensures taken { taken.new.items ≡ taken.old.items ++ option_to_list (get table.old.entries value) }
+    ensures taken { taken.new.items
+        ≡ taken.old.items ++ option_to_list (get table.old.entries value) }
     ensures capacity { taken.new.capacity ≡ taken.old.capacity }
 {
     if let Some(entry) = take_out(table, value) {

@@ -1,7 +1,8 @@
 -- The packets at a port and the places that are reserved there, and what operations make of them.
-use Rattle.std.specs.Prelude.{ℕ, ◌+◌, ◌-◌, Bool, false, ◌&&◌, not, ◌==◌, List, [], ◌∷◌, ◌++◌, drop, length, Option, Some, None}
+use Rattle.std.specs.Prelude.{ℕ, ◌+◌, ◌-◌, Bool, not, List, [], ◌∷◌, ◌++◌, drop}
 use Rattle.std.specs.List.{filter}
-use Rattle.zl_rights.specs.World.{Packet, Source}
+use Rattle.zl_rights.specs.World.{Packet}
+pub use Rattle.zl_rights.specs.Packets.{MOST_USER_PACKETS, has_source, is_from, is_user, same_source, user_count, user_packet}
 use Rattle.zl_port.specs.declared.packet.PacketKind.{PacketKind}
 use Rattle.zl_port.specs.declared.packet.PacketKind.TheVariants as kind
 
@@ -10,43 +11,12 @@ pub record Port : Type 0 where
   pub packets : List Packet
   pub reserved : ℕ
 
--- the most packets of calls at a port
-abbrev pub MOST_USER_PACKETS : ℕ
-MOST_USER_PACKETS = 2048
-
 -- the number of a kind of packet
 abbrev pub packet_kind_number : PacketKind → ℕ
 packet_kind_number kind.User = 0
 packet_kind_number kind.Signal = 1
 
--- ---- which packet
-
--- a call queued the packet
-abbrev pub is_user : Packet → Bool
-is_user x = x.kind == 0
-
--- how many packets calls have queued
-abbrev pub user_count : List Packet → ℕ
-user_count packets = length (filter is_user packets)
-
--- the same process, value and object
-abbrev pub same_source : Source → Source → Bool
-same_source a b = (a.pid == b.pid) && ((a.value == b.value) && (a.object == b.object))
-
--- it has this source
-abbrev pub has_source : Source → Option Source → Bool
-has_source source None = false
-has_source source (Some own) = same_source own source
-
--- a wait of this source gave the packet, with this key
-abbrev pub is_from : Source → ℕ → Packet → Bool
-is_from source key x = (x.kind == 1) && ((x.key == key) && has_source source x.source)
-
 -- ---- changes
-
--- the packet of a call
-abbrev pub user_packet : ℕ → ℕ → Packet
-user_packet key value = record { kind = 0; key = key; trigger = value; observed = 0; source = None }
 
 -- the port with one packet more, behind all others
 abbrev pub with_packet : Port → Packet → Port

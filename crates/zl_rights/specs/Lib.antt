@@ -7,4 +7,5 @@ pub mod Signals
 pub mod Settle
 pub mod Wakes
 pub mod Counts
+pub mod Packets
 pub mod Common

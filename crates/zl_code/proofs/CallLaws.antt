@@ -1,5 +1,5 @@
 -- What each call says where it isn't refused: its new handles have room, and it is made of these changes.
-use Rattle.zl_code.proofs.Common.{◌<◌, All, Body, Bool, ChannelEnd, EventBody, HandlesAreNamed, HandlesAreSound, IsSound, IsTrue, Library, List, Map, None, Object, Option, PortBody, Process, Ready, Request, SIGNAL, Some, World, [], and_from, and_parts, answer_if, ap, arith, bits, by_look_up, cases_Bool, chan_create, chan_read_etc, chan_write, copy_of, default_rights_of, dup, effect, entry_at, eq-eqb, event_create, examined, false, first_some, get, handle_operands, handles_in, handles_to, has_key, has_koids, has_room, inl, inr, insert_all, is_some, kind_of, queue_of, leb-true, length, listed, may_choose, may_get, may_get_all, nat_le, new_handles, none-some, not, object_at, on_object, operand, raisable, refl, refusal, remove_all, replace, rights_of, row_of, runs, same_Some, signal, subst, sym, taken_handles, true, with_effect, with_object, within, without, ℕ, ◌+◌, ◌&&◌, ◌^◌, ◌||◌, ◌∙◌, ◌∷◌, ◌≡◌, ◌≤◌, ⊤, not-false, or_parts, Packet, settable_of, by_policy, new_entry, object_changed, gets_all, true≢false}
+use Rattle.zl_code.proofs.Common.{◌<◌, All, Body, Bool, ChannelEnd, EventBody, HandlesAreNamed, HandlesAreSound, IsSound, IsTrue, Library, List, Map, None, Object, Option, PortBody, Process, Ready, Request, SIGNAL, Some, World, [], and_from, and_parts, answer_if, ap, arith, bits, by_look_up, cases_Bool, chan_create, chan_read_etc, chan_write, copy_of, default_rights_of, dup, effect, entry_at, eq-eqb, event_create, examined, false, first_some, get, handle_operands, handles_in, handles_to, has_key, has_koids, has_room, inl, inr, insert_all, is_some, kind_of, queue_of, leb-true, length, listed, may_choose, may_get, may_get_all, nat_le, new_handles, none-some, not, object_at, on_object, operand, raisable, refl, refusal, remove_all, replace, rights_of, row_of, runs, same_Some, signal, subst, sym, taken_handles, true, with_effect, with_object, within, without, ℕ, ◌+◌, ◌&&◌, ◌^◌, ◌||◌, ◌∙◌, ◌∷◌, ◌≡◌, ◌≤◌, ⊤, not-false, or_parts, Packet, settable_of, by_policy, new_entry, object_changed, gets_all, true≢false, false≢true, body_in, body_of, HasPeer, Message, drop, filter, is_end_if_there, takes, ◌++◌, if◌then◌else◌, Ok, Err}
 use Rattle.zl_rights.specs.declared.kind.Kind.TheVariants as kind
 use Rattle.zl_rights.specs.declared.entry.Entry.{Entry}
 use Rattle.zl_rights.specs.declared.status.Status.{Status}
@@ -7,12 +7,16 @@ use Rattle.zl_rights.specs.declared.status.Status.TheVariants as status
 use Rattle.zl_rights.specs.LookUp.{granted}
 use Rattle.zl_rights.proofs.Narrowed.{narrowed_within}
 use Rattle.zl_code.specs.declared.history.Outcome.{Outcome}
-use Rattle.zl_code.specs.CallTable.{choosing}
+use Rattle.zl_rights.specs.declared.kind.Kind.{Kind}
+use Rattle.zl_rights.specs.Numbers.{SIGNAL_PEER, USER_SIGNALS}
+use Rattle.zl_rights.specs.Packets.{is_from, user_packet}
+use Rattle.zl_code.specs.CallTable.{choosing, signal_peer, wait_async, port_create, port_queue, port_wait, port_poll, port_cancel}
+use Rattle.zl_code.specs.Waiting.{source_at, wait_of, without_keyed}
 use Rattle.zl_code.specs.Effects.{message_read, storing, without_waits}
 use Rattle.zl_code.specs.Local.{overwritten}
-use Rattle.zl_code.specs.Tests.{entries_at, first_bytes, first_handles, peer_at, queue_at}
+use Rattle.zl_code.specs.Tests.{entries_at, first_bytes, first_handles, peer_at, peer_in, queue_at}
 use Rattle.zl_code.proofs.MapKept.{changed}
-use Rattle.zl_code.proofs.Changes.{computes, message_comes, message_goes, signals_change, Changes, stays, changes, join, one, object_changes, object_is_made, process_changes, waits_end}
+use Rattle.zl_code.proofs.Changes.{computes, message_comes, message_goes, signals_change, Changes, stays, changes, join, one, object_changes, object_is_made, ends_are_made, packets_are_changed, process_changes, wait_begins, keyed_end, waits_end}
 use Rattle.zl_code.specs.Refusals.{condition_of}
 use Rattle.zl_code.proofs.Entering.{IsFine, HaveRoom, IsLeft, all_enter, copy_is_fine, one_copy, entry_is_fine, length_without, new_is_fine, removed_last}
 use Rattle.zl_code.proofs.Messages.{may_be_sent, received_are_fine, two_entries, both_are_fine}
@@ -56,34 +60,40 @@ room_and w p n b h = (and_parts (has_room w p n) b (not-false _ (test_fails _ st
 
 -- ---- what a look-up granted
 
--- there is a handle, and it has the rights
-abbrev IsGranted : World → ℕ → ℕ → Option Entry → Type 0
-IsGranted w p needed o = (x : Entry) × (o ≡ Some x) × IsTrue (within needed (bits x.rights))
+-- there is a handle, of a kind that is taken, and it has the rights
+abbrev IsGranted : List Kind → ℕ → Option Entry → Type 0
+IsGranted kinds needed o = (x : Entry) × (o ≡ Some x) × IsTrue (takes kinds x.kind) × IsTrue (within needed (bits x.rights))
 
-is_granted : (w : World) (p needed : ℕ) (o : Option Entry) → by_look_up w p (granted o [] needed) ≡ None → IsGranted w p needed o
-is_granted w p needed None fails = absurd (none-some _ (sym fails))
-is_granted w p needed (Some x) fits = (
-  x,
-  refl,
-  elim (cases_Bool (within needed (bits x.rights))) as (λ _. IsTrue (within needed (bits x.rights))) [
-    | inl right ↦ right
-    | inr wrong ↦ absurd (none-some _ (sym (rw wrong at fits)))
-  ],
-)
+is_granted : (w : World) (p : ℕ) (kinds : List Kind) (needed : ℕ) (o : Option Entry) → by_look_up w p (granted o kinds needed) ≡ None → IsGranted kinds needed o
+is_granted w p kinds needed None fails = absurd (none-some _ (sym fails))
+is_granted w p kinds needed (Some x) fits = by_tests (takes kinds x.kind) (within needed (bits x.rights)) refl refl fits
+  where
+    by_tests : (kind right : Bool) → takes kinds x.kind ≡ kind → within needed (bits x.rights) ≡ right
+        → by_look_up w p (if kind then (if right then Ok x else Err status.AccessDenied) else Err status.WrongType) ≡ None → IsGranted kinds needed (Some x)
+    by_tests true true kind right h = (x, refl, kind, right)
+    by_tests true false kind right h = absurd (none-some _ (sym h))
+    by_tests false right kind is h = absurd (none-some _ (sym h))
+
+-- the handle names an object of a kind that is taken
+named_object : (w : World) (p h : ℕ) (kinds : List Kind) (needed : ℕ) → IsGranted kinds needed (entry_at w p h) → HandlesAreNamed w
+    → (o : Object) × (get w.objects (object_at w p h) ≡ Some o) × IsTrue (takes kinds (kind_of o.body))
+named_object w p h kinds needed (e, at, fits, right) named =
+    let (o, there, same) = (entry_is_fine w p h e at).names named in
+    (o, rw at there, subst (λ k. IsTrue (takes kinds k)) same fits)
 
 -- the handle that is replaced is live
 pub is_live : (w : World) (p h rights : ℕ) (q : Process) (lib : Library) → get w.processes p ≡ Some q → refusal lib w p (replace h rights) ≡ None → has_key q.handles h ≡ true
 unfolding row_of refusal handle_operands examined operand
 is_live w p h rights q lib there passes =
-    let found = is_granted w p 0 (entry_at w p h) (first_is_none _ _ (first_is_none _ _ passes)) in
+    let found = is_granted w p [] 0 (entry_at w p h) (first_is_none _ _ (first_is_none _ _ passes)) in
     ap is_some (sym (ap (λ o. get (handles_in o) h) there) ∙ found.1)
 
 -- ---- signals
 
 -- the handle that a signal is sent by has the right to it
-has_right : (w : World) (p h clear set : ℕ) (lib : Library) → refusal lib w p (signal h clear set) ≡ None → IsGranted w p SIGNAL (entry_at w p h)
+has_right : (w : World) (p h clear set : ℕ) (lib : Library) → refusal lib w p (signal h clear set) ≡ None → IsGranted [] SIGNAL (entry_at w p h)
 unfolding row_of refusal handle_operands examined operand
-has_right w p h clear set lib passes = is_granted w p SIGNAL (entry_at w p h) (first_is_none _ _ (first_is_none _ _ passes))
+has_right w p h clear set lib passes = is_granted w p [] SIGNAL (entry_at w p h) (first_is_none _ _ (first_is_none _ _ passes))
 
 -- no handle to a port has it
 no_port : (w : World) (p h : ℕ) (e : Entry) (o : Object) (packets : List Packet) → entry_at w p h ≡ Some e → IsTrue (within SIGNAL (bits e.rights)) → get w.objects e.koid ≡ Some o → o.body ≡ PortBody packets
@@ -96,15 +106,39 @@ no_port w p h e o packets at right there port sound named =
     true≢false (sym (rw is_port at inside))
 
 may_signal : (w : World) (p h clear set : ℕ) (lib : Library) → refusal lib w p (signal h clear set) ≡ None → (o : Object) → get w.objects (object_at w p h) ≡ Some o
-    → HandlesAreSound w → HandlesAreNamed w → IsTrue (within set (raisable o.body))
+    → IsSound w → IsTrue (within set (raisable o.body))
 unfolding listed
-may_signal w p h clear set lib passes o there sound named = by_body o.body refl (and_parts _ _ (rw there at (not-false _ (test_fails _ status.InvalidArgs (listed_none lib w p (signal h clear set) passes).0)))).1
+may_signal w p h clear set lib passes o there sound = by_body o.body refl (and_parts _ _ (rw there at (not-false _ (test_fails _ status.InvalidArgs (listed_none lib w p (signal h clear set) passes).0)))).1
   where
     by_body : (b : Body) → o.body ≡ b → IsTrue (within set (settable_of (Some b))) → IsTrue (within set (raisable b))
     by_body (PortBody packets) is h2 =
-        let (e, at, right) = has_right w p h clear set lib passes in
-        absurd (no_port w p h e o packets at right (rw at at there) is sound named)
+        let (e, at, kind, right) = has_right w p h clear set lib passes in
+        absurd (no_port w p h e o packets at right (rw at at there) is sound.handles sound.named)
     by_body _ is h2 = h2
+
+-- the handle by which the peer is signaled names an end
+has_end : (w : World) (p h clear set : ℕ) (lib : Library) → refusal lib w p (signal_peer h clear set) ≡ None → IsGranted (kind.Channel ∷ []) SIGNAL_PEER (entry_at w p h)
+unfolding row_of refusal handle_operands examined operand
+has_end w p h clear set lib passes = is_granted w p (kind.Channel ∷ []) SIGNAL_PEER (entry_at w p h) (first_is_none _ _ (first_is_none _ _ passes))
+
+may_signal_peer : (w : World) (p h clear set : ℕ) (lib : Library) → refusal lib w p (signal_peer h clear set) ≡ None → (o : Object) → get w.objects (peer_at w p h) ≡ Some o
+    → IsSound w → IsTrue (within set (raisable o.body))
+unfolding listed
+may_signal_peer w p h clear set lib passes o there sound =
+    let (x, at, fits) = named_object w p h (kind.Channel ∷ []) SIGNAL_PEER (has_end w p h clear set lib passes) sound.named in
+    by_body x x.body at refl fits
+  where
+    at_end : (b : Body) → IsTrue (is_end_if_there (Some b)) → IsTrue (within set USER_SIGNALS) → IsTrue (within set (raisable b))
+    at_end (ChannelEnd peer queue) is h2 = h2
+    at_end _ is h2 = absurd (false≢true is)
+
+    by_body : (x : Object) (b : Body) → get w.objects (object_at w p h) ≡ Some x → x.body ≡ b → IsTrue (takes (kind.Channel ∷ []) (kind_of b)) → IsTrue (within set (raisable o.body))
+    by_body x (ChannelEnd peer queue) at is fits =
+        let body : body_of w (object_at w p h) ≡ Some (ChannelEnd peer queue) = ap body_in at ∙ ap Some is in
+        let has : HasPeer w.objects w.next_koid (ChannelEnd peer queue) = subst (HasPeer w.objects w.next_koid) is (sound.peers (object_at w p h) x at) in
+        let found : get w.objects peer ≡ Some o = ap (get w.objects) (sym (ap peer_in body)) ∙ there in
+        at_end o.body (rw found at has.1) (and_parts _ _ (rw body at (not-false _ (test_fails _ status.InvalidArgs (listed_none lib w p (signal_peer h clear set) passes).0)))).1
+    by_body x _ at is fits = absurd (false≢true fits)
 
 -- ---- the calls
 
@@ -136,22 +170,23 @@ module _ (lib : Library) (w : World) (p : ℕ) (q : Process) (there : get w.proc
     fine_in h e at = subst (λ (m : Map Object). IsFine w m e) (sym left.objects) (entry_is_fine w p h e at)
 
     -- a new object, and the first handle to it
-    one_made : (b : Body) → queue_of b ≡ [] → HaveRoom after (new_entry w.next_koid (kind_of b) ∷ []) → (vs : List ℕ) → IsTrue (gets_all (get u.processes p) (new_entry w.next_koid (kind_of b) ∷ []) vs)
+    one_made : (b : Body) → queue_of b ≡ [] → HasPeer (with_object u b).objects (with_object u b).next_koid b → HaveRoom after (new_entry w.next_koid (kind_of b) ∷ []) → (vs : List ℕ) → IsTrue (gets_all (get u.processes p) (new_entry w.next_koid (kind_of b) ∷ []) vs)
         → Changes w u (insert_all (with_object u b) p (new_entry w.next_koid (kind_of b) ∷ []) vs)
     unfolding with_object
-    one_made b quiet room vs gets =
-        changes u (with_object u b) _ (object_is_made w u b quiet)
+    one_made b quiet peer room vs gets =
+        changes u (with_object u b) _ (object_is_made w u b quiet peer)
         (enter (with_object u b) refl (new_entry w.next_koid (kind_of b) ∷ []) vs (λ s. room) (chosen _ vs gets) (new_is_fine w u b w.next_koid left.next_koid))
 
     -- two new ends of a channel, and the first handles to them
-    two_made : (first second : Body) → queue_of first ≡ [] → queue_of second ≡ [] → kind_of first ≡ kind.Channel → kind_of second ≡ kind.Channel
-        → HaveRoom after (two_entries w) → (vs : List ℕ) → IsTrue (gets_all (get u.processes p) (two_entries w) vs)
-        → Changes w u (insert_all (with_object (with_object u first) second) p (two_entries w) vs)
+    two_made : HaveRoom after (two_entries w) → (vs : List ℕ) → IsTrue (gets_all (get u.processes p) (two_entries w) vs)
+        → Changes w u (insert_all (with_object (with_object u (ChannelEnd (w.next_koid + 1) [])) (ChannelEnd w.next_koid [])) p (two_entries w) vs)
     unfolding with_object
-    two_made first second quiet silent is_end other_end room vs gets =
-        changes u (with_object u first) _ (object_is_made w u first quiet)
-        (changes (with_object u first) (with_object (with_object u first) second) _ (object_is_made w (with_object u first) second silent)
-        (enter (with_object (with_object u first) second) refl (two_entries w) vs (λ s. room) (chosen _ vs gets) (both_are_fine w u first second w.next_koid left.next_koid is_end other_end)))
+    two_made room vs gets =
+        changes u both _ (ends_are_made w u w.next_koid left.next_koid)
+        (enter both refl (two_entries w) vs (λ s. room) (chosen _ vs gets) (both_are_fine w u (ChannelEnd (w.next_koid + 1) []) (ChannelEnd w.next_koid []) w.next_koid left.next_koid refl refl))
+      where
+        both : World
+        both = with_object (with_object u (ChannelEnd (w.next_koid + 1) [])) (ChannelEnd w.next_koid [])
 
     -- a handle enters at the value that was removed last
     enter_again : (v : World) (h : ℕ) → v.processes ≡ u.processes → (es : List Entry) → length es ≤ 1 → IsTrue (may_get after h) → (IsSound w → HaveRoom after es) → All (IsFine w v.objects) es
@@ -207,7 +242,7 @@ module _ (lib : Library) (w : World) (p : ℕ) (q : Process) (there : get w.proc
       let u = left_by chan_create in
       let some_room = room_and w p 2 (has_koids w 2) (listed_none lib w p chan_create passes).0 in
       let room = room_for u after left 2 (two_entries w) some_room (omega arith) in
-      record { room = room; changes = two_made u after left (ChannelEnd (w.next_koid + 1) []) (ChannelEnd w.next_koid []) refl refl refl refl room }
+      record { room = room; changes = two_made u after left room }
   laws (chan_write c bytes hs) after left passes =
       let u = left_by (chan_write c bytes hs) in
       record {
@@ -227,7 +262,39 @@ module _ (lib : Library) (w : World) (p : ℕ) (q : Process) (there : get w.proc
       let u = left_by event_create in
       let some_room = room_and w p 1 (has_koids w 1) (listed_none lib w p event_create passes).0 in
       let room = room_for u after left 1 (new_entry w.next_koid kind.Event ∷ []) some_room (omega arith) in
-      record { room = room; changes = one_made u after left EventBody refl room }
+      record { room = room; changes = one_made u after left EventBody refl tt room }
+  laws (signal_peer h clear set) after left passes =
+      let u = left_by (signal_peer h clear set) in
+      record {
+        room = omega arith;
+        changes = λ vs gets. one w u _ (object_changes w u (peer_at w p h) (object_changed clear set)
+            (λ o at. signals_change clear set refl (may_signal_peer w p h clear set lib passes o (subst (λ (m : Map Object). get m (peer_at w p h) ≡ Some o) left.objects at))));
+      }
+  laws (wait_async h port key mask) after left passes =
+      let u = left_by (wait_async h port key mask) in
+      record { room = omega arith; changes = λ vs gets. one w u _ (wait_begins w u (wait_of w p h port key mask)) }
+  laws port_create after left passes =
+      let u = left_by port_create in
+      let some_room = room_and w p 1 (has_koids w 1) (listed_none lib w p port_create passes).0 in
+      let room = room_for u after left 1 (new_entry w.next_koid kind.Port ∷ []) some_room (omega arith) in
+      record { room = room; changes = one_made u after left (PortBody []) refl tt room }
+  laws (port_queue port key value) after left passes =
+      let u = left_by (port_queue port key value) in
+      record { room = omega arith; changes = λ vs gets. one w u _ (packets_are_changed w u (object_at w p port) (λ xs. xs ++ (user_packet key value ∷ []))) }
+  laws (port_wait port) after left passes =
+      let u = left_by (port_wait port) in
+      record { room = omega arith; changes = λ vs gets. one w u _ (packets_are_changed w u (object_at w p port) (drop 1)) }
+  laws (port_poll port) after left passes =
+      let u = left_by (port_poll port) in
+      record { room = omega arith; changes = λ vs gets. one w u _ (packets_are_changed w u (object_at w p port) (drop 1)) }
+  laws (port_cancel port source key) after left passes =
+      let u = left_by (port_cancel port source key) in
+      let k = object_at w p port in
+      record {
+        room = omega arith;
+        changes = λ vs gets. changes u (without_keyed u p source k key) _ (keyed_end w u p source k key)
+            (one w (without_keyed u p source k key) _ (packets_are_changed w (without_keyed u p source k key) k (filter (λ x. not (is_from (source_at w p source) key x)))));
+      }
   laws (signal h clear set) after left passes =
       let u = left_by (signal h clear set) in
       record {

@@ -1,7 +1,10 @@
 -- The elementary changes of which a step is made.
-use Rattle.zl_code.proofs.Common.{◌≡◌, ◌<◌, ◌≤◌, inl, inr, arith, ℕ, suc, Bool, true, false, not, ◌==◌, List, [], ◌∷◌, length, refl, ap, sym, subst, ◌∙◌, IsTrue, Option, Some, None, eq-eqb, if◌then◌else◌, ℤ, option_map, cases_Bool, eqb-true, within, Map, get, put, update, has_key, without, World, Cpu, answered, Process, State, Created, Ready, Blocked, Ended, Object, Body, ChannelEnd, EventBody, PortBody, JobBody, ProcessBody, is_process, state_passes, lives, runs, Settles, queue_of, fired, on_process, process_with, process_without, ended, with_object, may_get, in_order, has_default_rights, names_its_object, HandlesAreSound, HandlesAreNamed, raisable, IsSound, Packet, Message, All, list_all, get-put, get-update, on_object, process_ended, object_changed, with_process, is_blocked, HasItsObject, packets_for, made_ready, with_body, body_with_packets, filter}
+use Rattle.zl_code.proofs.Common.{◌≡◌, ◌<◌, ◌≤◌, inl, inr, arith, ℕ, suc, Bool, true, false, not, ◌==◌, List, [], ◌∷◌, length, refl, ap, sym, subst, ◌∙◌, IsTrue, Option, Some, None, eq-eqb, if◌then◌else◌, ℤ, option_map, cases_Bool, eqb-true, within, Map, get, put, update, has_key, without, World, Cpu, answered, Process, State, Created, Ready, Blocked, Ended, Object, Body, ChannelEnd, EventBody, PortBody, JobBody, ProcessBody, is_process, state_passes, lives, runs, Settles, queue_of, fired, on_process, process_with, process_without, ended, with_object, may_get, in_order, has_default_rights, names_its_object, HandlesAreSound, HandlesAreNamed, raisable, IsSound, Packet, Message, All, list_all, get-put, get-update, on_object, process_ended, object_changed, with_process, is_blocked, HasItsObject, packets_for, made_ready, with_body, body_with_packets, filter, Awaited, HasPeer, ◌++◌, ◌+◌, ne_eqb, length-append, append-nil, same_Some}
+use Rattle.std.proofs.lemmas.List.Elements.{filter-append}
 use Rattle.zl_rights.specs.declared.entry.Entry.{Entry}
-use Rattle.zl_code.specs.Effects.{message_sent, message_read, without_waits}
+use Rattle.zl_code.specs.Effects.{message_sent, message_read, without_waits, waiting}
+use Rattle.zl_code.specs.Waiting.{registered, without_keyed, body_packed, repacked}
+use Rattle.zl_rights.specs.World.{Wait}
 use Rattle.zl_code.proofs.MapKept.{in_order-put, in_order-update, in_order-each, Changed, same, changed, new, EachChanged, unchanged, changed_put, changed_update, changed_each}
 
 -- ---- what becomes of one process and of one object, in a step that begins at the world start
@@ -26,6 +29,8 @@ pub data ProcessChange (start after : World) (x y : Process) : Type 0 where
   ends : (code : ℤ) → y ≡ record x { state = Ended code; handles = []; last = None } → ProcessChange start after x y
   -- it was blocked, and is ready
   wakes : (c : Cpu) → y ≡ record x { state = Ready; cpu = c } → IsTrue (runs x.state) → ProcessChange start after x y
+  -- it was ready, and waits within a call
+  blocks : (awaited : Awaited) (destinations : List ℕ) → y ≡ record x { state = Blocked awaited destinations } → IsTrue (runs x.state) → ProcessChange start after x y
 
 -- a process that is made between w and after
 pub record IsNewProcess (start w after : World) (k : ℕ) (y : Process) : Type 0 where
@@ -43,7 +48,7 @@ pub record MayBeSent (start after : World) (m : Message) : Type 0 where
 -- x becomes y
 pub data ObjectChange (start after : World) (x y : Object) : Type 0 where
   -- a call cleared and raised signals
-  signals_change : (clear set : ℕ) → y ≡ object_changed clear set x → (HandlesAreSound start → HandlesAreNamed start → IsTrue (within set (raisable x.body))) → ObjectChange start after x y
+  signals_change : (clear set : ℕ) → y ≡ object_changed clear set x → (IsSound start → IsTrue (within set (raisable x.body))) → ObjectChange start after x y
   -- packets came to a port, or left it
   packets_change : (old packets : List Packet) → x.body ≡ PortBody old → y ≡ record x { body = PortBody packets } → ObjectChange start after x y
   -- a message came to a channel end
@@ -53,19 +58,21 @@ pub data ObjectChange (start after : World) (x y : Object) : Type 0 where
 
 -- an object that is made between w and after
 pub record IsNewObject (w after : World) (k : ℕ) (y : Object) : Type 0 where
-  pub next : k ≡ w.next_koid
+  pub next : w.next_koid ≤ k
   pub given : k < after.next_koid
   pub quiet : queue_of y.body ≡ []
   pub unraised : y.raised ≡ 0
+  pub peer : HasPeer after.objects after.next_koid y.body
 
 -- how often p stands in the list
 abbrev pub times : ℕ → List ℕ → ℕ
 times p ps = length (filter (λ q. q == p) ps)
 
--- p is as it was among the blocked; or it isn't blocked, and not among them
+-- p is as it was among the blocked; or it isn't blocked, and not among them; or it is blocked, and once among them
 pub data KeepsBlocked (w w2 : World) (p : ℕ) : Type 0 where
   still : times p w2.blocked ≡ times p w.blocked → is_process w2 is_blocked p ≡ is_process w is_blocked p → KeepsBlocked w w2 p
   awake : times p w2.blocked ≡ 0 → is_process w2 is_blocked p ≡ false → KeepsBlocked w w2 p
+  asleep : times p w2.blocked ≡ 1 → is_process w2 is_blocked p ≡ true → KeepsBlocked w w2 p
 
 -- one change, in a step that begins at start
 pub record Change (start w w2 : World) : Type 0 where
@@ -105,6 +112,7 @@ table_kept P start after none out in_ x y (handle_leaves v is there) t = rw is (
 table_kept P start after none out in_ x y (computes c is) t = rw is t
 table_kept P start after none out in_ x y (ends code is) t = rw is none
 table_kept P start after none out in_ x y (wakes c is running) t = rw is t
+table_kept P start after none out in_ x y (blocks awaited ds is running) t = rw is t
 
 -- ---- the list of the blocked
 
@@ -217,6 +225,32 @@ process_wakes start w p q ds vs there running = record {
   blocked = λ s. without_one w (made_ready w p q ds vs) p refl (ap (state_passes is_blocked) {y = Some (record q { state = Ready; cpu = answered q.cpu ds vs })} (get-put w.processes p _ p ∙ rw (eq-eqb p p refl) refl)) (λ k other. get-put w.processes p _ k ∙ rw other refl);
 }
 
+-- a ready process waits within a call, last of all
+pub process_blocks : (w : World) (p : ℕ) (q : Process) (ds : List ℕ) (awaited : Awaited) → get w.processes p ≡ Some q → q.state ≡ Ready → Change w w (waiting w p ds (Some awaited))
+unfolding on_process is_process
+process_blocks w p q ds awaited there ready = record {
+  next_koid = omega arith;
+  processes_in_order = λ h. rw (in_order-update w.processes p blocked) h;
+  objects_in_order = λ h. h;
+  processes = changed_update _ _ w.processes p blocked (λ x at. changed x _ refl refl (blocks awaited ds refl (rw (ap (λ (y : Process). y.state) (same_Some x q (sym at ∙ there)), ready) refl)));
+  objects = unchanged _ _ w.objects w.objects refl;
+  blocked = λ s k. elim (cases_Bool (p == k)) as (λ _. KeepsBlocked w (waiting w p ds (Some awaited)) k) [
+    | inl is ↦ subst (KeepsBlocked w (waiting w p ds (Some awaited))) (eqb-true p k is) (asleep (once s) (ap (state_passes is_blocked) {y = Some (blocked q)} (get-update w.processes p blocked p ∙ rw (eq-eqb p p refl, there) refl)))
+    | inr other ↦ still (times-behind k other w.blocked) (ap (state_passes is_blocked) (get-update w.processes p blocked k ∙ rw other refl))
+  ];
+}
+  where
+    blocked : Process → Process
+    blocked x = record x { state = Blocked awaited ds }
+
+    times-behind : (k : ℕ) → (p == k) ≡ false → (ps : List ℕ) → times k (ps ++ (p ∷ [])) ≡ times k ps
+    times-behind k other ps = ap length (filter-append (λ q. q == k) ps (p ∷ [])) ∙ rw other (ap length (append-nil (filter (λ q. q == k) ps)))
+
+    once : IsSound w → times p (w.blocked ++ (p ∷ [])) ≡ 1
+    once s =
+        let none : times p w.blocked ≡ 0 = s.blocked p ∙ rw (there, ready) refl in
+        ap length (filter-append (λ q. q == p) w.blocked (p ∷ [])) ∙ (length-append (filter (λ q. q == p) w.blocked) (filter (λ q. q == p) (p ∷ [])) ∙ rw (none, eq-eqb p p refl) refl)
+
 pub process_is_made : (start w : World) (k : ℕ) (y : Process) → IsNewProcess start w (with_process w k y) k y → is_blocked y.state ≡ false → Change start w (with_process w k y)
 unfolding is_process
 process_is_made start w k y fine unblocked = record {
@@ -250,11 +284,70 @@ pub object_changes : (start w : World) (k : ℕ) (f : Object → Object) → ((x
 unfolding on_object
 object_changes start w k f ok = objects_alone start w (on_object w k f) refl refl (omega arith) (λ h. rw (in_order-update w.objects k f) h) (changed_update _ _ w.objects k f (λ x there. changed x _ refl refl (ok x there)))
 
-pub object_is_made : (start w : World) (b : Body) → queue_of b ≡ [] → Change start w (with_object w b)
+pub object_is_made : (start w : World) (b : Body) → queue_of b ≡ [] → HasPeer (with_object w b).objects (with_object w b).next_koid b → Change start w (with_object w b)
 unfolding with_object
-object_is_made start w b quiet =
+object_is_made start w b quiet peer =
     objects_alone start w (with_object w b) refl refl (omega arith) (in_order-put w.objects w.next_koid _)
-    (changed_put _ _ w.objects w.next_koid _ (new _ refl (record { next = refl; given = omega arith; quiet = quiet; unraised = refl })))
+    (changed_put _ _ w.objects w.next_koid _ (new _ refl (record { next = omega arith; given = omega arith; quiet = quiet; unraised = refl; peer = peer })))
+
+-- both ends of a channel
+pub ends_are_made : (start w : World) (n : ℕ) → w.next_koid ≡ n → Change start w (with_object (with_object w (ChannelEnd (n + 1) [])) (ChannelEnd n []))
+unfolding with_object
+ends_are_made start w n here =
+    objects_alone start w (with_object (with_object w (ChannelEnd (n + 1) [])) (ChannelEnd n [])) refl refl (omega arith) (λ h. in_order-put first _ _ (in_order-put w.objects _ _ h)) at_koid
+  where
+    end_at : ℕ → Object
+    end_at peer = record { body = ChannelEnd peer []; raised = 0 }
+
+    first : Map Object
+    first = put w.objects w.next_koid (end_at (n + 1))
+
+    both : Map Object
+    both = put first (w.next_koid + 1) (end_at n)
+
+    at_first : get both n ≡ Some (end_at (n + 1))
+    at_first = get-put first (w.next_koid + 1) (end_at n) n ∙ (rw (ne_eqb (w.next_koid + 1) n (λ e. omega (arith, here))) (get-put w.objects w.next_koid (end_at (n + 1)) n ∙ rw (eq-eqb w.next_koid n here) refl))
+
+    at_second : get both (n + 1) ≡ Some (end_at n)
+    at_second = get-put first (w.next_koid + 1) (end_at n) (n + 1) ∙ rw (eq-eqb (w.next_koid + 1) (n + 1) (omega (arith, here))) refl
+
+    at_koid : EachChanged (λ k. ObjectChange start (with_object (with_object w (ChannelEnd (n + 1) [])) (ChannelEnd n []))) (IsNewObject w (with_object (with_object w (ChannelEnd (n + 1) [])) (ChannelEnd n []))) w.objects both
+    at_koid k = elim (cases_Bool (w.next_koid + 1 == k)) as (λ _. Changed (ObjectChange start (with_object (with_object w (ChannelEnd (n + 1) [])) (ChannelEnd n []))) (IsNewObject w (with_object (with_object w (ChannelEnd (n + 1) [])) (ChannelEnd n [])) k) (get w.objects k) (get both k)) [
+      | inl second ↦
+          let is : w.next_koid + 1 ≡ k = eqb-true (w.next_koid + 1) k second in
+          new (end_at n) (get-put first (w.next_koid + 1) (end_at n) k ∙ rw second refl) (record { next = omega (arith, is); given = omega (arith, is); quiet = refl; unraised = refl; peer = (omega (arith, here), rw at_first refl) })
+      | inr other ↦ elim (cases_Bool (w.next_koid == k)) as (λ _. Changed (ObjectChange start (with_object (with_object w (ChannelEnd (n + 1) [])) (ChannelEnd n []))) (IsNewObject w (with_object (with_object w (ChannelEnd (n + 1) [])) (ChannelEnd n [])) k) (get w.objects k) (get both k)) [
+        | inl now ↦
+            let is : w.next_koid ≡ k = eqb-true w.next_koid k now in
+            new (end_at (n + 1)) (get-put first (w.next_koid + 1) (end_at n) k ∙ (rw other (get-put w.objects w.next_koid (end_at (n + 1)) k ∙ rw now refl))) (record { next = omega (arith, is); given = omega (arith, is); quiet = refl; unraised = refl; peer = (omega (arith, here), rw at_second refl) })
+        | inr apart ↦ same (get-put first (w.next_koid + 1) (end_at n) k ∙ (rw other (get-put w.objects w.next_koid (end_at (n + 1)) k ∙ rw apart refl)))
+      ]
+    ]
+
+-- packets come to a port, or leave it
+pub packets_are_changed : (start w : World) (k : ℕ) (f : List Packet → List Packet) → Change start w (on_object w k (repacked f))
+unfolding on_object
+packets_are_changed start w k f =
+    objects_alone start w (on_object w k (repacked f)) refl refl (omega arith) (λ h. rw (in_order-update w.objects k (repacked f)) h)
+    (changed_update _ _ w.objects k (repacked f) (λ x there. by_body x x.body refl))
+  where
+    other : (x : Object) → body_packed f x.body ≡ x.body → Changed (ObjectChange start (on_object w k (repacked f))) (IsNewObject w (on_object w k (repacked f)) k) (Some x) (Some (repacked f x))
+    other x e = same (ap (λ (b : Body). Some (record x { body = b })) e)
+
+    by_body : (x : Object) (b : Body) → x.body ≡ b → Changed (ObjectChange start (on_object w k (repacked f))) (IsNewObject w (on_object w k (repacked f)) k) (Some x) (Some (repacked f x))
+    by_body x (PortBody packets) is = changed x _ refl refl (packets_change packets _ is (ap (λ (b : Body). record x { body = body_packed f b }) is))
+    by_body x (ChannelEnd peer queue) is = other x (ap (body_packed f) is ∙ sym is)
+    by_body x EventBody is = other x (ap (body_packed f) is ∙ sym is)
+    by_body x (JobBody a b c d) is = other x (ap (body_packed f) is ∙ sym is)
+    by_body x (ProcessBody job) is = other x (ap (body_packed f) is ∙ sym is)
+
+-- a wait is registered
+pub wait_begins : (start w : World) (x : Wait) → Change start w (registered w x)
+wait_begins start w x = objects_alone start w (registered w x) refl refl (omega arith) (λ h. h) (unchanged _ _ w.objects w.objects refl)
+
+-- waits with a key end
+pub keyed_end : (start w : World) (p v k key : ℕ) → Change start w (without_keyed w p v k key)
+keyed_end start w p v k key = objects_alone start w (without_keyed w p v k key) refl refl (omega arith) (λ h. h) (unchanged _ _ w.objects w.objects refl)
 
 -- waits end
 pub waits_end : (start w : World) (p v : ℕ) → Change start w (without_waits w p v)

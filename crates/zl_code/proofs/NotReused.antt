@@ -3,7 +3,7 @@ use Rattle.zl_code.proofs.Common.{◌≡◌, ◌<◌, ◌≤◌, inl, inr, arith
 use Rattle.zl_rights.specs.declared.kind.Kind.{Kind}
 use Rattle.zl_code.specs.Koids.{KeepsKoids}
 use Rattle.zl_code.proofs.MapKept.{same, changed, new}
-use Rattle.zl_code.proofs.Changes.{ProcessChange, handle_enters, handle_leaves, computes, ends, wakes, ObjectChange, signals_change, packets_change, message_comes, message_goes, Change, Changes, kept}
+use Rattle.zl_code.proofs.Changes.{ProcessChange, handle_enters, handle_leaves, computes, ends, wakes, blocks, ObjectChange, signals_change, packets_change, message_comes, message_goes, Change, Changes, kept}
 use Rattle.zl_code.specs.Effects.{body_with_message, body_after_read}
 
 -- ---- koids
@@ -122,6 +122,7 @@ same_program start after x y (handle_leaves v is there) = rw is refl
 same_program start after x y (computes c is) = rw is refl
 same_program start after x y (ends code is) = rw is refl
 same_program start after x y (wakes c is running) = rw is refl
+same_program start after x y (blocks awaited ds is running) = rw is refl
 
 process_stays : (start u v : World) → IsSound start → Change start u v → KeepsProcesses u v
 process_stays start u v s c p q there = elim (c.processes p) as (λ _. (after : Process) × (get v.processes p ≡ Some after) × (after.program ≡ q.program)) [

@@ -1,11 +1,11 @@
 -- Every world of a run from a boot world is sound.
-use Rattle.zl_code.proofs.Common.{◌≡◌, ◌<◌, ◌≤◌, inl, inr, arith, ℕ, suc, Bool, true, false, not, ◌||◌, ◌==◌, [], length, refl, ap, sym, ◌∙◌, IsTrue, Option, Some, None, eq-eqb, if◌then◌else◌, is_some, nat_lt, bit_and, option_map, cases_Bool, eqb-true, and_parts, and_from, or_left, or_right, false≢true, none-some, same_Some, within, get, put, without, where_key, each, has_key, World, Process, State, Created, Ready, Blocked, Gone, Object, Body, ChannelEnd, JobBody, ProcessBody, Message, is_process, state_passes, lives, runs, process_settled, Koids, Settles, without_others, is_held, in_table, in_queue, has_living_child, body_in, may_get, is_job_body, HasGivenKoids, raisable, IsSound, min, max, get-put, get-each, get-where_key-in, get-where_key-out, may_get_after, is_value, IsSoundTable, is_blocked, HasItsObject, bit_xor, state_without, IsLargestHeld, filter, true≢false}
+use Rattle.zl_code.proofs.Common.{◌≡◌, ◌<◌, ◌≤◌, inl, inr, arith, ℕ, suc, Bool, true, false, not, ◌||◌, ◌==◌, [], length, refl, ap, sym, ◌∙◌, IsTrue, Option, Some, None, eq-eqb, if◌then◌else◌, is_some, nat_lt, bit_and, option_map, cases_Bool, eqb-true, and_parts, and_from, or_left, or_right, false≢true, none-some, same_Some, within, Map, get, put, without, where_key, each, has_key, World, Process, State, Created, Ready, Blocked, Gone, Object, Body, ChannelEnd, JobBody, ProcessBody, Message, is_process, state_passes, lives, runs, process_settled, Koids, Settles, without_others, is_held, in_table, in_queue, has_living_child, body_in, may_get, is_job_body, HasGivenKoids, raisable, IsSound, min, max, get-put, get-each, get-where_key-in, get-where_key-out, may_get_after, is_value, IsSoundTable, is_blocked, HasItsObject, HasPeer, is_end_if_there, bit_xor, state_without, IsLargestHeld, filter, true≢false}
 use Rattle.std.specs.Int.{bit_at}
 use Rattle.std.proofs.lemmas.Nat.Bits.{same_from_bits, bit_at_and, bit_at_or, bit_at-zero}
 use Rattle.zl_rights.specs.declared.entry.Entry.{Entry}
 use Rattle.zl_rights.specs.Numbers.{changed as signals_changed}
 use Rattle.zl_code.proofs.MapKept.{each_where_key, EachChanged, same, changed, new, changed_each, each_changed}
-use Rattle.zl_code.proofs.Changes.{MayEnter, ProcessChange, handle_enters, handle_leaves, computes, ends, wakes, ObjectChange, signals_change, packets_change, message_comes, message_goes, still, awake, Change}
+use Rattle.zl_code.proofs.Changes.{MayEnter, ProcessChange, handle_enters, handle_leaves, computes, ends, wakes, blocks, ObjectChange, signals_change, packets_change, message_comes, message_goes, still, awake, asleep, Change}
 use Rattle.zl_code.specs.Effects.{body_with_message, body_after_read}
 use Rattle.zl_code.proofs.Entering.{length_filter, length_put}
 use Rattle.zl_code.proofs.StepChanges.{job_is_there}
@@ -63,20 +63,22 @@ by_process start after x y s (handle_leaves v is there) t = rw is (handle_out x 
 by_process start after x y s (computes c is) t = rw is t
 by_process start after x y s (ends code is) t = rw is (empty_table false)
 by_process start after x y s (wakes c is running) t = rw is (rw running at t)
+by_process start after x y s (blocks awaited ds is running) t = rw is (rw running at t)
 
 -- ---- a living process has its object
+
+runs_lives : (s : State) → IsTrue (runs s) → IsTrue (lives s)
+runs_lives Ready r = refl
+runs_lives (Blocked a b) r = refl
+runs_lives _ r = absurd (false≢true r)
 
 lives_before : (start after : World) (x y : Process) → ProcessChange start after x y → IsTrue (lives y.state) → IsTrue (lives x.state)
 lives_before start after x y (handle_enters v e is may) h = rw is at h
 lives_before start after x y (handle_leaves v is there) h = rw is at h
 lives_before start after x y (computes c is) h = rw is at h
 lives_before start after x y (ends code is) h = absurd (false≢true (rw is at h))
-lives_before start after x y (wakes c is running) h = by_state x.state running
-  where
-    by_state : (s : State) → IsTrue (runs s) → IsTrue (lives s)
-    by_state Ready r = refl
-    by_state (Blocked a b) r = refl
-    by_state _ r = absurd (false≢true r)
+lives_before start after x y (wakes c is running) h = runs_lives x.state running
+lives_before start after x y (blocks awaited ds is running) h = runs_lives x.state running
 
 has_body : (o : Option Object) (b : Body) → body_in o ≡ Some b → IsTrue (is_some o)
 has_body None b e = absurd (none-some b e)
@@ -150,7 +152,7 @@ read_raisable (ChannelEnd peer queue) = refl
 read_raisable _ = refl
 
 by_object : (start after : World) (x y : Object) → IsSound start → ObjectChange start after x y → IsTrue (within x.raised (raisable x.body)) → IsTrue (within y.raised (raisable y.body))
-by_object start after x y s (signals_change clear set is may) t = rw is (within_changed x.raised clear set (raisable x.body) t (may s.handles s.named))
+by_object start after x y s (signals_change clear set is may) t = rw is (within_changed x.raised clear set (raisable x.body) t (may s))
 by_object start after x y s (packets_change old packets port is) t = rw is (rw port at t)
 by_object start after x y s (message_comes m is may) t = rw (is, sent_raisable m x.body) t
 by_object start after x y s (message_goes is) t = rw (is, read_raisable x.body) t
@@ -160,6 +162,55 @@ none_raised whole = eq-eqb _ _ (same_from_bits _ _ (λ i. bit_at_and whole 0 i �
   where
     nothing : (n : ℕ) → min n 0 ≡ 0
     nothing n = omega arith
+
+-- ---- the peers of channel ends
+
+-- a change of an end leaves it its peer
+peer_kept : (start after : World) (m : Map Object) (n : ℕ) (x y : Object) → ObjectChange start after x y → HasPeer m n x.body → HasPeer m n y.body
+peer_kept start after m n x y (signals_change clear set is may) t = rw is t
+peer_kept start after m n x y (packets_change old packets port is) t = rw is tt
+peer_kept start after m n x y (message_comes message is may) t = rw is (sent x.body t)
+  where
+    sent : (b : Body) → HasPeer m n b → HasPeer m n (body_with_message message b)
+    sent (ChannelEnd peer queue) h = h
+    sent _ h = h
+peer_kept start after m n x y (message_goes is) t = rw is (read x.body t)
+  where
+    read : (b : Body) → HasPeer m n b → HasPeer m n (body_after_read b)
+    read (ChannelEnd peer queue) h = h
+    read _ h = h
+
+-- and it stays an end
+end_stays : (start after : World) (x y : Object) → ObjectChange start after x y → IsTrue (is_end_if_there (Some x.body)) → IsTrue (is_end_if_there (Some y.body))
+end_stays start after x y (signals_change clear set is may) t = rw is t
+end_stays start after x y (packets_change old packets port is) t = absurd (false≢true (rw port at t))
+end_stays start after x y (message_comes message is may) t = rw is (sent x.body t)
+  where
+    sent : (b : Body) → IsTrue (is_end_if_there (Some b)) → IsTrue (is_end_if_there (Some (body_with_message message b)))
+    sent (ChannelEnd peer queue) h = h
+    sent _ h = h
+end_stays start after x y (message_goes is) t = rw is (read x.body t)
+  where
+    read : (b : Body) → IsTrue (is_end_if_there (Some b)) → IsTrue (is_end_if_there (Some (body_after_read b)))
+    read (ChannelEnd peer queue) h = h
+    read _ h = h
+
+-- no change takes a peer away, or puts anything else at its koid
+peer_stays : (start u v : World) → Change start u v → (b : Body) → HasPeer u.objects u.next_koid b → HasPeer v.objects v.next_koid b
+peer_stays start u v c (ChannelEnd peer queue) (below, is_end) = (omega (arith, below, c.next_koid), elim (c.objects peer) as (λ _. IsTrue (is_end_if_there (body_in (get v.objects peer)))) [
+  | same e ↦ rw e is_end
+  | changed x y was is r ↦ rw is (end_stays start v x y r (rw was at is_end))
+  | new y is n ↦ absurd (omega (arith, n.next, below))
+])
+peer_stays start u v c _ h = tt
+
+-- nor does settling
+peer_settles : (m : Map Object) (n : ℕ) (K : Koids) (b : Body) → HasPeer m n b → HasPeer (where_key K m) n b
+peer_settles m n K (ChannelEnd peer queue) (below, is_end) = (below, elim (cases_Bool (K peer)) as (λ _. IsTrue (is_end_if_there (body_in (get (where_key K m) peer)))) [
+  | inl kept ↦ rw (get-where_key-in m K peer kept) is_end
+  | inr gone ↦ rw (get-where_key-out m K peer gone) refl
+])
+peer_settles m n K _ h = tt
 
 -- ---- a change
 
@@ -179,7 +230,9 @@ kept_by_change start u v before c s = record {
   blocked = λ p. elim (c.blocked before p) as (λ _. length (filter (λ q. q == p) v.blocked) ≡ (if is_process v is_blocked p then 1 else 0)) [
     | still count state ↦ count ∙ (s.blocked p ∙ ap (λ (b : Bool). if b then 1 else 0) (sym state))
     | awake count state ↦ count ∙ rw state refl
+    | asleep count state ↦ count ∙ rw state refl
   ];
+  peers = each_changed _ _ (λ k o. HasPeer v.objects v.next_koid o.body) u.objects v.objects c.objects (λ k. peer_kept start v v.objects v.next_koid) (λ k y n. n.peer) (λ k o there. peer_stays start u v c o.body (s.peers k o there));
   raised = each_changed _ _ (λ k o. IsTrue (within o.raised (raisable o.body))) u.objects v.objects c.objects (λ k x y. by_object start v x y before) (λ k y n. rw n.unraised (none_raised (raisable y.body))) s.raised;
 }
 
@@ -239,6 +292,7 @@ kept_by_settling u v (K, largest, e) s = rw e (record {
   tables = each_changed _ _ (λ k q. IsSoundTable (runs q.state) q.handles q.last) u.processes _ all (λ k x y is t. rw (is, (settled_state (K k) x.state).0) t) (λ k y none. absurd none) s.tables;
   living = λ p q there. by_process p q (get u.processes p) refl (sym (get-each u.processes (process_settled K) p) ∙ there);
   blocked = λ p. s.blocked p ∙ ap (λ (b : Bool). if b then 1 else 0) (sym (ap (state_passes is_blocked) (get-each u.processes (process_settled K) p) ∙ blocked_before p (get u.processes p)));
+  peers = each_where_key (λ o. HasPeer (where_key K u.objects) u.next_koid o.body) u.objects (λ k o there. peer_settles u.objects u.next_koid K o.body (s.peers k o there)) K;
   raised = each_where_key (λ o. IsTrue (within o.raised (raisable o.body))) u.objects s.raised K;
 })
   where

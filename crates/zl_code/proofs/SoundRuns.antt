@@ -1,5 +1,5 @@
 -- What steps keep, along runs and histories from a boot world.
-use Rattle.zl_code.proofs.Common.{◌≡◌, ◌<◌, arith, inl, inr, ℕ, ◌==◌, List, [], ◌∷◌, refl, subst, IsTrue, Option, Some, None, is_some, list_all, flat_map, cases_Bool, eqb-true, false≢true, none-some, same_Some, within, get, World, Object, is_process, queue_of, Library, Step, pid_of, single, IsLegalHistory, Boots, IsBoot, boot_effect, origin, HasGivenKoids, has_default_rights, HandlesAreSound, HandlesAreNamed, raisable, IsSound, KeepsProcesses, Runs}
+use Rattle.zl_code.proofs.Common.{◌≡◌, ◌<◌, arith, inl, inr, ℕ, false, HasPeer, JobBody, ◌==◌, List, [], ◌∷◌, refl, subst, IsTrue, Option, Some, None, is_some, list_all, flat_map, cases_Bool, eqb-true, false≢true, none-some, same_Some, within, get, World, Object, is_process, queue_of, Library, Step, pid_of, single, IsLegalHistory, Boots, IsBoot, boot_effect, origin, HasGivenKoids, has_default_rights, HandlesAreSound, HandlesAreNamed, raisable, IsSound, KeepsProcesses, Runs}
 use Rattle.zl_code.specs.declared.boot.Statement.{Statement}
 use Rattle.zl_code.specs.declared.history.TraceItem.{TraceItem}
 use Rattle.zl_code.specs.Koids.{KeepsKoids}
@@ -58,12 +58,10 @@ boots_sound lib w (st ∷ statements) after s (vs, fine, may, rest) =
     boots_sound lib (boot_effect lib w st vs) statements after (changes_keep_sound w (boot_effect lib w st vs) (boot_changes lib w st vs s.objects fine may) s) rest
 
 -- the root job is alone in the world where a boot begins
-root_alone : (P : ℕ → Object → Type 0) → ((o : Object) → o.raised ≡ 0 → queue_of o.body ≡ [] → P 1 o) → (k : ℕ) (o : Object) → get origin.objects k ≡ Some o → P k o
+root_alone : (P : ℕ → Object → Type 0) → P 1 (record { body = JobBody 0 1 [] false; raised = 0 }) → (k : ℕ) (o : Object) → get origin.objects k ≡ Some o → P k o
 unfolding get
 root_alone P root k o there = elim (cases_Bool (1 == k)) as (λ _. P k o) [
-  | inl here ↦
-      let is = same_Some _ o (rw here at there) in
-      subst (λ j. P j o) (eqb-true 1 k here) (root o (subst (λ (x : Object). x.raised ≡ 0) is refl) (subst (λ (x : Object). queue_of x.body ≡ []) is refl))
+  | inl here ↦ subst (λ j. P j o) (eqb-true 1 k here) (subst (P 1) (same_Some _ o (rw here at there)) root)
   | inr other ↦ absurd (none-some o (rw other at there))
 ]
 
@@ -75,23 +73,24 @@ origin_is_sound = record {
     objects = refl;
     places = λ p q there. absurd (none-some q there);
     rights = λ p v q e there at. absurd (none-some q there);
-    queued = root_alone (λ k o. IsTrue (list_all (λ m. list_all has_default_rights m.handles) (queue_of o.body))) (λ o raised quiet. rw quiet refl);
+    queued = root_alone (λ k o. IsTrue (list_all (λ m. list_all has_default_rights m.handles) (queue_of o.body))) refl;
   };
   named = record {
     tables = λ p v q e there at. absurd (none-some q there);
-    queues = root_alone (λ k. QueueNames origin.objects) (λ o raised quiet. no_queue origin.objects o.body quiet);
+    queues = root_alone (λ k. QueueNames origin.objects) (no_queue origin.objects (JobBody 0 1 [] false) refl);
   };
   objects = record { below = λ k there. by_object k (get origin.objects k) refl there };
   processes = λ p there. absurd (false≢true there);
   tables = λ p q there. absurd (none-some q there);
   living = λ p q there. absurd (none-some q there);
   blocked = λ p. refl;
-  raised = root_alone (λ k o. IsTrue (within o.raised (raisable o.body))) (λ o raised quiet. rw raised (none_raised (raisable o.body)));
+  peers = root_alone (λ k o. HasPeer origin.objects 2 o.body) tt;
+  raised = root_alone (λ k o. IsTrue (within o.raised (raisable o.body))) (none_raised (raisable (JobBody 0 1 [] false)));
 }
   where
     by_object : (k : ℕ) (o : Option Object) → get origin.objects k ≡ o → IsTrue (is_some o) → k < 2
     by_object k None is h = absurd (false≢true h)
-    by_object k (Some o) is h = root_alone (λ j x. j < 2) (λ x raised quiet. omega arith) k o is
+    by_object k (Some o) is h = root_alone (λ j x. j < 2) (omega arith) k o is
 
 pub boot_sound : (lib : Library) (statements : List Statement) (w : World) → IsBoot lib statements w → IsSound w
 boot_sound lib statements w boot = kept_by_settling boot.made w boot.settles (boots_sound lib origin statements boot.made origin_is_sound boot.boots)

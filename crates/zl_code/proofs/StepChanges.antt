@@ -4,6 +4,9 @@ use Rattle.std.specs.Option.{option_to_list}
 use Rattle.zl_rights.specs.declared.entry.Entry.{Entry}
 use Rattle.zl_rights.specs.declared.status.Status.{Status}
 use Rattle.zl_rights.specs.declared.status.Status.TheVariants as status
+use Rattle.zl_rights.specs.World.{Awaited}
+use Rattle.zl_code.specs.CallTable.{awaited_by}
+use Rattle.zl_code.specs.Effects.{waiting}
 use Rattle.zl_code.specs.declared.boot.Grant.{Grant}
 use Rattle.zl_code.specs.declared.boot.Statement.{Statement}
 use Rattle.zl_code.specs.declared.boot.Statement.TheVariants as statement
@@ -12,7 +15,7 @@ use Rattle.zl_code.specs.declared.history.Outcome.TheVariants as outcome
 use Rattle.zl_code.specs.declared.history.TraceItem.{TraceItem}
 use Rattle.zl_code.proofs.CanStart.{CanStart, can_start, handles_at_most, started_with_all, started_may_get}
 use Rattle.zl_code.proofs.MapKept.{changed}
-use Rattle.zl_code.proofs.Changes.{computes, Changes, stays, changes, settles, join, one, process_changes, process_ends, process_wakes, process_is_made, object_is_made, packet_goes, waits_fire}
+use Rattle.zl_code.proofs.Changes.{computes, Changes, stays, changes, settles, join, one, process_changes, process_ends, process_wakes, process_blocks, process_is_made, object_is_made, packet_goes, waits_fire}
 use Rattle.zl_code.proofs.Entering.{IsFine, all_enter, all_leave, left_behind}
 use Rattle.zl_code.proofs.CallLaws.{laws}
 
@@ -22,6 +25,10 @@ module _ (lib : Library) (w : World) (p : ℕ) (q : Process) (there : get w.proc
   reply_changes : (u : World) (s : Site) (answer : Status) (values : List ℕ) → Changes w u (replied u p s answer values)
   unfolding replied
   reply_changes u s answer values = one w u _ (process_changes w u p (λ x. record x { cpu = cpu_answered s answer values x.cpu }) (λ x at. changed x _ refl refl (computes _ refl)) (λ x. refl))
+
+  waiting_changes : (ds : List ℕ) (awaited : Option Awaited) → Changes w w (waiting w p ds awaited)
+  waiting_changes ds None = stays w
+  waiting_changes ds (Some awaited) = one w w _ (process_blocks w p q ds awaited there ready)
 
   refused_changes : (s : Site) (o : Outcome) → Changes w w (after_refusal w p s o)
   refused_changes s (outcome.Answered answer) = join w w (taken w p s) _ (all_leave w w p (taken_handles s.request)) (reply_changes (taken w p s) s answer (gives_refused w p s.request answer))
@@ -36,7 +43,7 @@ module _ (lib : Library) (w : World) (p : ℕ) (q : Process) (there : get w.proc
   ok_changes : (s : Site) (vs : List ℕ) (o : Outcome) → refusal lib w p s.request ≡ None → IsTrue (may_choose w (taken w p s) p s.request vs) → Changes w w (after_ok lib w p s vs o)
   ok_changes s vs (outcome.Answered answer) passes gets = join w w _ _ (done_changes s vs passes gets) (reply_changes _ s status.Ok (gives_ok w p s.request vs))
   ok_changes s vs (outcome.Ended code) passes gets = join w w _ _ (done_changes s vs passes gets) (one w _ _ (process_ends w _ p code))
-  ok_changes s vs outcome.Blocked passes gets = stays w
+  ok_changes s vs outcome.Blocked passes gets = waiting_changes s.destinations (awaited_by w p s.request)
 
   call_changes : (s : Site) (choice : Choice) (r : Option Outcome) (answer : Outcome) (w2 : World) → refusal lib w p s.request ≡ r → CallBy lib w p s choice r answer w2 → Changes w w w2
   call_changes s Refused None answer w2 is c = absurd c
@@ -129,7 +136,7 @@ given_are_fine w made (g ∷ gs) stay rights = by_object (get w.objects g.koid) 
 pub boot_changes : (lib : Library) (w : World) (s : Statement) (vs : List ℕ) → HasGivenKoids w → boot_fault lib w s ≡ None → IsTrue (may_boot lib w s vs) → Changes w w (boot_effect lib w s vs)
 unfolding boot_effect with_object
 boot_changes lib w (statement.Process job program word handles) vs given fine may =
-    changes w made _ (object_is_made w w (ProcessBody job) refl)
+    changes w made _ (object_is_made w w (ProcessBody job) refl tt)
     (changes made begun _ (process_is_made w made w.next_koid first (record {
       free = λ s. no_process s (get w.processes w.next_koid) refl;
       given = omega arith;

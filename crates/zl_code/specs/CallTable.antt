@@ -1,6 +1,6 @@
 -- The table of calls, column by column: all that the definitions say of one call alone, beside its row of the table of instructions.
 use Rattle.std.specs.Prelude.{ℕ, ◌+◌, ◌^◌, ◌&&◌, ◌||◌, not, nat_le, List, [], ◌∷◌, ◌++◌, length, Option, Some, None}
-use Rattle.zl_rights.specs.Common.{World, ChannelEnd, EventBody, has_key, is_empty}
+use Rattle.zl_rights.specs.Common.{World, ChannelEnd, EventBody, PortBody, has_key, is_empty}
 use Rattle.zl_rights.specs.declared.kind.Kind.TheVariants as kind
 use Rattle.zl_rights.specs.declared.status.Status.{Status}
 use Rattle.zl_rights.specs.declared.status.Status.TheVariants as status
@@ -14,6 +14,7 @@ use Rattle.zl_code.specs.declared.history.Outcome.TheVariants as outcome
 use Rattle.zl_code.specs.Image.{Library}
 use Rattle.zl_code.specs.Tests.{answer_if, entry_at, object_at, body_of, may_change, has_room, has_koids, copy_of, contains, is_too_large, has_place_for, peer_at, queue_at, first_bytes, first_handles, sizes_of, entries_at}
 use Rattle.zl_code.specs.Effects.{on_object, with_object, new_entry, object_changed, message_sent, message_read, told_of, without_waits, signed_word}
+use Rattle.zl_code.specs.Waiting.{is_mask, active_at, is_active_at, signal_awaited, may_register, wait_of, registered, without_keyed, packets_at, is_full, packet_awaited, first_values, source_at, is_cancelled, packet_queued, packet_taken, packets_cancelled}
 
 -- ---- what it asks for
 
@@ -29,6 +30,16 @@ pub data Request : Type 0 where
   chan_read_etc : (c address room places : ℕ) → Request
   event_create : Request
   signal : (h clear set : ℕ) → Request
+  signal_peer : (h clear set : ℕ) → Request
+  wait_one : (h mask : ℕ) → Request
+  wait_poll : (h mask : ℕ) → Request
+  wait_async : (h port key mask : ℕ) → Request
+  port_create : Request
+  port_queue : (port key value : ℕ) → Request
+  port_wait : (port : ℕ) → Request
+  port_poll : (port : ℕ) → Request
+  -- the packets are those that came by the handle source
+  port_cancel : (port source key : ℕ) → Request
   process_exit : (code : ℕ) → Request
 
 -- the request of a call, from the values of its operands and the number in the instruction; a call that isn't listed here isn't built yet
@@ -50,6 +61,15 @@ asks (chan_write c bytes hs) = (68, c ∷ [])
 asks (chan_read_etc c address room places) = (69, c ∷ [])
 asks event_create = (70, [])
 asks (signal h clear set) = (71, h ∷ [])
+asks (signal_peer h clear set) = (72, h ∷ [])
+asks (wait_one h mask) = (73, h ∷ [])
+asks (wait_poll h mask) = (74, h ∷ [])
+asks (wait_async h port key mask) = (75, h ∷ port ∷ [])
+asks port_create = (76, [])
+asks (port_queue port key value) = (77, port ∷ [])
+asks (port_wait port) = (78, port ∷ [])
+asks (port_poll port) = (79, port ∷ [])
+asks (port_cancel port source key) = (80, port ∷ source ∷ [])
 asks (process_exit code) = (83, [])
 
 -- the values of the handles in its list, where it has one
@@ -89,6 +109,34 @@ listed lib w p event_create =
 listed lib w p (signal h clear set) =
     answer_if (not (may_change (body_of w (object_at w p h)) clear set)) status.InvalidArgs
     ∷ []
+listed lib w p (signal_peer h clear set) =
+    answer_if (not (may_change (body_of w (object_at w p h)) clear set)) status.InvalidArgs
+    ∷ answer_if (not (has_key w.objects (peer_at w p h))) status.PeerClosed
+    ∷ []
+listed lib w p (wait_one h mask) =
+    answer_if (not (is_mask mask)) status.InvalidArgs
+    ∷ []
+listed lib w p (wait_poll h mask) =
+    answer_if (not (is_mask mask)) status.InvalidArgs
+    ∷ answer_if (not (is_active_at w p h mask)) status.TimedOut
+    ∷ []
+listed lib w p (wait_async h port key mask) =
+    answer_if (not (is_mask mask)) status.InvalidArgs
+    ∷ answer_if (not (may_register w)) status.NoResources
+    ∷ []
+listed lib w p port_create =
+    answer_if (not (has_room w p 1 && has_koids w 1)) status.NoResources
+    ∷ []
+listed lib w p (port_queue port key value) =
+    answer_if (is_full (packets_at w p port)) status.ShouldWait
+    ∷ []
+listed lib w p (port_wait port) = []
+listed lib w p (port_poll port) =
+    answer_if (is_empty (packets_at w p port)) status.TimedOut
+    ∷ []
+listed lib w p (port_cancel port source key) =
+    answer_if (not (is_cancelled w p port source key)) status.NotFound
+    ∷ []
 listed lib w p (process_exit code) = []
 
 -- ---- the handles that it makes
@@ -100,6 +148,7 @@ new_handles w p (replace h rights) = copy_of (entry_at w p h) rights
 new_handles w p chan_create = new_entry w.next_koid kind.Channel ∷ new_entry (w.next_koid + 1) kind.Channel ∷ []
 new_handles w p (chan_read_etc c address room places) = first_handles (queue_at w p c)
 new_handles w p event_create = new_entry w.next_koid kind.Event ∷ []
+new_handles w p port_create = new_entry w.next_koid kind.Port ∷ []
 new_handles w p _ = []
 
 -- the process whose table new handles enter; the caller's, at each call of today
@@ -131,6 +180,16 @@ effect lib w taken p (chan_write c bytes hs) =
 effect lib w taken p (chan_read_etc c address room places) = on_object taken (object_at w p c) message_read
 effect lib w taken p event_create = with_object taken EventBody
 effect lib w taken p (signal h clear set) = on_object taken (object_at w p h) (object_changed clear set)
+effect lib w taken p (signal_peer h clear set) = on_object taken (peer_at w p h) (object_changed clear set)
+effect lib w taken p (wait_one h mask) = taken
+effect lib w taken p (wait_poll h mask) = taken
+effect lib w taken p (wait_async h port key mask) = registered taken (wait_of w p h port key mask)
+effect lib w taken p port_create = with_object taken (PortBody [])
+effect lib w taken p (port_queue port key value) = on_object taken (object_at w p port) (packet_queued key value)
+effect lib w taken p (port_wait port) = on_object taken (object_at w p port) packet_taken
+effect lib w taken p (port_poll port) = on_object taken (object_at w p port) packet_taken
+effect lib w taken p (port_cancel port source key) =
+    on_object (without_keyed taken p source (object_at w p port) key) (object_at w p port) (packets_cancelled (source_at w p source) key)
 effect lib w taken p (process_exit code) = taken
 
 -- the bytes that the call stores in its caller's memory, and the address of the first
@@ -144,15 +203,22 @@ stored_by w p request = (0, [])
 unfoldable pub gives_ok : World → ℕ → Request → List ℕ → List ℕ
 gives_ok w p (replace h rights) vs = h ∷ []
 gives_ok w p (chan_read_etc c address room places) vs = sizes_of (queue_at w p c) ++ told_of (first_handles (queue_at w p c)) vs
+gives_ok w p (wait_one h mask) vs = active_at w p h ∷ []
+gives_ok w p (wait_poll h mask) vs = active_at w p h ∷ []
+gives_ok w p (port_wait port) vs = first_values (packets_at w p port)
+gives_ok w p (port_poll port) vs = first_values (packets_at w p port)
 gives_ok w p request vs = vs
 
 -- the same where it is refused with the status
 unfoldable pub gives_refused : World → ℕ → Request → Status → List ℕ
 gives_refused w p (chan_read_etc c address room places) status.BufferTooSmall = sizes_of (queue_at w p c)
+gives_refused w p (wait_poll h mask) status.TimedOut = active_at w p h ∷ []
 gives_refused w p request answer = []
 
--- what the caller waits for, if the call blocks; no call of today does
+-- what the caller waits for, if the call blocks
 abbrev pub awaited_by : World → ℕ → Request → Option Awaited
+awaited_by w p (wait_one h mask) = signal_awaited w p h mask
+awaited_by w p (port_wait port) = packet_awaited (object_at w p port) (packets_at w p port)
 awaited_by w p request = None
 
 -- how a call ends that isn't refused: it blocks if there is something to wait for

@@ -1,6 +1,6 @@
 -- What is true of every world of a run from a boot world, and what no step changes of a process.
-use Rattle.std.specs.Prelude.{ℕ, ◌≡◌, ◌≤◌, ◌<◌, Bool, true, false, ◌&&◌, ◌==◌, nat_lt, [], length, Option, Some, None, if◌then◌else◌, IsTrue}
-use Rattle.zl_rights.specs.Common.{within, Map, get, has_key, World, Process, State, Blocked, Object, Body, PortBody, ProcessBody, lives, runs, is_process}
+use Rattle.std.specs.Prelude.{ℕ, ◌≡◌, ◌≤◌, ◌<◌, ⊤, Bool, true, false, ◌&&◌, ◌==◌, nat_lt, [], length, Option, Some, None, if◌then◌else◌, IsTrue}
+use Rattle.zl_rights.specs.Common.{within, Map, get, has_key, World, Process, State, Blocked, Object, Body, ChannelEnd, PortBody, ProcessBody, lives, runs, is_process}
 use Rattle.std.specs.List.{filter}
 use Rattle.zl_rights.specs.declared.entry.Entry.{Entry}
 use Rattle.zl_code.specs.Tests.{body_in, settable_of}
@@ -37,6 +37,17 @@ abbrev pub raisable : Body → ℕ
 raisable (PortBody packets) = 0
 raisable b = settable_of (Some b)
 
+-- it is a channel end, if it is there
+abbrev pub is_end_if_there : Option Body → Bool
+is_end_if_there None = true
+is_end_if_there (Some (ChannelEnd peer queue)) = true
+is_end_if_there _ = false
+
+-- the peer of a channel end has a koid that was given, and is an end while it is there
+abbrev pub HasPeer : Map Object → ℕ → Body → Type 0
+HasPeer objects next_koid (ChannelEnd peer queue) = (peer < next_koid) × IsTrue (is_end_if_there (body_in (get objects peer)))
+HasPeer objects next_koid _ = ⊤
+
 -- What is true of every world of a run from a boot world.
 pub record IsSound (w : World) : Type 0 where
   -- each handle has a place of its own, and rights that a first handle of its kind has
@@ -53,6 +64,8 @@ pub record IsSound (w : World) : Type 0 where
   pub living : (p : ℕ) (q : Process) → get w.processes p ≡ Some q → IsTrue (lives q.state) → HasItsObject w.objects p
   -- the list of the blocked has each blocked process once, and nothing else
   pub blocked : (p : ℕ) → length (filter (λ q. q == p) w.blocked) ≡ (if is_process w is_blocked p then 1 else 0)
+  -- the peers of channel ends
+  pub peers : (k : ℕ) (o : Object) → get w.objects k ≡ Some o → HasPeer w.objects w.next_koid o.body
   -- no signal is raised that no call could have set
   pub raised : (k : ℕ) (o : Object) → get w.objects k ≡ Some o → IsTrue (within o.raised (raisable o.body))
 

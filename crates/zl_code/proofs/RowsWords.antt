@@ -1,12 +1,14 @@
 -- Small worlds for worked examples, and what is told of them.
-use Rattle.zl_code.proofs.Common.{◌≡◌, refusal, Request, ℕ, zero, suc, List, [], ◌∷◌, ◌++◌, take, replicate, Option, Some, None, true, false, rights_of, Map, get, World, Process, State, Ready, EventBody, JobBody, ProcessBody, Library}
+use Rattle.zl_code.proofs.Common.{◌≡◌, refusal, Request, Site, Choice, ℕ, zero, suc, List, [], ◌∷◌, ◌++◌, take, replicate, Option, Some, None, true, false, rights_of, Map, get, World, Process, State, Ready, EventBody, JobBody, ProcessBody, Library}
+use Rattle.zl_rights.specs.declared.kind.Kind.{Kind}
 use Rattle.zl_rights.specs.declared.kind.Kind.TheVariants as kind
 use Rattle.zl_rights.specs.declared.policy.Action.{Action}
 use Rattle.zl_rights.specs.declared.entry.Entry.{Entry}
 use Rattle.zl_code.specs.declared.instr.Instr.{Instr}
+use Rattle.zl_code.specs.declared.history.CallName.{CallName}
 use Rattle.zl_code.specs.declared.history.TraceItem.{TraceItem}
 use Rattle.zl_code.specs.declared.history.Outcome.{Outcome}
-use Rattle.zl_code.proofs.Running.{Acted}
+use Rattle.zl_code.proofs.Running.{Acted, call_by, settle_by}
 
 -- ---- what is told
 
@@ -43,6 +45,15 @@ last_of w p = last_in (get w.processes p)
 abbrev pub after : World → Acted → World
 after w None = w
 after w (Some (x, w2)) = w2
+
+-- the item of a turn
+abbrev pub item_of : Acted → Option TraceItem
+item_of None = None
+item_of (Some (x, w)) = Some x
+
+-- the process p does the call at these registers, with this choice
+abbrev pub turn_of : ℕ → CallName → Site → World → Choice → Acted
+turn_of p call s w choice = settle_by 4 (call_by [] w p call s choice (refusal [] w p s.request))
 
 -- process 2 of the world is refused so
 abbrev pub Refuses : World → Request → Outcome → Type 0
@@ -83,6 +94,10 @@ world_of policy process = record {
   next_koid = 4;
   waits_made = 0;
 }
+
+-- a handle with these rights to the object k, which is of the kind
+abbrev pub entry_of : Kind → ℕ → ℕ → Entry
+entry_of kind k rights = record { koid = k; kind = kind; rights = rights_of rights }
 
 -- a handle to event 3
 abbrev pub event_with : ℕ → Entry

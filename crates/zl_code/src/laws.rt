@@ -17,6 +17,7 @@ ghost use Rattle.zl_code.specs.Boot.{IsBoot};
 ghost use Rattle.zl_code.specs.Koids.{HasGivenKoids, KeepsKoids};
 ghost use Rattle.zl_code.specs.Handles.{HandlesAreNamed, HandlesAreSound, Throughout};
 ghost use Rattle.zl_code.specs.Effects.{may_get};
+ghost use Rattle.zl_code.specs.Frame.{LeavesOthers};
 ghost use Rattle.zl_code.specs.Sound.{IsSound, KeepsProcesses, is_value};
 
 /// No bytes spell two images.
@@ -109,7 +110,8 @@ pub fn runs_keep_handles_named()
         → IsBoot lib statements boot → Runs lib boot items after → HandlesAreNamed after }
 {}
 
-/// In every world of a legal history from a boot world, the last one too, each handle names such an object.
+/// In every world of a legal history from a boot world, the last one too, each handle names such an
+/// object.
 pub fn histories_keep_handles_named()
     ensures { (lib : Library) (statements : List Statement) (boot after : World) (history : List TraceItem)
         → IsBoot lib statements boot → (legal : IsLegalHistory lib boot history after)
@@ -157,6 +159,18 @@ pub fn processes_stay()
 /// From any point of a run that begins at a boot world, in the rest of the run no process vanishes, and
 /// none changes its program.
 pub fn runs_keep_processes()
-    ensures { (lib : Library) (statements : List Statement) (boot w after : World) (items more : List TraceItem)
-        → IsBoot lib statements boot → Runs lib boot items w → Runs lib w more after → KeepsProcesses w after }
+    ensures { (lib : Library) (statements : List Statement) (boot w after : World)
+        (items more : List TraceItem)
+        → IsBoot lib statements boot → Runs lib boot items w → Runs lib w more after
+        → KeepsProcesses w after }
+{}
+
+/// In each world of a run from a boot world, the step of a process leaves every other living process as
+/// it was, unless it wakes it or leaves it dropped before its start; it keeps each object that the table
+/// of such a process names, and the policy of each job that such a process is in or below.
+pub fn frame()
+    ensures { (lib : Library) (statements : List Statement) (boot w after : World)
+        (items : List TraceItem) (p : ℕ) (x : TraceItem)
+        → IsBoot lib statements boot → Runs lib boot items w
+        → Step lib w p x after → LeavesOthers w p after }
 {}

@@ -7,22 +7,14 @@
 //! that what is written is the answer to what was read.
 #![tactic(auto)]
 
-#[cfg(test)]
-mod assembler_tests;
 mod assembling;
-#[cfg(test)]
-mod boot_tests;
 mod engine;
 mod fault;
 mod hints;
-#[cfg(test)]
-mod image_tests;
 mod input;
 mod output;
 mod scenario;
 mod system;
-#[cfg(test)]
-mod tests;
 mod text;
 mod told;
 mod words;

@@ -149,15 +149,3 @@ pub fn help<S: AsStr>(alloc: Global, words: &[S]) -> Result<Option<String>, Allo
         _ => Ok(None),
     }
 }
-
-#[cfg(test)]
-mod tests {
-    use super::*;
-
-    #[test]
-    fn leaves_help_to_its_own_function(rt: HostRuntime) {
-        for word in ["help", "--help", "-V"] {
-            assert_eq!(rt; words(rt.alloc(), &[word]), Err(WordFault::Usage), "{word}");
-        }
-    }
-}

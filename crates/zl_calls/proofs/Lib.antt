@@ -18,6 +18,7 @@ pub mod Written
 pub mod Stopped
 pub mod Done
 pub mod Grown
+pub mod TakenCalls
 pub mod HandleCalls
 pub mod EventCalls
 pub mod ProcessCalls

@@ -47,7 +47,7 @@ module _ {X : Type 0} where
   pub count_without : (test : ℕ × X → Bool) (m : Map X) (k : ℕ) (x : X) → IsTrue (is_sorted nat_cmp m) → get m k ≡ Some x → count_by test m ≡ count_by test (without m k) + cond (test (k, x)) 1 0
   count_without test = sum_without (λ e. cond (test e) 1 0)
 
-  sum_update : (n : ℕ × X → ℕ) (m : Map X) (k c : ℕ) (x : X) (f : X → X) → get m k ≡ Some x → n (k, f x) ≡ n (k, x) + c → sum_by n (update m k f) ≡ sum_by n m + c
+  pub sum_update : (n : ℕ × X → ℕ) (m : Map X) (k c : ℕ) (x : X) (f : X → X) → get m k ≡ Some x → n (k, f x) ≡ n (k, x) + c → sum_by n (update m k f) ≡ sum_by n m + c
   unfolding get update
   sum_update n [] k c x f there more = absurd (none-some x there)
   sum_update n (e ∷ m) k c x f there more = elim (cases_Bool (e.0 == k)) as (λ _. sum_by n (update (e ∷ m) k f) ≡ sum_by n (e ∷ m) + c) [

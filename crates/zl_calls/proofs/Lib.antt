@@ -1,5 +1,6 @@
 pub mod Common
 pub mod Slots
+pub mod Listing
 pub mod Tables
 pub mod Taking
 pub mod Places
@@ -19,8 +20,10 @@ pub mod Stopped
 pub mod Done
 pub mod Grown
 pub mod TakenCalls
+pub mod Queued
 pub mod HandleCalls
 pub mod EventCalls
+pub mod WriteCalls
 pub mod ProcessCalls
 pub mod Performed
 pub mod Performing

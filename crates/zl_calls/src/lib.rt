@@ -14,6 +14,7 @@ mod program;
 mod running;
 mod stepping;
 mod world;
+mod writing;
 
 pub use cpu::Cpu;
 pub use program::{Library, Program};

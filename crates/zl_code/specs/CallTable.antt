@@ -42,14 +42,15 @@ pub data Request : Type 0 where
   port_cancel : (port source key : ℕ) → Request
   process_exit : (code : ℕ) → Request
 
--- the request of a call, from the values of its operands and the number in the instruction; a call that isn't listed here isn't built yet
-abbrev pub request_of : CallName → List ℕ → ℕ → Option Request
-request_of name.Close (h ∷ []) number = Some (close h)
-request_of name.Dup (h ∷ []) number = Some (dup h number)
-request_of name.EventCreate [] number = Some event_create
-request_of name.Signal (h ∷ clear ∷ set ∷ []) number = Some (signal h clear set)
-request_of name.ProcessExit (code ∷ []) number = Some (process_exit code)
-request_of _ operands number = None
+-- the request of a call, from the values of its operands, the number in the instruction, and the bytes and the handles that a message is to have; a call that isn't listed here isn't built yet
+abbrev pub request_of : CallName → List ℕ → ℕ → (bytes hs : List ℕ) → Option Request
+request_of name.Close (h ∷ []) number bytes hs = Some (close h)
+request_of name.Dup (h ∷ []) number bytes hs = Some (dup h number)
+request_of name.ChanWrite (c ∷ address ∷ size ∷ []) number bytes hs = Some (chan_write c bytes hs)
+request_of name.EventCreate [] number bytes hs = Some event_create
+request_of name.Signal (h ∷ clear ∷ set ∷ []) number bytes hs = Some (signal h clear set)
+request_of name.ProcessExit (code ∷ []) number bytes hs = Some (process_exit code)
+request_of _ operands number bytes hs = None
 
 -- the row of a request, by its opcode, and the values of its handle operands from left to right, without those of a list
 abbrev pub asks : Request → ℕ × List ℕ

@@ -73,6 +73,7 @@ pub record WritesMessage (t : Handles) (r : Objects) (channel : ℕ) (bytes hs :
   pub is_end : looked_up t.entries channel (kind.Channel ∷ []) WRITE ≡ Ok end
   pub peer : ℕ
   pub is_peer : peer_at r.objects end.koid ≡ Some peer
+  pub there : IsTrue (is_end_at r.objects peer)
   pub table : t2 ≡ without_handles t hs
   pub objects : r2 ≡ sending r peer (record { bytes = bytes; handles = taken_from t hs })
 

@@ -1,5 +1,5 @@
 -- The calls on events, event_create and signal, each from its table and objects to a step.
-use Rattle.zl_calls.proofs.Common.{◌≡◌, ◌+◌, ◌^◌, ℕ, Bool, true, false, not, ◌&&◌, ◌==◌, List, [], ◌∷◌, map, refl, sym, ap, ◌∙◌, cond, Option, Some, None, IsTrue, nat_le, if◌then◌else◌, map-append, then_some, first_some, Map, get, put, Ready, EventBody, Library, Site, site, event_create, examined, has_room, has_koids, handles_to, table_of, answer_if, row_of, refusal, handle_operands, listed, may_choose, new_handles, insert_all, remove_all, taken_handles, effect, with_effect, with_object, gives_ok, gives_refused, AtCall, next_for, Values, replied, taken, Ok, Err, ⊤, option_or, bits, within, SIGNAL, kind_of, signal, body_of, body_in, operand_of, by_look_up, operand, any, cpu_answered, new_entry, on_object, object_changed, Objects, new_object, with_new, raised_changed, changing, IsAnswered, told_by, one_value, Replies, has_room_in, no_value, process_entry, process_value, object_entry, state_value, world_value, object_value, body_value, IsConsistent, IsNamed, koid_in, runs, settable_of, may_change, World}
+use Rattle.zl_calls.proofs.Common.{◌≡◌, ◌+◌, ◌^◌, ℕ, Bool, true, false, not, ◌&&◌, ◌==◌, List, [], ◌∷◌, map, refl, sym, ap, ◌∙◌, cond, Option, Some, None, IsTrue, nat_le, if◌then◌else◌, arith, count_by, sum_by-cons, then_some, first_some, Map, get, Ready, EventBody, Library, Site, site, event_create, examined, has_room, has_koids, handles_to, table_of, answer_if, row_of, refusal, handle_operands, listed, may_choose, new_handles, insert_all, remove_all, taken_handles, effect, with_effect, with_object, gives_ok, gives_refused, AtCall, next_for, Values, replied, taken, Ok, Err, ⊤, option_or, bits, within, SIGNAL, kind_of, signal, body_of, body_in, operand_of, by_look_up, operand, any, cpu_answered, new_entry, on_object, object_changed, Objects, new_object, with_new, raised_changed, changing, IsAnswered, told_by, one_value, Replies, has_room_in, no_value, process_entry, process_value, object_entry, state_value, world_value, object_value, body_value, IsConsistent, IsNamed, koid_in, runs, settable_of, may_change, World}
 use Rattle.zl_code.proofs.Common.{Object as ObjectValue}
 use Rattle.zl_rights.specs.declared.kind.Kind.TheVariants as kind
 use Rattle.zl_rights.specs.declared.status.Status.TheVariants as status
@@ -15,14 +15,13 @@ use Rattle.zl_calls.specs.declared.process.Process.{Process}
 use Rattle.zl_calls.specs.calls.Event.{CreatesEvent, EventCreateDoes, event_refusal, SignalsObject, SignalDoes, signal_refusal, signal_refusal_of, settable_at, may_change_at}
 use Rattle.zl_calls.proofs.Answered.{IsWrite, table_is, may_get_inserted, replied_inserted, replied_with}
 use Rattle.zl_calls.proofs.Done.{IsDone, IsCalled, answered_done}
-use Rattle.zl_calls.proofs.Grown.{grown_next, there_grown}
-use Rattle.zl_calls.proofs.Counting.{queues_grown, queues_updated}
-use Rattle.zl_calls.proofs.Labs.{no_policy, given}
+use Rattle.zl_calls.proofs.Grown.{IsGrowing, entered_next, grown_named, grown_one, grown_seen, growing_none, there_grown}
+use Rattle.zl_calls.proofs.Counting.{queues_updated}
+use Rattle.zl_calls.proofs.Labs.{no_policy}
 use Rattle.zl_calls.proofs.Refused.{NoPolicy, answers, may_create, fault_answers}
 use Rattle.zl_calls.proofs.Updates.{update_seen, update_itself}
 use Rattle.zl_calls.proofs.Written.{IsNext, keeps_inserted, inserted_counts, keeps_table, same_counts, updated_next}
 use Rattle.zl_objects.proofs.Bodies.{alone_updated}
-use Rattle.zl_objects.proofs.ByKoid.{put_last}
 use Rattle.zl_objects.proofs.Law.{get_seen, kept_all}
 
 -- ---- the answer of event_create
@@ -99,10 +98,7 @@ module _ (lib : Library) (before after : List Process) (r r2 : Objects) (p p2 : 
 
       create_rest : (record with_event { processes = map process_entry after }) ≡ world_value after r2
       unfolding with_object
-      create_rest = rw creates.objects (ap (λ (os : Map ObjectValue). record w { processes = map process_entry after; objects = os; next_koid = n + 1 }) objects_are)
-        where
-          objects_are : put w.objects n (record { body = EventBody; raised = 0 }) ≡ map object_entry grown.objects
-          objects_are = put_last w.objects n (record { body = EventBody; raised = 0 }) (given before r lab) ∙ sym (map-append object_entry r.objects ((n, fresh) ∷ []))
+      create_rest = rw creates.objects (ap (λ (os : Map ObjectValue). record w { processes = map process_entry after; objects = os; next_koid = n + 1 }) (grown_seen r body.Event 1 lab.given_objects))
 
       create_chosen : IsTrue (may_choose w (taken w p.pid create_site) p.pid event_create (made ∷ []))
       unfolding taken_handles handle_operands row_of remove_all may_choose new_handles
@@ -114,17 +110,23 @@ module _ (lib : Library) (before after : List Process) (r r2 : Objects) (p p2 : 
 
       -- ---- the invariant
 
-      create_counts : (j : ℕ) → handles_to (world_value after grown) j ≡ handles_to (world_value before r) j + cond (n == j) 1 0
-      create_counts j = inserted_counts before after p p2 write entry made creates.inserts r grown j (queues_grown r body.Event 1 j refl)
+      create_counts : (j : ℕ) → handles_to (world_value after grown) j ≡ handles_to (world_value before grown) j + count_by (λ (h : ℕ × Entry). h.1.koid == j) ((made, entry) ∷ [])
+      create_counts j = omega (arith, inserted_counts before after p p2 write entry made creates.inserts grown grown j refl, sum_by-cons (λ (h : ℕ × Entry). cond (h.1.koid == j) 1 0) (made, entry) [])
+
+      growing : IsGrowing before ((made, entry) ∷ []) grown
+      growing = grown_one before [] r (growing_none before r lab) body.Event (λ j. refl) (λ not. not runs) refl refl creates.koid refl (made, entry) refl
+
+      create_next : IsNext before after r grown
+      create_next = entered_next before after ((made, entry) ∷ []) r grown growing (omega arith) (grown_named before [] r (growing_none before r lab) body.Event) create_counts
 
       entry_named : IsNamed grown.objects entry
-      entry_named = record { object = fresh; there = there_grown before r lab body.Event; kind = refl; rights = refl }
+      entry_named = record { object = fresh; there = there_grown before [] r (growing_none before r lab) body.Event; kind = refl; rights = refl }
 
       event_create_called : IsCalled lib before after r r2 p.pid create_site (outcome.Answered status.Ok)
       unfolding gives_ok
       event_create_called = record {
         calls = (Values (made ∷ []), rw (create_refused, creates.unrefused) (create_chosen, refl, create_ends));
-        keeps = rw creates.objects (keeps_inserted before after p p2 write entry made creates.inserts r grown lab (ap (λ (q : Process). q.state) replies) creates.room entry_named (grown_next before r lab body.Event after (λ j. refl) (λ not. not runs) refl refl creates.koid create_counts));
+        keeps = rw creates.objects (keeps_inserted before after p p2 write entry made creates.inserts r grown lab (ap (λ (q : Process). q.state) replies) creates.room entry_named create_next);
       }
 
     -- ---- the step

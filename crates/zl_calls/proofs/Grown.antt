@@ -1,5 +1,5 @@
--- One object more, with one handle: what the invariant says of the objects.
-use Rattle.zl_calls.proofs.Common.{◌≡◌, ◌<◌, ◌+◌, ◌^◌, ℕ, Bool, true, false, ◌||◌, ◌==◌, List, [], ◌∷◌, ◌++◌, map, refl, sym, ap, ◌∙◌, subst, cond, Option, Some, None, inl, inr, IsTrue, arith, eq-eqb, if◌then◌else◌, is_some, list_any, cases_Bool, eqb-true, false≢true, same_Some, Map, get, put, is_process, state_passes, All, All-nil, has_living_child, handles_to, get-put, sorted_put, put_key, Objects, new_object, with_new, is_kept, stays_alone, lives_below, is_job_at, is_job_in, process_entry, world_value, IsConsistent, AreNamed, IsNamed, Agrees, is_in_job}
+-- One object more, with one handle that is to enter a table: what the invariant says of both.
+use Rattle.zl_calls.proofs.Common.{◌≡◌, ◌<◌, ◌≤◌, ◌+◌, ◌^◌, ℕ, Bool, true, false, ◌||◌, ◌==◌, List, [], ◌∷◌, ◌++◌, map, refl, sym, ap, ◌∙◌, subst, cond, Option, Some, None, inl, inr, IsTrue, arith, eq-eqb, if◌then◌else◌, is_some, list_any, count_by, sum_by-cons, cases_Bool, eqb-true, false≢true, same_Some, Map, get, put, has_key, is_process, map-append, state_passes, All, All-nil, has_living_child, handles_to, get-put, sorted_put, put_key, queued_to, body_value, Objects, AreKeptBut, new_object, with_new, is_kept, stays_alone, lives_below, is_job_at, is_job_in, object_entry, object_value, process_entry, world_value, IsConsistent, IsSound, AreNamed, IsNamed, Agrees, is_in_job}
 use Rattle.zl_code.proofs.Common.{Process as ProcessValue, State as StateValue}
 use Rattle.zl_rights.specs.declared.entry.Entry.{Entry}
 use Rattle.zl_objects.specs.declared.object.Body.{Body}
@@ -9,9 +9,10 @@ use Rattle.zl_calls.specs.declared.process.Process.{Process}
 use Rattle.zl_rights.specs.World.{Message}
 use Rattle.zl_objects.specs.Objects.{queue_of}
 use Rattle.zl_objects.proofs.ByKoid.{put_last}
-use Rattle.zl_objects.proofs.Law.{kept_all}
+use Rattle.zl_objects.proofs.Law.{has_seen, kept_all}
 use Rattle.zl_calls.proofs.Counted.{never_named}
-use Rattle.zl_calls.proofs.SameBodies.{kept_each, still_named}
+use Rattle.zl_calls.proofs.Counting.{queues_grown, same_tables}
+use Rattle.zl_calls.proofs.SameBodies.{kept_each, still_agrees, still_named}
 use Rattle.zl_calls.proofs.Settled.{sound_of}
 use Rattle.zl_calls.proofs.Written.{IsNext}
 
@@ -19,12 +20,36 @@ any_behind : {X : Type 0} (test : X → Bool) (xs : List X) (x : X) → test x �
 any_behind test [] x out = rw out refl
 any_behind test (y ∷ xs) x out = ap (λ b. test y || b) (any_behind test xs x out)
 
-module _ (ps : List Process) (r : Objects) (lab : IsConsistent ps r) where
-  given_key : (k : ℕ) (o : Object) → get r.objects k ≡ Some o → k < r.next_koid
-  given_key k o at = lab.given_objects k (rw at refl)
+-- what is seen of the objects with a new one
+pub grown_seen : (r : Objects) (b : Body) (handles : ℕ) → ((k : ℕ) → IsTrue (has_key r.objects k) → k < r.next_koid) → put (map object_entry r.objects) r.next_koid (object_value (new_object b handles)) ≡ map object_entry (with_new r b handles).objects
+grown_seen r b handles given =
+    put_last (map object_entry r.objects) r.next_koid (object_value (new_object b handles)) (λ k there. given k (sym (has_seen r.objects k) ∙ there))
+    ∙ sym (map-append object_entry r.objects ((r.next_koid, new_object b handles) ∷ []))
 
-  unnamed : handles_to (world_value ps r) r.next_koid ≡ 0
-  unnamed = never_named ps [] r (sound_of ps r lab) r.next_koid (λ there. omega (arith, lab.given_objects r.next_koid there))
+-- where no message is, no handle is
+none_queued : (j : ℕ) (b : Body) → queue_of b ≡ [] → ◌≡◌ {A = ℕ} (queued_to j (body_value b)) 0
+none_queued j body.RootJob empty = refl
+none_queued j (body.Process job lives) empty = refl
+none_queued j body.Event empty = refl
+none_queued j (body.ChannelEnd peer queue) empty = rw empty refl
+
+-- the invariant, where the handles m count and are to enter a table
+pub record IsGrowing (ps : List Process) (m : Map Entry) (r : Objects) : Type 0 where
+  pub sound : IsSound ps m r
+  pub kept : AreKeptBut [] r.objects
+
+pub growing_none : (ps : List Process) (r : Objects) → IsConsistent ps r → IsGrowing ps [] r
+growing_none ps r lab = record { sound = sound_of ps r lab; kept = lab.kept }
+
+module _ (ps : List Process) (m : Map Entry) (r : Objects) (growing : IsGrowing ps m r) where
+  abbrev sound : IsSound ps m r
+  sound = growing.sound
+
+  given_key : (k : ℕ) (o : Object) → get r.objects k ≡ Some o → k < r.next_koid
+  given_key k o at = sound.given_objects k (rw at refl)
+
+  unnamed : ◌≡◌ {A = ℕ} (handles_to (world_value ps r) r.next_koid) 0
+  unnamed = never_named ps m r sound r.next_koid (λ there. omega (arith, sound.given_objects r.next_koid there))
 
   -- ---- the new object
 
@@ -39,10 +64,10 @@ module _ (ps : List Process) (r : Objects) (lab : IsConsistent ps r) where
     grown = with_new r b 1
 
     grown_is : put r.objects n fresh ≡ grown.objects
-    grown_is = put_last r.objects n fresh lab.given_objects
+    grown_is = put_last r.objects n fresh sound.given_objects
 
     get_grown : (j : ℕ) → get grown.objects j ≡ (if n == j then Some fresh else get r.objects j)
-    get_grown j = ap (λ (m : Map Object). get m j) (sym grown_is) ∙ get-put r.objects n fresh j
+    get_grown j = ap (λ (os : Map Object). get os j) (sym grown_is) ∙ get-put r.objects n fresh j
 
     -- an object afterwards is the new one, or was there before
     pub found_grown : (A : Type 0) (j : ℕ) (q : Object) → get grown.objects j ≡ Some q → (IsTrue (n == j) → fresh ≡ q → A) → ((n == j) ≡ false → get r.objects j ≡ Some q → A) → A
@@ -76,54 +101,61 @@ module _ (ps : List Process) (r : Objects) (lab : IsConsistent ps r) where
       where
         by_process : (o : Option ProcessValue) → get (map process_entry ps) n ≡ o → state_passes test o ≡ false
         by_process None is = refl
-        by_process (Some q) is = absurd (omega (arith, lab.given_processes n (rw is refl)))
+        by_process (Some q) is = absurd (omega (arith, sound.given_processes n (rw is refl)))
 
-    -- what it is neither runs nor is a living child of a job, no message is in it, and a handle names it
-    module _ (after : List Process) (childless : (j : ℕ) → lives_below j b ≡ false) (quiet : ((test : StateValue → Bool) → is_process (world_value ps r) test n ≡ false) → Agrees (world_value ps r) n b) (empty : queue_of b ≡ []) (in_job : IsTrue (is_in_job grown.objects b)) (koid : n < 2 ^ 62)
-        (counts : (j : ℕ) → handles_to (world_value after grown) j ≡ handles_to (world_value ps r) j + cond (n == j) 1 0) where
-      pub grown_next : IsNext ps after r grown
-      unfolding has_living_child
-      grown_next = record {
-        next_koid = omega arith;
+    -- what it is neither runs nor is a living child of a job, and no message is in it; the handle x names it, and none of m does
+    module _ (childless : (j : ℕ) → lives_below j b ≡ false) (quiet : ((test : StateValue → Bool) → is_process (world_value ps r) test n ≡ false) → Agrees (world_value ps r) n b) (empty : queue_of b ≡ []) (in_job : IsTrue (is_in_job grown.objects b)) (koid : n < 2 ^ 62)
+        (apart_from : ◌≡◌ {A = ℕ} (count_by (λ h. h.1.koid == n) m) 0) (x : ℕ × Entry) (names : x.1.koid ≡ n) where
+      same_handles : (j : ℕ) → handles_to (world_value ps grown) j ≡ handles_to (world_value ps r) j
+      same_handles j = same_tables ps r grown j (queues_grown r b 1 j (none_queued j b empty))
+
+      with_one : (j : ℕ) → count_by (λ h. h.1.koid == j) (x ∷ m) ≡ cond (n == j) 1 0 + count_by (λ h. h.1.koid == j) m
+      with_one j = sum_by-cons (λ h. cond (h.1.koid == j) 1 0) x m ∙ rw names refl
+
+      grown_sound : IsSound ps (x ∷ m) grown
+      unfolding is_process
+      grown_sound = record {
+        processes_in_order = sound.processes_in_order;
+        objects_in_order = rw (← grown_is) (sorted_put r.objects n fresh sound.objects_in_order);
+        given_processes = λ k there. omega (arith, sound.given_processes k there);
         given_objects = λ j there. elim (put_key r.objects n fresh j (rw (← grown_is) at there)) as (λ _. j < n + 1) [
           | inl same ↦ omega (arith, same)
-          | inr old ↦ omega (arith, lab.given_objects j old)
+          | inr old ↦ omega (arith, sound.given_objects j old)
         ];
         koids = omega (arith, koid);
+        above_zero = omega arith;
         no_zero = λ j there. elim (put_key r.objects n fresh j (rw (← grown_is) at there)) as (λ _. 0 < j) [
-          | inl same ↦ omega (arith, same, lab.above_zero)
-          | inr old ↦ lab.no_zero j old
+          | inl same ↦ omega (arith, same, sound.above_zero)
+          | inr old ↦ sound.no_zero j old
         ];
-        named = grown_named;
+        tables = sound.tables;
+        named = λ k p v e at there. grown_named e (sound.named k p v e at there);
         queued = λ j q at. found_grown (AreNamed grown.objects (queue_of q.body)) j q at
-            (λ here is. subst (λ (x : Object). AreNamed grown.objects (queue_of x.body)) is (rw empty (All-nil (λ (x : Message). All (IsNamed grown.objects) x.handles))))
-            (λ apart old. still_named r.objects grown.objects grown_named (queue_of q.body) (lab.queued j q old));
-        counted = λ j q at. found_grown (q.handles ≡ handles_to (world_value after grown) j) j q at
+            (λ here is. subst (λ (o : Object). AreNamed grown.objects (queue_of o.body)) is (rw empty (All-nil (λ (y : Message). All (IsNamed grown.objects) y.handles))))
+            (λ apart old. still_named r.objects grown.objects grown_named (queue_of q.body) (sound.queued j q old));
+        counted = λ j q at. found_grown (q.handles ≡ handles_to (world_value ps grown) j + count_by (λ h. h.1.koid == j) (x ∷ m)) j q at
             (λ here is.
             let same : n ≡ j = eqb-true n j here in
             let none : ◌≡◌ {A = ℕ} (handles_to (world_value ps r) j) 0 = rw (← same) unnamed in
-            ap (λ (x : Object). x.handles) (sym is) ∙ sym (counts j ∙ rw (here, none) refl))
-            (λ apart old. lab.counted j q old ∙ sym (counts j ∙ rw apart (omega arith)));
-        agrees = λ j q at. found_grown (Agrees (world_value ps r) j q.body) j q at
-            (λ here is. subst (λ (i : ℕ). Agrees (world_value ps r) i q.body) (eqb-true n j here) (subst (λ (x : Object). Agrees (world_value ps r) n x.body) is (quiet not_there)))
-            (λ apart old. lab.agrees j q old);
+            let alone : ◌≡◌ {A = ℕ} (count_by (λ h. h.1.koid == j) m) 0 = rw (← same) apart_from in
+            ap (λ (o : Object). o.handles) (sym is) ∙ sym (rw (same_handles j, none, with_one j, here, alone) refl))
+            (λ apart old.
+            let other : ◌≡◌ {A = ℕ} (cond (n == j) 1 0) 0 = rw apart refl in
+            omega (arith, sound.counted j q old, same_handles j, with_one j, other));
+        agrees = λ j q at. found_grown (Agrees (world_value ps grown) j q.body) j q at
+            (λ here is. subst (λ (i : ℕ). Agrees (world_value ps grown) i q.body) (eqb-true n j here) (subst (λ (o : Object). Agrees (world_value ps grown) n o.body) is (as_before n b (quiet not_there))))
+            (λ apart old. as_before j q.body (sound.agrees j q old));
         in_jobs = λ j q at. found_grown (IsTrue (is_in_job grown.objects q.body)) j q at
-            (λ here is. subst (λ (x : Object). IsTrue (is_in_job grown.objects x.body)) is in_job)
-            (λ apart old. still_in_job q.body (lab.in_jobs j q old));
-        kept = kept_each grown.objects (rw (← grown_is) (sorted_put r.objects n fresh lab.kept.in_order)) (λ j q at. found_grown (IsTrue (is_kept grown.objects j q)) j q at
-            (λ here is. subst (λ (x : Object). IsTrue (is_kept grown.objects j x)) is refl)
-            (λ apart old. rw (still_alone j q.body) (kept_all r.objects lab.kept j q old)));
+            (λ here is. subst (λ (o : Object). IsTrue (is_in_job grown.objects o.body)) is in_job)
+            (λ apart old. still_in_job q.body (sound.in_jobs j q old));
       }
         where
-          still_alone : (j : ℕ) (c : Body) → stays_alone grown.objects j c ≡ stays_alone r.objects j c
-          still_alone j body.RootJob = any_behind (λ e. lives_below j e.1.body) r.objects (n, fresh) (childless j)
-          still_alone j (body.Process job lives) = refl
-          still_alone j body.Event = refl
-          still_alone j (body.ChannelEnd peer queue) = refl
+          as_before : (j : ℕ) (c : Body) → Agrees (world_value ps r) j c → Agrees (world_value ps grown) j c
+          as_before j c = still_agrees (world_value ps r) (world_value ps grown) j c (λ test. refl)
 
           job_grown : (j : ℕ) → IsTrue (is_job_at r.objects j) → IsTrue (is_job_at grown.objects j)
           job_grown j there = elim (cases_Bool (n == j)) as (λ _. IsTrue (is_job_at grown.objects j)) [
-            | inl here ↦ absurd (omega (arith, lab.given_objects j (job_there (get r.objects j) there), eqb-true n j here))
+            | inl here ↦ absurd (omega (arith, sound.given_objects j (job_there (get r.objects j) there), eqb-true n j here))
             | inr apart ↦ rw (get_grown j, apart) there
           ]
             where
@@ -137,3 +169,35 @@ module _ (ps : List Process) (r : Objects) (lab : IsConsistent ps r) where
           still_in_job (body.Process job true) h = job_grown job h
           still_in_job body.Event h = refl
           still_in_job (body.ChannelEnd peer queue) h = refl
+
+      pub grown_one : IsGrowing ps (x ∷ m) grown
+      unfolding has_living_child
+      grown_one = record {
+        sound = grown_sound;
+        kept = kept_each grown.objects (rw (← grown_is) (sorted_put r.objects n fresh growing.kept.in_order)) (λ j q at. found_grown (IsTrue (is_kept grown.objects j q)) j q at
+            (λ here is. subst (λ (o : Object). IsTrue (is_kept grown.objects j o)) is refl)
+            (λ apart old. rw (still_alone j q.body) (kept_all r.objects growing.kept j q old)));
+      }
+        where
+          still_alone : (j : ℕ) (c : Body) → stays_alone grown.objects j c ≡ stays_alone r.objects j c
+          still_alone j body.RootJob = any_behind (λ e. lives_below j e.1.body) r.objects (n, fresh) (childless j)
+          still_alone j (body.Process job lives) = refl
+          still_alone j body.Event = refl
+          still_alone j (body.ChannelEnd peer queue) = refl
+
+-- the handles m have entered the table of a process
+pub entered_next : (before after : List Process) (m : Map Entry) (r r2 : Objects) → IsGrowing before m r2 → r.next_koid ≤ r2.next_koid → ((e : Entry) → IsNamed r.objects e → IsNamed r2.objects e)
+    → ((j : ℕ) → handles_to (world_value after r2) j ≡ handles_to (world_value before r2) j + count_by (λ h. h.1.koid == j) m) → IsNext before after r r2
+unfolding is_process
+entered_next before after m r r2 growing above still counts = record {
+  next_koid = above;
+  given_objects = growing.sound.given_objects;
+  koids = growing.sound.koids;
+  no_zero = growing.sound.no_zero;
+  named = still;
+  queued = growing.sound.queued;
+  counted = λ j q at. growing.sound.counted j q at ∙ sym (counts j);
+  agrees = λ j q at. still_agrees (world_value before r2) (world_value before r) j q.body (λ test. refl) (growing.sound.agrees j q at);
+  in_jobs = growing.sound.in_jobs;
+  kept = growing.kept;
+}

@@ -23,6 +23,7 @@ pub mod TakenCalls
 pub mod Queued
 pub mod HandleCalls
 pub mod EventCalls
+pub mod ChannelCalls
 pub mod WriteCalls
 pub mod ProcessCalls
 pub mod Performed

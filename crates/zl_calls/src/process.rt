@@ -1,7 +1,7 @@
 ghost use Rattle.std.specs.Prelude.{◌≡◌, ◌<◌, ◌^◌, [], ◌∷◌, None};
 ghost use Rattle.zl_rights.specs.Signals.{is_ready};
 ghost use Rattle.zl_calls.specs.World.{state_value, seen_in};
-ghost use Rattle.zl_calls.specs.calls.Answer.{status_of, no_value, one_value, answered_in};
+ghost use Rattle.zl_calls.specs.calls.Answer.{status_of, no_value, one_value, two_values, answered_in};
 
 use crate::cpu::Cpu;
 use std::alloc::Global;
@@ -82,6 +82,32 @@ impl Process {
         let number = u64::from(answer.magnitude());
         self.cpu.set(status, number);
         self.cpu.set(destination, made);
+        self.cpu.advance();
+        Outcome::Answered(answer)
+    }
+
+    /// The call that makes two handles is answered: after the status its registers get their
+    /// values, or 0 where there are none. Where both are one register, it has the second.
+    #[tactic(auto, unfolding(zl_rights::specs::World::answered))]
+    pub fn answer_made_two(
+        &mut self,
+        status: Register,
+        first: Register,
+        second: Register,
+        answer: Result<(HValue, HValue), Status>,
+    ) -> Outcome
+        requires { self.old.cpu.counter < 2 ^ 32 }
+        ensures ends { result ≡ Outcome.Answered (status_of answer) }
+        ensures process { self.new
+            ≡ answered_in self.old (status ∷ first ∷ second ∷ []) two_values answer }
+    {
+        let (answer, made) = match answer {
+            Ok((one, other)) => (Status::Ok, (u64::from(one), u64::from(other))),
+            Err(refused) => (refused, (0, 0)),
+        };
+        self.cpu.set(status, u64::from(answer.magnitude()));
+        self.cpu.set(first, made.0);
+        self.cpu.set(second, made.1);
         self.cpu.advance();
         Outcome::Answered(answer)
     }

@@ -110,6 +110,10 @@ no_value done = []
 abbrev pub one_value : ℕ → List ℕ
 one_value made = made ∷ []
 
+-- the answer gives the values of two new handles
+abbrev pub two_values : ℕ × ℕ → List ℕ
+two_values made = made.0 ∷ made.1 ∷ []
+
 -- the process, with the answer in these registers
 abbrev pub answered_in : {A : Type 0} → Process → List ℕ → (A → List ℕ) → Result A Status → Process
 answered_in p destinations values answer = record p { cpu = answered p.cpu destinations (status_magnitude (status_of answer) ∷ values_of values answer) }
@@ -132,3 +136,7 @@ gives_none = answers (Result ⊤ Status) (told_by no_value)
 -- its answer gives the value of a new handle
 abbrev pub gives_one : (Handles → Objects → Result ℕ Status → Handles → Objects → Type 0) → Action
 gives_one = answers (Result ℕ Status) (told_by one_value)
+
+-- its answer gives the values of two new handles
+abbrev pub gives_two : (Handles → Objects → Result (ℕ × ℕ) Status → Handles → Objects → Type 0) → Action
+gives_two = answers (Result (ℕ × ℕ) Status) (told_by two_values)

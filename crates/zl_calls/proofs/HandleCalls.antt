@@ -1,6 +1,6 @@
--- The calls on handles, close and dup, each from its table and objects to a step.
-use Rattle.zl_calls.proofs.Common.{◌≡◌, ◌+◌, ℕ, Bool, true, false, ◌==◌, List, [], ◌∷◌, refl, sym, ap, ◌∙◌, subst, cond, Option, Some, None, inl, inr, ◌⊎◌, IsTrue, arith, eq-eqb, bit_and, ◌||◌, if◌then◌else◌, is_some, count_by, sum_by-cons, cases_Bool, false≢true, none-some, same_Some, first_some, bits, within, Map, get, has_key, without, Ready, Library, Site, site, close, table_of, operand_of, operand, examined, any, row_of, refusal, handle_operands, listed, on_process, process_without, may_choose, new_handles, remove_all, taken_handles, insert_all, effect, gives_ok, gives_refused, AtCall, next_for, Calls, Values, Refused, replied, taken, cpu_answered, ◌^◌, not, map, Ok, Err, nat_le, nat_lt, eqb-true, or_left, nat_tests, then_some, option_or, narrowed, default_rights_of, DUPLICATE, is_empty, dup, by_look_up, has_room, handles_to, entry_at, copy_of, with_rights, answer_if, with_effect, get-update, Handles, IsTable, get-without, sorted_without, length-without, Objects, Releases, has_place, held_once_more, holding, IsAnswered, told_by, no_value, Replies, status_of, one_value, has_room_in, process_value, state_value, world_value, process_entry, object_value, IsConsistent, IsNamed, koid_in, World, and_le_r}
-use Rattle.zl_code.proofs.Common.{Object as ObjectValue}
+-- The calls on handles, close, dup and replace, each from its table and objects to a step.
+use Rattle.zl_calls.proofs.Common.{◌≡◌, ◌+◌, ℕ, Bool, true, false, ◌==◌, List, [], ◌∷◌, refl, sym, ap, ◌∙◌, subst, cond, Option, Some, None, inl, inr, ◌⊎◌, IsTrue, arith, eq-eqb, bit_and, ◌||◌, if◌then◌else◌, is_some, count_by, sum_by-cons, cases_Bool, false≢true, none-some, same_Some, first_some, bits, within, Map, get, has_key, without, Ready, Library, Site, site, close, table_of, operand_of, operand, examined, any, row_of, refusal, handle_operands, listed, on_process, process_without, may_choose, new_handles, remove_all, taken_handles, insert_all, effect, gives_ok, gives_refused, AtCall, next_for, Calls, Values, Refused, replied, taken, cpu_answered, ◌^◌, not, map, Ok, Err, nat_le, nat_lt, eqb-true, or_left, nat_tests, then_some, option_or, narrowed, default_rights_of, DUPLICATE, is_empty, dup, by_look_up, has_room, handles_to, entry_at, copy_of, with_rights, answer_if, with_effect, get-update, Handles, IsTable, get-without, sorted_without, length-without, Objects, Releases, has_place, held_once_more, holding, IsAnswered, told_by, no_value, Replies, status_of, one_value, has_room_in, process_value, state_value, world_value, process_entry, object_value, IsConsistent, IsNamed, koid_in, World, and_le_r, put, update, is_sorted, nat_cmp, sorted_put, get-put, option_map, is_sorted-update, has_key-update, process_with}
+use Rattle.zl_code.proofs.Common.{Object as ObjectValue, Process as ProcessValue, on_process, replace}
 use Rattle.zl_rights.specs.declared.status.Status.{Status}
 use Rattle.zl_rights.specs.declared.status.Status.TheVariants as status
 use Rattle.zl_rights.specs.declared.entry.Entry.{Entry}
@@ -10,18 +10,22 @@ use Rattle.zl_code.specs.declared.history.Outcome.{Outcome}
 use Rattle.zl_code.specs.declared.history.Outcome.TheVariants as outcome
 use Rattle.zl_calls.specs.declared.process.Process.{Process}
 use Rattle.zl_calls.specs.calls.Answer.{without_handle}
-use Rattle.zl_calls.specs.calls.Handle.{CloseDoes, Closes, close_answer, Dups, DupDoes, dup_refusal, dup_refusal_of}
+use Rattle.zl_calls.specs.calls.Handle.{CloseDoes, Closes, close_answer, Dups, DupDoes, dup_refusal, dup_refusal_of, Replaces, ReplaceDoes, replace_refusal, replace_refusal_of}
 use Rattle.zl_calls.proofs.Answered.{IsWrite, table_is, replies_none, replied_with, may_get_inserted, replied_inserted}
 use Rattle.zl_calls.proofs.Done.{IsDone, IsCalled, answered_done}
 use Rattle.zl_calls.proofs.Labs.{no_policy, call_settles, handles_counted}
-use Rattle.zl_calls.proofs.Counting.{count_without, queues_updated}
+use Rattle.zl_calls.proofs.Counting.{count_without, counts_written, queues_updated, sum_update}
 use Rattle.zl_calls.proofs.Refused.{NoPolicy, fault_answers, answers}
 use Rattle.zl_calls.proofs.Stopped.{sound_after}
+use Rattle.zl_calls.proofs.TakenCalls.{taking_done}
 use Rattle.zl_calls.proofs.Settled.{IsSettled, settled, still_settles}
-use Rattle.zl_calls.proofs.Written.{refusal_keeps, IsNext, keeps_inserted, inserted_counts, updated_next}
+use Rattle.zl_calls.proofs.Written.{refusal_keeps, recounted_next, IsNext, keeps, keeps_inserted, inserted_counts, updated_next}
+use Rattle.std.specs.Bool.{passes}
+use Rattle.zl_rights.proofs.Canonical.{same_map}
+use Rattle.zl_table.proofs.MapEdits.{length-update}
 use Rattle.zl_rights.proofs.Narrowed.{narrowed_within}
 use Rattle.zl_objects.specs.declared.object.Object.{Object}
-use Rattle.zl_calls.proofs.Updates.{update_unseen}
+use Rattle.zl_calls.proofs.Updates.{update_twice, update_unseen}
 
 no_bits : (n : ℕ) → IsTrue (within 0 n)
 no_bits n = eq-eqb (bit_and n 0) 0 (omega (arith, and_le_r n 0))
@@ -67,6 +71,31 @@ module _ (lib : Library) (w : World) (free : NoPolicy w) (p : ℕ) (objects : Ma
       by_entry : (o : Option Entry) → get (table_of w p) h ≡ o → dup_with asked o ≡ answers (dup_refusal_of (table_of w p) objects asked o)
       by_entry None is = ap (λ (x : Option Outcome). first_some (first_some (x ∷ None ∷ []) ∷ None ∷ answer_if true status.InvalidArgs ∷ answer_if (not (has_room w p 1) || nat_le (2 ^ 62) (handles_to w 0)) status.NoResources ∷ [])) (fault_answers w free p condition.BadHandle status.BadHandle)
       by_entry (Some e) is = rw (counts h e is) (by_tests e (within DUPLICATE (bits e.rights)) (is_empty (with_rights e (narrowed e.rights asked))) (has_room_in (table_of w p)) (nat_le (2 ^ 62) (handles_to w e.koid)))
+
+-- ---- the answer of replace
+
+module _ (lib : Library) (w : World) (free : NoPolicy w) (p : ℕ) where
+  replace_refused : (h asked : ℕ) → refusal lib w p (replace h asked) ≡ answers (replace_refusal (table_of w p) h asked)
+  unfolding refusal handle_operands row_of examined operand listed
+  replace_refused h asked = by_entry (get (table_of w p) h)
+    where
+      by_rights : (b : Bool) → first_some (first_some (None ∷ None ∷ []) ∷ None ∷ answer_if b status.InvalidArgs ∷ []) ≡ answers (then_some b status.InvalidArgs)
+      by_rights true = refl
+      by_rights false = refl
+
+      by_entry : (o : Option Entry) → first_some (first_some (operand_of w p any 0 o ∷ None ∷ []) ∷ None ∷ answer_if (is_empty (copy_of o asked)) status.InvalidArgs ∷ []) ≡ answers (replace_refusal_of asked o)
+      by_entry None = ap (λ (x : Option Outcome). first_some (first_some (x ∷ None ∷ []) ∷ None ∷ answer_if true status.InvalidArgs ∷ [])) (fault_answers w free p condition.BadHandle status.BadHandle)
+      by_entry (Some e) = rw (no_bits (bits e.rights)) (by_rights (is_empty (with_rights e (narrowed e.rights asked))))
+
+-- a value that is put in again in the place of the old one
+put_again : {X : Type 0} (m : Map X) (k : ℕ) (x : X) (f : X → X) → IsTrue (is_sorted nat_cmp m) → get m k ≡ Some x → update m k f ≡ put (without m k) k (f x)
+put_again {X} m k x f sorted there =
+    same_map (update m k f) (put (without m k) k (f x)) (passes _ (is_sorted-update m k f ∙ sorted)) (passes _ (sorted_put (without m k) k (f x) (sorted_without m k sorted)))
+    (λ j. get-update m k f j ∙ (by_key j (cases_Bool (k == j)) ∙ sym (get-put (without m k) k (f x) j)))
+  where
+    by_key : (j : ℕ) → IsTrue (k == j) ⊎ ((k == j) ≡ false) → (if k == j then option_map f (get m j) else get m j) ≡ (if k == j then Some (f x) else get (without m k) j)
+    by_key j (inl here) = rw (here, ← eqb-true k j here, there) refl
+    by_key j (inr apart) = rw (apart, get-without m k j, apart) refl
 
 body_held : (o : Object) → (held_once_more o).body ≡ o.body
 body_held o = elim (nat_lt o.handles (2 ^ 62)) as (λ b. (cond b (record o { handles = o.handles + 1 }) o).body ≡ o.body) [ true ↦ refl | false ↦ refl ]
@@ -270,3 +299,95 @@ module _ (lib : Library) (before after : List Process) (r r2 : Objects) (p p2 : 
     unfolding row_of taken_handles handle_operands remove_all gives_refused
     dup_done ready call next o acts = answered_done lib before after r r2 p p2 lab write ready call dup_site next one_value (Dups p.table r h asked) true (dup_refusal p.table.entries r.objects h asked)
         refused refl refl (λ answer. refl) dup_called o acts.answer acts.acts acts.replied acts.ends
+
+  -- ---- replace
+
+  module _ (h asked : ℕ) (consumed destinations : List ℕ) where
+    abbrev replace_site : Site
+    replace_site = site (replace h asked) consumed destinations
+
+    replace_refused_here : refusal lib w p.pid (replace h asked) ≡ answers (replace_refusal p.table.entries h asked)
+    replace_refused_here = replace_refused lib w (no_policy before r lab) p.pid h asked ∙ rw (table_is before after p p2 write r) refl
+
+    module _ (made : ℕ) (replaces : Replaces p.table r h asked made p2.table r2) (replies : Replies replace_site status.Ok (made ∷ []) p p2) where
+      abbrev narrower : Entry → Entry
+      narrower e = record e { rights = replaces.granted }
+
+      abbrev replacement : Entry
+      replacement = narrower replaces.original
+
+      before_it : IsTable p.table
+      before_it = lab.tables p.pid (process_value p) write.there
+
+      -- ---- the relation of calls
+
+      -- the process with the new handle in the place of the old one
+      abbrev replaced : ProcessValue → ProcessValue
+      replaced q = process_with h replacement (process_without h q)
+
+      is_copy : copy_of (entry_at w p.pid h) asked ≡ replacement ∷ []
+      is_copy = rw (table_is before after p p2 write r, replaces.was, replaces.allowed) refl
+
+      is_replaced : process_value p2 ≡ record (replaced (process_value p)) { cpu = cpu_answered replace_site status.Ok (h ∷ []) (replaced (process_value p)).cpu }
+      is_replaced = ap process_value replies ∙ rw (replaces.was) (λ i. record (process_value p) { cpu = cpu_answered replace_site status.Ok (replaces.same_value i ∷ []) p.cpu; handles = entries_again i; last = replaces.last i })
+        where
+          entries_again : p2.table.entries ≡ put (without p.table.entries h) h replacement
+          entries_again = replaces.entries ∙ put_again p.table.entries h replaces.original narrower before_it.sorted replaces.was
+
+      replace_chosen : IsTrue (may_choose w (taken w p.pid replace_site) p.pid (replace h asked) [])
+      unfolding may_choose remove_all taken_handles handle_operands row_of on_process
+      replace_chosen = rw (get-update w.processes p.pid (process_without h) p.pid, same p.pid, write.there) refl
+        where
+          same : (j : ℕ) → (j == j) ≡ true
+          same j = eq-eqb j j refl
+
+      replace_ends : world_value after r2 ≡ replied (with_effect lib w (taken w p.pid replace_site) p.pid (replace h asked) []) p.pid replace_site status.Ok (h ∷ [])
+      unfolding taken_handles handle_operands row_of remove_all new_handles effect insert_all on_process
+      replace_ends = rw is_copy (replied_with before after p p2 write r2 replace_site status.Ok (h ∷ []) replaced (on_process (taken w p.pid replace_site) p.pid (process_with h replacement))
+          (update_twice (map process_entry before) p.pid (process_without h) (process_with h replacement)) (rw replaces.objects refl) is_replaced)
+
+      -- ---- the invariant
+
+      replacement_named : IsNamed r.objects replaces.original → IsNamed r.objects replacement
+      replacement_named named = record {
+        object = named.object;
+        there = named.there;
+        kind = named.kind;
+        rights = narrowed_within replaces.original.rights asked replaces.granted (default_rights_of replaces.original.kind) replaces.allowed named.rights;
+      }
+
+      still_named : (v : ℕ) (e : Entry) → get p2.table.entries v ≡ Some e → IsNamed r.objects e
+      still_named v e at = by_key (cases_Bool (h == v)) (sym (get-update p.table.entries h narrower v) ∙ (ap (λ (m : Map Entry). get m v) (sym replaces.entries) ∙ at))
+        where
+          old : (x : ℕ) (q : Entry) → get p.table.entries x ≡ Some q → IsNamed r.objects q
+          old x q was = lab.named p.pid (process_value p) x q write.there was
+
+          by_key : IsTrue (h == v) ⊎ ((h == v) ≡ false) → (if h == v then option_map narrower (get p.table.entries v) else get p.table.entries v) ≡ Some e → IsNamed r.objects e
+          by_key (inl here) read = subst (IsNamed r.objects) (same_Some replacement e (rw (here, ← eqb-true h v here, replaces.was) at read)) (replacement_named (old h replaces.original replaces.was))
+          by_key (inr apart) read = old v e (rw apart at read)
+
+      table_again : IsTable p2.table
+      table_again = record {
+        sorted = rw (replaces.entries, is_sorted-update p.table.entries h narrower) before_it.sorted;
+        few = rw (replaces.entries, length-update p.table.entries h narrower) before_it.few;
+        values = λ v has. before_it.values v (sym (has_key-update p.table.entries h narrower v) ∙ (rw replaces.entries at has));
+      }
+
+      -- as many handles name each object as before
+      recounted : (j : ℕ) → handles_to (world_value after r) j ≡ handles_to w j
+      recounted j = counts_written before after p p2 r r j 0 write refl
+          (rw replaces.entries (sum_update (λ x. cond (x.1.koid == j) 1 0) p.table.entries h 0 replaces.original narrower replaces.was (omega arith))) ∙ omega arith
+
+      replace_called : IsCalled lib before after r r2 p.pid replace_site (outcome.Answered status.Ok)
+      unfolding gives_ok
+      replace_called = record {
+        calls = (Values [], rw (replace_refused_here, replaces.unrefused) (replace_chosen, refl, replace_ends));
+        keeps = rw replaces.objects (keeps before after p p2 write r r lab (ap (λ (q : Process). q.state) replies) table_again still_named (recounted_next before after r lab recounted));
+      }
+
+    -- ---- the step
+
+    pub replace_done : state_value p.state ≡ Ready → (call : CallName) → next_for lib (process_value p) ≡ AtCall call replace_site → (o : Outcome) → IsAnswered (told_by one_value) (ReplaceDoes h asked) replace_site p r o p2 r2 → IsDone lib before after r r2 p.pid call o
+    unfolding row_of taken_handles handle_operands gives_refused
+    replace_done ready call next o acts = taking_done lib before after r r2 p p2 lab write ready call replace_site next (h ∷ []) refl one_value (Replaces p.table r h asked) false (replace_refusal p.table.entries h asked)
+        replace_refused_here refl (λ answer. refl) replace_called o acts.answer acts.acts acts.replied acts.ends

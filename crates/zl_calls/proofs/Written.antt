@@ -53,6 +53,21 @@ pub record IsNext (before after : List Process) (r r2 : Objects) : Type 0 where
   pub in_jobs : (k : ℕ) (o : Object) → get r2.objects k ≡ Some o → IsTrue (is_in_job r2.objects o.body)
   pub kept : AreKeptBut [] r2.objects
 
+-- the objects stay, and as many handles name each as before
+pub recounted_next : (before after : List Process) (r : Objects) → IsConsistent before r → ((k : ℕ) → handles_to (world_value after r) k ≡ handles_to (world_value before r) k) → IsNext before after r r
+recounted_next before after r lab counts = record {
+  next_koid = omega arith;
+  given_objects = lab.given_objects;
+  koids = lab.koids;
+  no_zero = lab.no_zero;
+  named = λ e named. named;
+  queued = lab.queued;
+  counted = λ k o at. lab.counted k o at ∙ sym (counts k);
+  agrees = lab.agrees;
+  in_jobs = lab.in_jobs;
+  kept = lab.kept;
+}
+
 -- ---- what is found afterwards
 
 module _ (before after : List Process) (p p2 : Process) (write : IsWrite before after p p2) where
@@ -115,18 +130,7 @@ module _ (before after : List Process) (p p2 : Process) (write : IsWrite before 
 
   -- the same where nothing but registers and the counter changes
   pub refusal_keeps : (r : Objects) → IsConsistent before r → p2.table ≡ p.table → p2.state ≡ p.state → IsConsistent after r
-  refusal_keeps r lab table state = keeps_table r r lab state table (record {
-    next_koid = omega arith;
-    given_objects = lab.given_objects;
-    koids = lab.koids;
-    no_zero = lab.no_zero;
-    named = λ e named. named;
-    queued = lab.queued;
-    counted = λ k o at. lab.counted k o at ∙ sym (same_counts r r k refl table);
-    agrees = lab.agrees;
-    in_jobs = lab.in_jobs;
-    kept = lab.kept;
-  })
+  refusal_keeps r lab table state = keeps_table r r lab state table (recounted_next before after r lab (λ k. same_counts r r k refl table))
 
   -- the same where a handle enters the table
   module _ (e : Entry) (made : ℕ) (inserts : Inserts p.table e made p2.table) where

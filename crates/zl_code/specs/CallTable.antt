@@ -46,6 +46,7 @@ pub data Request : Type 0 where
 abbrev pub request_of : CallName → List ℕ → ℕ → (bytes hs : List ℕ) → Option Request
 request_of name.Close (h ∷ []) number bytes hs = Some (close h)
 request_of name.Dup (h ∷ []) number bytes hs = Some (dup h number)
+request_of name.Replace (h ∷ []) number bytes hs = Some (replace h number)
 request_of name.ChanCreate [] number bytes hs = Some chan_create
 request_of name.ChanWrite (c ∷ address ∷ size ∷ []) number bytes hs = Some (chan_write c bytes hs)
 request_of name.EventCreate [] number bytes hs = Some event_create

@@ -10,6 +10,7 @@ use zl_code::{Image, Instr};
 pub(crate) const PLAIN: [u64; 6] = [0, 30, 64, 255, 65_536, 0xffff_ffff];
 
 /// The bounds that the words of a program are rounded up to, in order and each once. Own profile.
+#[derive(Drop)]
 pub struct Bounds {
     sorted: Vec<u64>,
 }

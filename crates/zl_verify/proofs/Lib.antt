@@ -6,3 +6,4 @@ pub mod Ending
 pub mod Turning
 pub mod Leading
 pub mod Bounding
+pub mod Raising

@@ -4,3 +4,4 @@ pub mod Numbers
 pub mod Search
 pub mod Leading
 pub mod Checks
+pub mod Names

@@ -1,6 +1,7 @@
 //! Which images are accepted.
 
 ghost use Rattle.std.specs.Prelude.{◌≡◌, length, IfOk, IfErr};
+ghost use Rattle.zl_abs.specs.Bounds.{RoundAlike, bounds_of};
 ghost use Rattle.zl_abs.specs.Typing.{IsTyping};
 ghost use Rattle.zl_verify.specs.Lists.{at};
 ghost use Rattle.zl_verify.specs.Steps.{IsStepBound};
@@ -12,7 +13,7 @@ use crate::steps::{first_over, numbers};
 use crate::targets::targets_of;
 use std::alloc::Global;
 use std::marker::Model;
-use zl_abs::AbsState;
+use zl_abs::{AbsState, Bounds};
 use zl_code::Image;
 
 /// An accepted image, with what is known at each instruction that can be reached, and how many
@@ -46,34 +47,33 @@ impl Checked {
     }
 }
 
-const NO_MEMORY: Fault = Fault {
-    at: 0,
-    cause: RefusalCause::NoMemory,
-};
-
 /// A step bound of the least typing, or why there is none.
 fn bound(
     alloc: Global,
+    bounds: &Bounds,
     image: &Image,
     states: &[Option<AbsState>],
 ) -> Result<Vec<Option<u32>>, Fault>
+    requires alike { RoundAlike bounds.now (bounds_of image.now.code) }
     requires typing { IsLeastTyping image.now (at states.now) }
     ensures bound { IfOk result (λ steps.
         IsStepBound image.now (at states.now) (at steps.items)) }
     ensures exact { IfErr result (λ fault. IsRefused image.now fault.at fault.cause) }
 {
-    let Ok(targets) = targets_of(alloc, image, states) else {
-        return Err(NO_MEMORY);
+    let Ok(targets) = targets_of(alloc, bounds, image, states) else {
+        return Err(Fault::at_once(RefusalCause::NoMemory));
     };
     let most = image.budget() + 1;
     let Ok(steps) = numbers(alloc, &targets, most) else {
-        return Err(NO_MEMORY);
+        return Err(Fault::at_once(RefusalCause::NoMemory));
     };
     match first_over(&steps, most) {
         None => Ok(steps),
         Some(at) => Err(Fault {
             at,
             cause: RefusalCause::Budget,
+            known: None,
+            other: None,
         }),
     }
 }
@@ -90,7 +90,7 @@ fn refuse(image: Image, fault: Fault) -> Refusal
 
 /// Accepts the image, where it has a typing and a step bound of it, or refuses it, with the
 /// instruction at which it was seen why not. It takes memory for what is known at each instruction,
-/// and three numbers more.
+/// for three numbers more, and for the bounds of the image's words.
 ///
 /// `Rule` where the rule of the instruction doesn't hold at what is known there, and `JoinConflict`
 /// where nothing describes what may come to it: both only of an image that has no typing. `Budget`
@@ -104,11 +104,14 @@ pub fn check(alloc: Global, image: Image) -> Result<Checked, Refusal>
     ensures given_back { IfErr result (λ refusal. refusal.image ≡ image) }
     ensures exact { IfErr result (λ refusal. IsRefused image refusal.at refusal.cause) }
 {
-    let states = match solve(alloc, &image) {
+    let Ok(bounds) = Bounds::of(alloc, &image) else {
+        return Err(refuse(image, Fault::at_once(RefusalCause::NoMemory)));
+    };
+    let states = match solve(alloc, &bounds, &image) {
         Ok(states) => states,
         Err(fault) => return Err(refuse(image, fault)),
     };
-    match bound(alloc, &image, &states) {
+    match bound(alloc, &bounds, &image, &states) {
         Ok(steps) => Ok(Checked {
             image,
             states,

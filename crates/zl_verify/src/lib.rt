@@ -8,13 +8,17 @@
 #![tactic(auto)]
 
 mod checked;
+mod edges;
+pub mod hints;
 mod refusal;
 mod search;
+mod seen;
 mod steps;
 mod targets;
 
 pub use checked::{Checked, check};
 pub use refusal::{Refusal, RefusalCause};
+pub use seen::{Seen, seen_in};
 
 #[cfg(test)]
 mod tests;

@@ -1,3 +1,6 @@
+ghost use Rattle.std.specs.Prelude.{◌≡◌};
+ghost use Rattle.zl_verify.specs.Names.{cause_name, rule_cause_name};
+
 use zl_abs::Cause;
 use zl_code::Image;
 
@@ -22,4 +25,36 @@ pub struct Refusal {
     pub at: usize,
     pub cause: RefusalCause,
     pub image: Image,
+}
+
+impl RefusalCause {
+    /// The name of the cause, as answers have it.
+    pub fn name(self) -> &'static str
+        ensures { result.now ≡ cause_name self }
+    {
+        match self {
+            RefusalCause::Rule(cause) => rule_cause_name(cause),
+            RefusalCause::JoinConflict => "JoinConflict",
+            RefusalCause::Budget => "Budget",
+            RefusalCause::NoMemory => "NoMemory",
+        }
+    }
+}
+
+/// The name of the cause for which a rule doesn't hold.
+fn rule_cause_name(cause: Cause) -> &'static str
+    ensures { result.now ≡ rule_cause_name cause }
+{
+    match cause {
+        Cause::NotLive => "NotLive",
+        Cause::WrongKind => "WrongKind",
+        Cause::LacksRight => "LacksRight",
+        Cause::Leak => "Leak",
+        Cause::NotWord => "NotWord",
+        Cause::MemoryRange => "MemoryRange",
+        Cause::BadJump => "BadJump",
+        Cause::FallsOff => "FallsOff",
+        Cause::UndeclaredNeed => "UndeclaredNeed",
+        Cause::IllegalOp => "IllegalOp",
+    }
 }

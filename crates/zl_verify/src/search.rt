@@ -4,16 +4,18 @@ ghost use Rattle.std.specs.Prelude.{◌≡◌, ◌≤◌, ◌<◌, ◌+◌, ◌+
 ghost use Rattle.std.specs.Bool.{then_some};
 ghost use Rattle.std.specs.Result.{is_ok};
 ghost use Rattle.zl_code.specs.Limits.{most_instructions};
+ghost use Rattle.zl_abs.specs.Bounds.{RoundAlike, bounds_of};
 ghost use Rattle.zl_abs.specs.States.{start_state};
 ghost use Rattle.zl_abs.specs.Successors.{edge_in};
 ghost use Rattle.zl_verify.specs.Lists.{at};
-ghost use Rattle.zl_verify.specs.Search.{raised, raised_all, turned, cleared, started};
+ghost use Rattle.zl_verify.specs.Search.{put, raised, raised_all, turned, cleared, started};
 ghost use Rattle.zl_verify.specs.Checks.{IsLeastTyping, IsRefused, is_of_rules};
 
+use crate::edges::edges_at;
 use crate::refusal::RefusalCause;
 use std::alloc::{AllocError, Global};
 use std::marker::Model;
-use zl_abs::{AbsState, Cause, Edge, Successors, below, join, transfer};
+use zl_abs::{AbsState, Bounds, Cause, Edge, Successors};
 use zl_code::Image;
 
 /// Why there is no typing, and at which instruction that was seen.
@@ -21,6 +23,25 @@ use zl_code::Image;
 pub(crate) struct Fault {
     pub at: usize,
     pub cause: RefusalCause,
+    /// What was known at the instruction, if something was.
+    pub known: Option<AbsState>,
+    /// What came to it along another way, and has no join with what was known.
+    pub other: Option<AbsState>,
+}
+
+impl Fault {
+    /// Before anything is known of an instruction.
+    pub fn at_once(cause: RefusalCause) -> Fault
+        ensures at { result.at ≡ 0 }
+        ensures cause { result.cause ≡ cause }
+    {
+        Fault {
+            at: 0,
+            cause,
+            known: None,
+            other: None,
+        }
+    }
 }
 
 /// How far the search has come.
@@ -90,6 +111,16 @@ impl Search {
         self.states
     }
 
+    /// The instruction gets the state, and waits.
+    fn put(&mut self, place: usize, state: AbsState)
+        requires { place < length self.old.states }
+        ensures { self.new ≡ put self.old place state }
+    {
+        self.states[place] = Some(state);
+        self.waiting[place] = true;
+        self.from = self.from.min(place);
+    }
+
     /// A state comes to an instruction. Not where the instruction isn't there, or no state is above
     /// both.
     fn raise(&mut self, place: usize, state: &AbsState) -> bool
@@ -98,24 +129,26 @@ impl Search {
         if place >= self.states.len() {
             return false;
         }
-        let joined = match &self.states[place] {
-            None => *state,
-            Some(old) => {
-                if below(state, old) {
-                    return true;
-                }
-                let Ok(joined) = join(old, state) else {
-                    return false;
-                };
-                joined
-            }
+        let Some(mut known) = self.states[place] else {
+            self.put(place, *state);
+            return true;
         };
-        self.states[place] = Some(joined);
-        self.waiting[place] = true;
-        if place < self.from {
-            self.from = place;
+        match known.raise(state) {
+            None => false,
+            Some(false) => true,
+            Some(true) => {
+                self.put(place, known);
+                true
+            }
         }
-        true
+    }
+
+    /// What was found of the instruction.
+    fn known_at(&self, place: usize) -> Option<AbsState> {
+        match self.states.get(place) {
+            Some(known) => *known,
+            None => None,
+        }
     }
 
     /// The state of an edge that is followed comes to its end.
@@ -134,6 +167,8 @@ impl Search {
             Err(Fault {
                 at: edge.target,
                 cause: RefusalCause::JoinConflict,
+                known: self.known_at(edge.target),
+                other: Some(edge.state),
             })
         }
     }
@@ -152,8 +187,9 @@ impl Search {
 
     /// An instruction is looked at once. Not where its rule doesn't hold, or an edge can't be
     /// followed.
-    fn turn(&mut self, image: &Image, place: usize) -> Result<(), Fault>
+    fn turn(&mut self, bounds: &Bounds, image: &Image, place: usize) -> Result<(), Fault>
         requires inside { place < length self.old.states }
+        requires alike { RoundAlike bounds.now (bounds_of image.now.code) }
         ensures turned { then_some (is_ok result) self.new ≡ turned image.now self.old place }
         ensures cause { IfErr result (λ fault. is_of_rules fault.cause ≡ true) }
     {
@@ -161,12 +197,14 @@ impl Search {
         let Some(state) = self.states[place] else {
             return Ok(());
         };
-        let edges = match transfer(image, place, &state) {
+        let edges = match edges_at(bounds, image, place, &state) {
             Ok(edges) => edges,
             Err(cause) => {
                 return Err(Fault {
                     at: place,
                     cause: RefusalCause::Rule(cause),
+                    known: Some(state),
+                    other: None,
                 });
             }
         };
@@ -174,29 +212,28 @@ impl Search {
     }
 }
 
-/// The least typing of the image.
-pub(crate) fn solve(alloc: Global, image: &Image) -> Result<Vec<Option<AbsState>>, Fault>
+/// The least typing of the image. Bounds of words are rounded up by `bounds`.
+pub(crate) fn solve(
+    alloc: Global,
+    bounds: &Bounds,
+    image: &Image,
+) -> Result<Vec<Option<AbsState>>, Fault>
+    requires alike { RoundAlike bounds.now (bounds_of image.now.code) }
     ensures long { IfOk result (λ states. length states.items ≡ length image.now.code) }
     ensures typing { IfOk result (λ states. IsLeastTyping image.now (at states.items)) }
     ensures exact { IfErr result (λ fault. IsRefused image.now fault.at fault.cause) }
 {
     let length = image.len();
     if length == 0 {
-        return Err(Fault {
-            at: 0,
-            cause: RefusalCause::Rule(Cause::FallsOff),
-        });
+        return Err(Fault::at_once(RefusalCause::Rule(Cause::FallsOff)));
     }
     let Ok(mut search) = Search::new(alloc, image) else {
-        return Err(Fault {
-            at: 0,
-            cause: RefusalCause::NoMemory,
-        });
+        return Err(Fault::at_once(RefusalCause::NoMemory));
     };
     while search.place() < length {
         let place = search.place();
         if search.is_waiting(place) {
-            match search.turn(image, place) {
+            match search.turn(bounds, image, place) {
                 Ok(()) => {}
                 Err(fault) => return Err(fault),
             }

@@ -2,13 +2,15 @@
 
 ghost use Rattle.std.specs.Prelude.{◌≡◌, IfOk, Some};
 ghost use Rattle.zl_code.specs.Image.{call_at};
+ghost use Rattle.zl_abs.specs.Bounds.{RoundAlike, bounds_of};
 ghost use Rattle.zl_verify.specs.Steps.{is_pause, leads_by};
 ghost use Rattle.zl_verify.specs.Numbers.{places};
 ghost use Rattle.zl_verify.specs.Leading.{target_in, AreTargets};
 
+use crate::edges::edges_at;
 use crate::steps::Targets;
 use std::alloc::{AllocError, Global};
-use zl_abs::{AbsState, Edge, transfer};
+use zl_abs::{AbsState, Bounds, Edge};
 use zl_code::{CallInstr, Image};
 
 /// Whether the count of instructions begins anew at this one: a wait or an exit.
@@ -41,13 +43,14 @@ fn target_of(edge: &Option<Edge>) -> Option<usize>
 
 /// Where the edges lead that are followed from the instruction in this state; nowhere from a pause.
 #[tactic(auto, using(crate::proofs::Leading::leads_told, crate::proofs::Leading::leads_nowhere, crate::proofs::Leading::pauses))]
-fn targets_in(image: &Image, place: usize, state: &AbsState) -> Targets
+fn targets_in(bounds: &Bounds, image: &Image, place: usize, state: &AbsState) -> Targets
+    requires { RoundAlike bounds.now (bounds_of image.now.code) }
     ensures { places result ≡ leads_by image.now place (Some state.now) }
 {
     if is_pause(image, place) {
         return Targets::NONE;
     }
-    match transfer(image, place, state) {
+    match edges_at(bounds, image, place, state) {
         Ok(edges) => Targets {
             jump: target_of(&edges.jump),
             next: target_of(&edges.next),
@@ -57,11 +60,12 @@ fn targets_in(image: &Image, place: usize, state: &AbsState) -> Targets
 }
 
 /// The same where there may be no state, and then nowhere.
-fn targets_at(image: &Image, place: usize, state: &Option<AbsState>) -> Targets
+fn targets_at(bounds: &Bounds, image: &Image, place: usize, state: &Option<AbsState>) -> Targets
+    requires { RoundAlike bounds.now (bounds_of image.now.code) }
     ensures { places result ≡ leads_by image.now place state.now }
 {
     match state {
-        Some(state) => targets_in(image, place, state),
+        Some(state) => targets_in(bounds, image, place, state),
         None => Targets::NONE,
     }
 }
@@ -69,14 +73,16 @@ fn targets_at(image: &Image, place: usize, state: &Option<AbsState>) -> Targets
 /// Where the edges lead that are followed from each instruction in these states.
 pub(crate) fn targets_of(
     alloc: Global,
+    bounds: &Bounds,
     image: &Image,
     states: &[Option<AbsState>],
 ) -> Result<Vec<Targets>, AllocError>
+    requires { RoundAlike bounds.now (bounds_of image.now.code) }
     ensures { IfOk result (λ targets. AreTargets image.now states.now targets.items) }
 {
     let mut targets = vec![in alloc; Targets::NONE; states.len()]?;
     for place in 0..states.len() {
-        targets[place] = targets_at(image, place, &states[place]);
+        targets[place] = targets_at(bounds, image, place, &states[place]);
     }
     Ok(targets)
 }

@@ -3,7 +3,7 @@ use Rattle.zl_verify.proofs.Turning.{begins, ends, none_of_empty, goes_on, turn_
 use Rattle.zl_verify.proofs.search.solve.Goals as goal
 
 pub returns-then-length-eq0-clause-exact : goal.returns-then-length-eq0-clause-exact
-returns-then-length-eq0-clause-exact c = none_of_empty _ (omega arith)
+returns-then-length-eq0-clause-exact c = rw c.at_once.ensures.cause (none_of_empty _ (omega arith))
 
 pub loop-search-init : goal.loop-search-init
 loop-search-init c = rw (c.in-Ok.ensures {u = tt}) (begins _ c.len-length.ensures.in_range (omega arith))

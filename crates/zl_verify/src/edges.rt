@@ -1,0 +1,22 @@
+ghost use Rattle.std.specs.Prelude.{◌≡◌};
+ghost use Rattle.zl_abs.specs.Bounds.{RoundAlike, bounds_of};
+ghost use Rattle.zl_abs.specs.Successors.{edges_told};
+ghost use Rattle.zl_abs.specs.Typing.{rule};
+
+use zl_abs::{AbsState, Bounds, Cause, Successors, transfer_by};
+use zl_code::Image;
+
+/// The edges that are followed from the instruction in this state, or why its rule doesn't hold
+/// there, by bounds that were made once for the image.
+#[tactic(auto, using(zl_abs::proofs::RoundingAlike::same_rule))]
+pub(crate) fn edges_at(
+    bounds: &Bounds,
+    image: &Image,
+    at: usize,
+    state: &AbsState,
+) -> Result<Successors, Cause>
+    requires { RoundAlike bounds.now (bounds_of image.now.code) }
+    ensures { edges_told result ≡ rule image.now at state.now }
+{
+    transfer_by(bounds, image, at, state)
+}

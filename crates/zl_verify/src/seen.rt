@@ -1,0 +1,28 @@
+use crate::search::solve;
+use std::alloc::Global;
+use zl_abs::{AbsState, Bounds};
+use zl_code::Image;
+
+/// What was known at the instruction for which an image is refused. Own profile.
+#[derive(Clone, Copy)]
+pub struct Seen {
+    /// What was known there, if a way to it was found.
+    pub known: Option<AbsState>,
+    /// What came to it along another way, at `JoinConflict`.
+    pub other: Option<AbsState>,
+}
+
+/// What `check` saw of an image that has no typing, for a person: it is found anew. Nothing for
+/// other images, and where memory is refused. Own profile.
+pub fn seen_in(alloc: Global, image: &Image) -> Option<Seen> {
+    let Ok(bounds) = Bounds::of(alloc, image) else {
+        return None;
+    };
+    match solve(alloc, &bounds, image) {
+        Ok(_) => None,
+        Err(fault) => Some(Seen {
+            known: fault.known,
+            other: fault.other,
+        }),
+    }
+}

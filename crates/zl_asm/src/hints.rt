@@ -1,16 +1,17 @@
 //! What a person is told on standard error of a text that denotes no image, of a block of a scenario
-//! that is no program, and of a stuck process; and the words that the other hints are made of. Own
-//! profile.
+//! that is no program, of bytes that are no image, and of a stuck process; and the words that the
+//! other hints are made of. Own profile.
 //!
 //! Texts for people have no contract: each function is safe and returns, whatever it is given, and no
 //! more is promised. A function that adds to a hint answers with `AllocError` where memory is refused,
-//! and a beginning of what it adds may stand there then; `explain_program` and `explain_stuck` leave
-//! the hint empty. Nothing is called before an input is refused, so what is found here is found anew,
-//! line by line, from the input and the cause that the answer has.
+//! and a beginning of what it adds may stand there then; `explain_program`, `explain_image` and
+//! `explain_stuck` leave the hint empty. Nothing is called before an input is refused, so what is found
+//! here is found anew, line by line, from the input and the cause that the answer has.
 
 mod block;
 mod directive;
 mod image;
+mod instr_text;
 mod instruction;
 mod lines;
 mod nearest;
@@ -20,6 +21,8 @@ mod word;
 
 pub use crate::words::is;
 pub use block::{is_opening, push_block_fault};
+pub use image::explain_image;
+pub use instr_text::push_instr_text;
 pub use lines::{line_at, place_of_blank, place_outside_ascii, push_head, push_odd_byte, words_of};
 pub use nearest::push_nearest;
 pub use program::explain_program;

@@ -48,6 +48,30 @@ fn number_at(bytes: &[u8], offset: usize, length: usize) -> u32 {
     u32::from_le_bytes(number)
 }
 
+/// The most bytes that an image has.
+const MOST: usize = 65_676;
+
+/// Adds a line that says why the bytes spell no image.
+pub fn explain_image(hint: &mut String, bytes: &[u8], fault: DecodeFault) {
+    let alone = Block {
+        input: &[],
+        opened: 0,
+        ended: 0,
+    };
+    let pushed = match fault {
+        DecodeFault::Length if bytes.len() > MOST => push_too_long(hint),
+        _ => push_image_fault(hint, alone, bytes, fault),
+    };
+    if pushed.is_err() || hint.push_str("\n").is_err() {
+        hint.clear();
+    }
+}
+
+fn push_too_long(hint: &mut String) -> Result<(), AllocError> {
+    push_head(hint, 0, "Length")?;
+    write!(hint, "an image has at most {MOST} bytes")
+}
+
 /// Adds why the bytes of the block spell no image.
 pub fn push_image_fault(
     hint: &mut String,

@@ -1,6 +1,6 @@
 //! Why a process is stuck.
 
-use crate::disassembling::disassemble;
+use crate::hints::instr_text::push_instr_text;
 use std::alloc::{AllocError, Global};
 use zl_code::{Image, Instr, InstrBytes, LocalInstr, Row};
 
@@ -30,7 +30,8 @@ fn push_stuck(hint: &mut String, alloc: Global, stuck: Stuck) -> Result<(), Allo
     )?;
     match stuck.image.instr_at(counter) {
         Some(instr) => {
-            push_text(hint, alloc, stuck.image, counter)?;
+            hint.push_str(", ")?;
+            push_instr_text(hint, alloc, stuck.image, counter)?;
             push_reason(hint, stuck, instr)?;
         }
         None => match stuck.image.len() {
@@ -43,27 +44,6 @@ fn push_stuck(hint: &mut String, alloc: Global, stuck: Stuck) -> Result<(), Allo
         },
     }
     hint.push_str("\n")
-}
-
-/// Adds the text of the instruction of this number.
-fn push_text(
-    hint: &mut String,
-    alloc: Global,
-    image: &Image,
-    counter: usize,
-) -> Result<(), AllocError> {
-    let text = disassemble(alloc, image)?;
-    let mut count = 0usize;
-    for line in text.lines() {
-        if line.ends_with(':') || (line.starts_with('.') && !line.starts_with(".bytes")) {
-            continue;
-        }
-        if count == counter {
-            return write!(hint, ", {line}");
-        }
-        count = count.saturating_add(1);
-    }
-    Ok(())
 }
 
 /// Adds why the instruction can't be done.

@@ -1,4 +1,4 @@
--- What calls on handles do: close and dup. No public clause cites this module.
+-- What calls on handles do: close, dup and replace. No public clause cites this module.
 use Rattle.std.specs.Prelude.{ℕ, ◌≡◌, ◌<◌, IsTrue, true, ◌||◌, not, [], ◌∷◌, length, Option, Some, None, Result, false, ⊤, ◌==◌, if◌then◌else◌}
 use Rattle.std.specs.Bool.{then_some}
 use Rattle.std.specs.Option.{option_or}

@@ -2,7 +2,7 @@
 
 use crate::hints::instr_text::push_instr_text;
 use std::alloc::{AllocError, Global};
-use zl_code::{Image, Instr, InstrBytes, LocalInstr, Row};
+use zl_code::{CallInstr, Image, Instr, InstrBytes, LocalInstr, Row};
 
 /// A stuck process.
 #[derive(Clone, Copy)]
@@ -51,6 +51,7 @@ fn push_reason(hint: &mut String, stuck: Stuck, instr: Instr) -> Result<(), Allo
     let bytes = instr.to_bytes();
     match &instr {
         Instr::Unknown(_) => write!(hint, ": no instruction has the opcode {}", bytes[0]),
+        Instr::Call(CallInstr::ChanWrite { .. }) => push_no_bytes(hint, stuck, bytes),
         Instr::Call(_) => match Row::of_opcode(bytes[0]) {
             Some(row) => write!(hint, ": the call {} isn't built yet", row.name),
             None => Ok(()),
@@ -87,6 +88,23 @@ fn register(stuck: Stuck, number: u8) -> u64 {
         .get(usize::from(number))
         .copied()
         .unwrap_or(0)
+}
+
+/// Adds that the bytes of a call, whose address and length are in its third and its fourth register,
+/// aren't all in the memory.
+fn push_no_bytes(
+    hint: &mut String,
+    stuck: Stuck,
+    bytes: [u8; Instr::LEN],
+) -> Result<(), AllocError> {
+    let [_, _, address, length, ..] = InstrBytes::split(bytes).registers;
+    let (address, length) = (register(stuck, address), register(stuck, length));
+    let memory = stuck.image.memory();
+    match length {
+        1 => write!(hint, ": the byte at {address} doesn't lie")?,
+        _ => write!(hint, ": the {length} bytes at {address} don't all lie")?,
+    }
+    write!(hint, " in the memory of {memory} bytes")
 }
 
 /// Adds that so many bytes at the sum of base and offset aren't all in the memory.

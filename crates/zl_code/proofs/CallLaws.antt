@@ -1,5 +1,5 @@
 -- What each call says where it isn't refused: its new handles have room, and it is made of these changes.
-use Rattle.zl_code.proofs.Common.{◌<◌, All, Body, Bool, ChannelEnd, EventBody, HandlesAreNamed, HandlesAreSound, IsSound, IsTrue, Library, List, Map, None, Object, Option, PortBody, Process, Ready, Request, SIGNAL, Some, World, [], and_from, and_parts, answer_if, ap, arith, bits, by_look_up, cases_Bool, chan_create, chan_read_etc, chan_write, copy_of, default_rights_of, dup, effect, entry_at, eq-eqb, event_create, examined, false, first_some, get, handle_operands, handles_in, handles_to, has_key, has_koids, has_room, inl, inr, insert_all, is_some, kind_of, queue_of, leb-true, length, listed, may_choose, may_get, may_get_all, nat_le, new_handles, none-some, not, object_at, on_object, operand, raisable, refl, refusal, remove_all, replace, rights_of, row_of, runs, same_Some, signal, subst, sym, taken_handles, true, with_effect, with_object, within, without, ℕ, ◌+◌, ◌&&◌, ◌^◌, ◌||◌, ◌∙◌, ◌∷◌, ◌≡◌, ◌≤◌, ⊤, not-false, or_parts, Packet, settable_of, by_policy, new_entry, object_changed, gets_all, true≢false, false≢true, body_in, body_of, HasPeer, Message, drop, filter, is_end_if_there, takes, ◌++◌, if◌then◌else◌, Ok, Err}
+use Rattle.zl_code.proofs.Common.{◌<◌, All, Body, Bool, ChannelEnd, EventBody, HandlesAreNamed, HandlesAreSound, IsSound, IsTrue, Library, List, Map, None, Object, Option, PortBody, Process, Ready, Request, SIGNAL, Some, World, [], and_from, and_parts, answer_if, ap, arith, bits, by_look_up, cases_Bool, chan_create, chan_read_etc, chan_write, copy_of, default_rights_of, dup, effect, entry_at, eq-eqb, event_create, examined, false, first_some, get, handle_operands, handles_in, handles_to, has_key, has_koids, has_room, inl, inr, insert_all, is_some, kind_of, queue_of, leb-true, length, listed, may_choose, may_get, may_get_all, nat_le, new_handles, none-some, not, object_at, on_object, operand, raisable, refl, refusal, remove_all, replace, rights_of, row_of, runs, same_Some, signal, subst, sym, taken_handles, true, with_effect, with_object, within, without, ℕ, ◌+◌, ◌&&◌, ◌^◌, ◌||◌, ◌∙◌, ◌∷◌, ◌≡◌, ◌≤◌, ⊤, not-false, or_parts, Packet, settable_of, by_policy, new_entry, object_changed, gets_all, true≢false, false≢true, body_in, body_of, HasPeer, IsSoundWait, is_port_there, is_empty, slice_index_or, eqb-true, on_process, ◌==◌, drop, filter, is_end_if_there, takes, ◌++◌, if◌then◌else◌, Ok, Err}
 use Rattle.zl_rights.specs.declared.kind.Kind.TheVariants as kind
 use Rattle.zl_rights.specs.declared.entry.Entry.{Entry}
 use Rattle.zl_rights.specs.declared.status.Status.{Status}
@@ -8,17 +8,20 @@ use Rattle.zl_rights.specs.LookUp.{granted}
 use Rattle.zl_rights.proofs.Narrowed.{narrowed_within}
 use Rattle.zl_code.specs.declared.history.Outcome.{Outcome}
 use Rattle.zl_rights.specs.declared.kind.Kind.{Kind}
-use Rattle.zl_rights.specs.Numbers.{SIGNAL_PEER, USER_SIGNALS}
+use Rattle.zl_rights.specs.Numbers.{SIGNAL_PEER, USER_SIGNALS, WAIT, WRITE}
 use Rattle.zl_rights.specs.Packets.{is_from, user_packet}
 use Rattle.zl_code.specs.CallTable.{choosing, signal_peer, wait_async, port_create, port_queue, port_wait, port_poll, port_cancel}
-use Rattle.zl_code.specs.Waiting.{source_at, wait_of, without_keyed}
+use Rattle.zl_code.specs.Waiting.{source_at, wait_of, registered, without_keyed, is_by_handle}
+use Rattle.zl_rights.specs.World.{Wait}
+use Rattle.std.proofs.lemmas.Bool.{not-true}
+use Rattle.std.proofs.lemmas.List.Elements.{All-filter, filter_passes}
 use Rattle.zl_code.specs.Effects.{message_read, storing, without_waits}
 use Rattle.zl_code.specs.Local.{overwritten}
-use Rattle.zl_code.specs.Tests.{entries_at, first_bytes, first_handles, peer_at, peer_in, queue_at}
+use Rattle.zl_code.specs.Tests.{operand_of, koid_in, entries_at, first_bytes, first_handles, peer_at, peer_in, queue_at}
 use Rattle.zl_code.proofs.MapKept.{changed}
-use Rattle.zl_code.proofs.Changes.{computes, message_comes, message_goes, signals_change, Changes, stays, changes, join, one, object_changes, object_is_made, ends_are_made, packets_are_changed, process_changes, wait_begins, keyed_end, waits_end}
+use Rattle.zl_code.proofs.Changes.{AreUnmade, computes, message_comes, message_goes, signals_change, Changes, stays, changes, join, one, object_changes, object_is_made, ends_are_made, packets_are_changed, process_changes, wait_begins, keyed_end, waits_end}
 use Rattle.zl_code.specs.Refusals.{condition_of}
-use Rattle.zl_code.proofs.Entering.{IsFine, HaveRoom, IsLeft, all_enter, copy_is_fine, one_copy, entry_is_fine, length_without, new_is_fine, removed_last}
+use Rattle.zl_code.proofs.Entering.{IsFine, HaveRoom, MayTake, IsLeft, all_enter, get_without, gone_without, copy_is_fine, one_copy, entry_is_fine, length_without, new_is_fine, removed_last}
 use Rattle.zl_code.proofs.Messages.{may_be_sent, received_are_fine, two_entries, both_are_fine}
 
 -- ---- what holds where a call isn't refused
@@ -157,9 +160,9 @@ module _ (lib : Library) (w : World) (p : ℕ) (q : Process) (there : get w.proc
     room_for n es room few = let below = leb-true _ 1024 (rw there at room) in omega (arith, few, below, left.shorter)
 
     -- the new handles enter, in a world whose processes are those of u
-    enter : (v : World) → v.processes ≡ u.processes → (es : List Entry) (vs : List ℕ) → (IsSound w → HaveRoom after es) → IsTrue (may_get_all after es vs) → All (IsFine w v.objects) es → Changes w v (insert_all v p es vs)
-    enter v same es vs room gets fine =
-        all_enter w v p after es vs (ap (λ m. get m p) same ∙ left.is_there) (ap runs (left.state ∙ ready)) gets room fine
+    enter : (v : World) → v.processes ≡ u.processes → MayTake w v.waits p after → (es : List Entry) (vs : List ℕ) → (IsSound w → HaveRoom after es) → IsTrue (may_get_all after es vs) → All (IsFine w v.objects) es → Changes w v (insert_all v p es vs)
+    enter v same may es vs room gets fine =
+        all_enter w v p after es vs (ap (λ m. get m p) same ∙ left.is_there) (ap runs (left.state ∙ ready)) gets room may fine
 
     -- the values that were chosen
     chosen : (es : List Entry) (vs : List ℕ) → IsTrue (gets_all (get u.processes p) es vs) → IsTrue (may_get_all after es vs)
@@ -170,31 +173,31 @@ module _ (lib : Library) (w : World) (p : ℕ) (q : Process) (there : get w.proc
     fine_in h e at = subst (λ (m : Map Object). IsFine w m e) (sym left.objects) (entry_is_fine w p h e at)
 
     -- a new object, and the first handle to it
-    one_made : (b : Body) → queue_of b ≡ [] → HasPeer (with_object u b).objects (with_object u b).next_koid b → HaveRoom after (new_entry w.next_koid (kind_of b) ∷ []) → (vs : List ℕ) → IsTrue (gets_all (get u.processes p) (new_entry w.next_koid (kind_of b) ∷ []) vs)
+    one_made : MayTake w u.waits p after → (b : Body) → queue_of b ≡ [] → HasPeer (with_object u b).objects (with_object u b).next_koid b → HaveRoom after (new_entry w.next_koid (kind_of b) ∷ []) → (vs : List ℕ) → IsTrue (gets_all (get u.processes p) (new_entry w.next_koid (kind_of b) ∷ []) vs)
         → Changes w u (insert_all (with_object u b) p (new_entry w.next_koid (kind_of b) ∷ []) vs)
     unfolding with_object
-    one_made b quiet peer room vs gets =
+    one_made may b quiet peer room vs gets =
         changes u (with_object u b) _ (object_is_made w u b quiet peer)
-        (enter (with_object u b) refl (new_entry w.next_koid (kind_of b) ∷ []) vs (λ s. room) (chosen _ vs gets) (new_is_fine w u b w.next_koid left.next_koid))
+        (enter (with_object u b) refl may (new_entry w.next_koid (kind_of b) ∷ []) vs (λ s. room) (chosen _ vs gets) (new_is_fine w u b w.next_koid left.next_koid))
 
     -- two new ends of a channel, and the first handles to them
-    two_made : HaveRoom after (two_entries w) → (vs : List ℕ) → IsTrue (gets_all (get u.processes p) (two_entries w) vs)
+    two_made : MayTake w u.waits p after → HaveRoom after (two_entries w) → (vs : List ℕ) → IsTrue (gets_all (get u.processes p) (two_entries w) vs)
         → Changes w u (insert_all (with_object (with_object u (ChannelEnd (w.next_koid + 1) [])) (ChannelEnd w.next_koid [])) p (two_entries w) vs)
     unfolding with_object
-    two_made room vs gets =
+    two_made may room vs gets =
         changes u both _ (ends_are_made w u w.next_koid left.next_koid)
-        (enter both refl (two_entries w) vs (λ s. room) (chosen _ vs gets) (both_are_fine w u (ChannelEnd (w.next_koid + 1) []) (ChannelEnd w.next_koid []) w.next_koid left.next_koid refl refl))
+        (enter both refl may (two_entries w) vs (λ s. room) (chosen _ vs gets) (both_are_fine w u (ChannelEnd (w.next_koid + 1) []) (ChannelEnd w.next_koid []) w.next_koid left.next_koid refl refl))
       where
         both : World
         both = with_object (with_object u (ChannelEnd (w.next_koid + 1) [])) (ChannelEnd w.next_koid [])
 
     -- a handle enters at the value that was removed last
-    enter_again : (v : World) (h : ℕ) → v.processes ≡ u.processes → (es : List Entry) → length es ≤ 1 → IsTrue (may_get after h) → (IsSound w → HaveRoom after es) → All (IsFine w v.objects) es
+    enter_again : (v : World) (h : ℕ) → v.processes ≡ u.processes → MayTake w v.waits p after → (es : List Entry) → length es ≤ 1 → IsTrue (may_get after h) → (IsSound w → HaveRoom after es) → All (IsFine w v.objects) es
         → Changes w v (insert_all v p es (h ∷ []))
     unfolding insert_all
-    enter_again v h same [] few gets room fine = stays v
-    enter_again v h same (e ∷ []) few gets room fine = enter v same (e ∷ []) (h ∷ []) room (and_from (may_get after h) true gets refl) fine
-    enter_again v h same (e ∷ f ∷ es) few gets room fine = absurd (omega arith)
+    enter_again v h same may [] few gets room fine = stays v
+    enter_again v h same may (e ∷ []) few gets room fine = enter v same may (e ∷ []) (h ∷ []) room (and_from (may_get after h) true gets refl) fine
+    enter_again v h same may (e ∷ f ∷ es) few gets room fine = absurd (omega arith)
 
     -- the bytes are stored
     store : (v : World) (address : ℕ) (bytes : List ℕ) → Changes w v (storing v p (address, bytes))
@@ -202,47 +205,97 @@ module _ (lib : Library) (w : World) (p : ℕ) (q : Process) (there : get w.proc
     store v address (b ∷ bytes) = one w v _ (process_changes w v p (λ x. record x { cpu = record x.cpu { memory = overwritten x.cpu.memory address (b ∷ bytes) } }) (λ x at. changed x _ refl refl (computes _ refl)) (λ x. refl))
 
     -- the first message at the end k is read: its handles enter, and its bytes are stored
-    received : (k address : ℕ) (es : List Entry) (bytes vs : List ℕ) → HaveRoom after es → IsTrue (gets_all (get u.processes p) es vs) → All (IsFine w (on_object u k message_read).objects) es
+    received : MayTake w u.waits p after → (k address : ℕ) (es : List Entry) (bytes vs : List ℕ) → HaveRoom after es → IsTrue (gets_all (get u.processes p) es vs) → All (IsFine w (on_object u k message_read).objects) es
         → Changes w u (storing (insert_all (on_object u k message_read) p es vs) p (address, bytes))
     unfolding on_object
-    received k address es bytes vs room gets fine =
+    received may k address es bytes vs room gets fine =
         changes u (on_object u k message_read) _ (object_changes w u k message_read (λ o at. message_goes refl))
-        (join w (on_object u k message_read) (insert_all (on_object u k message_read) p es vs) _ (enter (on_object u k message_read) refl es vs (λ s. room) (chosen es vs gets) fine)
+        (join w (on_object u k message_read) (insert_all (on_object u k message_read) p es vs) _ (enter (on_object u k message_read) refl may es vs (λ s. room) (chosen es vs gets) fine)
         (store (insert_all (on_object u k message_read) p es vs) address bytes))
 
   -- the world without the handles that the call takes
   abbrev left_by : Request → World
   left_by r = remove_all w p (taken_handles r)
 
+  -- by a value that no handle of p has no wait was made
+  unmade : IsSound w → (v : ℕ) → has_key q.handles v ≡ false → AreUnmade w.waits p v
+  unmade s v free i d inside = by_wait (slice_index_or w.waits i d) (s.waits i d inside)
+    where
+      by_wait : (x : Wait) → IsSoundWait w x → is_by_handle p v x ≡ false
+      by_wait x t = elim (cases_Bool (is_by_handle p v x)) as (λ _. is_by_handle p v x ≡ false) [
+        | inl made ↦
+            let both = and_parts (x.pid == p) (x.value == v) made in
+            let at : get (handles_in (get w.processes p)) v ≡ Some t.handle.0 = rw (eqb-true x.pid p both.0, eqb-true x.value v both.1) at t.handle.1 in
+            absurd (false≢true (sym free ∙ ap is_some (rw there at at)))
+        | inr other ↦ other
+      ]
+
+  -- handles may enter where the call takes none away
+  may_take : (hs : List ℕ) → hs ≡ [] → (after : Process) → IsLeft w (remove_all w p hs) p q after → MayTake w (remove_all w p hs).waits p after
+  unfolding remove_all
+  may_take [] none after left =
+      let same : after ≡ q = same_Some after q (sym left.is_there ∙ there) in
+      record { free = λ s v free. unmade s v (rw same at free); last = λ s v is. rw same ((s.tables p q there).free v (rw same at is)).1 }
+  may_take (h ∷ hs) none after left = absurd (false≢true (ap is_empty none))
+
   -- the new handle enters at the value of the one that it replaces
   replaced : (h rights : ℕ) (after : Process) (left : IsLeft w (left_by (replace h rights)) p q after) → refusal lib w p (replace h rights) ≡ None
       → Changes w (left_by (replace h rights)) (insert_all (without_waits (left_by (replace h rights)) p h) p (copy_of (entry_at w p h) rights) (h ∷ []))
-  unfolding taken_handles handle_operands row_of remove_all
+  unfolding taken_handles handle_operands row_of remove_all on_process
   replaced h rights after left passes =
       let live = is_live w p h rights q lib there passes in
       let same : after ≡ record q { handles = without q.handles h; last = Some h } = same_Some after _ (sym left.is_there ∙ removed_last w p h q there live) in
       let shorter : length (without q.handles h) < length q.handles = length_without q.handles h live in
       changes _ (without_waits u p h) _ (waits_end w u p h)
-      (enter_again u after left (without_waits u p h) h refl (copy_of (entry_at w p h) rights) (one_copy (entry_at w p h) rights) (rw same (eq-eqb h h refl))
+      (enter_again u after left (without_waits u p h) h refl (rw same (record {
+        free = λ s v free. elim (cases_Bool (v == h)) as (λ _. AreUnmade (filter (λ x. not (is_by_handle p h x)) w.waits) p v) [
+          | inl here ↦ subst (AreUnmade (filter (λ x. not (is_by_handle p h x)) w.waits) p) (sym (eqb-true v h here)) (λ i d inside. not-true _ (filter_passes (λ x. not (is_by_handle p h x)) w.waits i d inside))
+          | inr other ↦ All-filter (λ x. not (is_by_handle p h x)) (λ x. is_by_handle p v x ≡ false) w.waits (unmade s v (sym (ap is_some (get_without q.handles h v other)) ∙ free))
+        ];
+        last = λ s v is. rw (← same_Some h v is) (gone_without q.handles h);
+      })) (copy_of (entry_at w p h) rights) (one_copy (entry_at w p h) rights) (rw same (eq-eqb h h refl))
       (λ s. let few : length q.handles ≤ 1024 = (s.tables p q there).few in let one = one_copy (entry_at w p h) rights in rw same (omega arith))
       (copy_is_fine w u.objects (entry_at w p h) rights (fine_in u after left h)))
     where
       u : World
       u = remove_all w p (h ∷ [])
 
+  -- the port that a wait names is there
+  has_port : (h port key mask : ℕ) → refusal lib w p (wait_async h port key mask) ≡ None → IsGranted (kind.Port ∷ []) WRITE (entry_at w p port)
+  unfolding row_of refusal handle_operands examined operand
+  has_port h port key mask passes =
+      let first = operand_of w p [] WAIT (entry_at w p h) in
+      let second = operand_of w p (kind.Port ∷ []) WRITE (entry_at w p port) in
+      let both : first_some (first ∷ first_some (second ∷ None ∷ []) ∷ []) ≡ None = first_is_none _ _ passes in
+      is_granted w p (kind.Port ∷ []) WRITE (entry_at w p port) (first_is_none second (None ∷ []) (first_is_none (first_some (second ∷ None ∷ [])) [] (first_none first (first_some (second ∷ None ∷ []) ∷ []) both)))
+
+  port_there : (b : Body) → IsTrue (takes (kind.Port ∷ []) (kind_of b)) → IsTrue (is_port_there (Some b))
+  port_there (PortBody packets) fits = refl
+  port_there _ fits = absurd (false≢true fits)
+
+  -- a wait is registered
+  wait_registered : (h port key mask : ℕ) → refusal lib w p (wait_async h port key mask) ≡ None
+      → Changes w (left_by (wait_async h port key mask)) (registered (left_by (wait_async h port key mask)) (wait_of w p h port key mask))
+  unfolding taken_handles handle_operands row_of remove_all
+  wait_registered h port key mask passes = one w w _ (wait_begins w w (wait_of w p h port key mask) (λ s. record { handle = λ e at. sym (ap koid_in at); port = port_is s }))
+    where
+      port_is : IsSound w → IsTrue (is_port_there (body_of w (object_at w p port)))
+      port_is s = let (o, at, fits) = named_object w p port (kind.Port ∷ []) WRITE (has_port h port key mask passes) s.named in rw at (port_there o.body fits)
+
   pub laws : (r : Request) (after : Process) (left : IsLeft w (left_by r) p q after) → refusal lib w p r ≡ None → IsLawful lib w (left_by r) p after r
-  unfolding effect new_handles insert_all may_choose listed with_object
+  unfolding effect new_handles insert_all may_choose listed with_object taken_handles handle_operands row_of
   laws (dup h rights) after left passes =
       let u = left_by (dup h rights) in
+      let may = may_take (taken_handles (dup h rights)) refl after left in
       let some_room = room_or w p 1 (nat_le (2 ^ 62) (handles_to w (object_at w p h))) (listed_none lib w p (dup h rights) passes).1.0 in
       let room = room_for u after left 1 (copy_of (entry_at w p h) rights) some_room (one_copy (entry_at w p h) rights) in
-      record { room = room; changes = λ vs gets. enter u after left u refl _ vs (λ s. room) (chosen u after left _ vs gets) (copy_is_fine w u.objects (entry_at w p h) rights (fine_in u after left h)) }
+      record { room = room; changes = λ vs gets. enter u after left u refl may _ vs (λ s. room) (chosen u after left _ vs gets) (copy_is_fine w u.objects (entry_at w p h) rights (fine_in u after left h)) }
   laws (replace h rights) after left passes = record { room = omega arith; changes = λ vs gets. replaced h rights after left passes }
   laws chan_create after left passes =
       let u = left_by chan_create in
       let some_room = room_and w p 2 (has_koids w 2) (listed_none lib w p chan_create passes).0 in
       let room = room_for u after left 2 (two_entries w) some_room (omega arith) in
-      record { room = room; changes = two_made u after left room }
+      record { room = room; changes = two_made u after left (may_take (taken_handles chan_create) refl after left) room }
   laws (chan_write c bytes hs) after left passes =
       let u = left_by (chan_write c bytes hs) in
       record {
@@ -256,13 +309,13 @@ module _ (lib : Library) (w : World) (p : ℕ) (q : Process) (there : get w.proc
       let enough = room_for u after left (length (first_handles (queue_at w p c))) (first_handles (queue_at w p c)) some_room (omega arith) in
       record {
         room = enough;
-        changes = λ vs gets. received u after left (object_at w p c) address _ (first_bytes (queue_at w p c)) vs enough gets (received_are_fine w u p c left.objects);
+        changes = λ vs gets. received u after left (may_take (taken_handles (chan_read_etc c address room places)) refl after left) (object_at w p c) address _ (first_bytes (queue_at w p c)) vs enough gets (received_are_fine w u p c left.objects);
       }
   laws event_create after left passes =
       let u = left_by event_create in
       let some_room = room_and w p 1 (has_koids w 1) (listed_none lib w p event_create passes).0 in
       let room = room_for u after left 1 (new_entry w.next_koid kind.Event ∷ []) some_room (omega arith) in
-      record { room = room; changes = one_made u after left EventBody refl tt room }
+      record { room = room; changes = one_made u after left (may_take (taken_handles event_create) refl after left) EventBody refl tt room }
   laws (signal_peer h clear set) after left passes =
       let u = left_by (signal_peer h clear set) in
       record {
@@ -271,13 +324,12 @@ module _ (lib : Library) (w : World) (p : ℕ) (q : Process) (there : get w.proc
             (λ o at. signals_change clear set refl (may_signal_peer w p h clear set lib passes o (subst (λ (m : Map Object). get m (peer_at w p h) ≡ Some o) left.objects at))));
       }
   laws (wait_async h port key mask) after left passes =
-      let u = left_by (wait_async h port key mask) in
-      record { room = omega arith; changes = λ vs gets. one w u _ (wait_begins w u (wait_of w p h port key mask)) }
+      record { room = omega arith; changes = λ vs gets. wait_registered h port key mask passes }
   laws port_create after left passes =
       let u = left_by port_create in
       let some_room = room_and w p 1 (has_koids w 1) (listed_none lib w p port_create passes).0 in
       let room = room_for u after left 1 (new_entry w.next_koid kind.Port ∷ []) some_room (omega arith) in
-      record { room = room; changes = one_made u after left (PortBody []) refl tt room }
+      record { room = room; changes = one_made u after left (may_take (taken_handles port_create) refl after left) (PortBody []) refl tt room }
   laws (port_queue port key value) after left passes =
       let u = left_by (port_queue port key value) in
       record { room = omega arith; changes = λ vs gets. one w u _ (packets_are_changed w u (object_at w p port) (λ xs. xs ++ (user_packet key value ∷ []))) }

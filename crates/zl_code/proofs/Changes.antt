@@ -1,36 +1,54 @@
 -- The elementary changes of which a step is made.
-use Rattle.zl_code.proofs.Common.{◌≡◌, ◌<◌, ◌≤◌, inl, inr, arith, ℕ, suc, Bool, true, false, not, ◌==◌, List, [], ◌∷◌, length, refl, ap, sym, subst, ◌∙◌, IsTrue, Option, Some, None, eq-eqb, if◌then◌else◌, ℤ, option_map, cases_Bool, eqb-true, within, Map, get, put, update, has_key, without, World, Cpu, answered, Process, State, Created, Ready, Blocked, Ended, Object, Body, ChannelEnd, EventBody, PortBody, JobBody, ProcessBody, is_process, state_passes, lives, runs, Settles, queue_of, fired, on_process, process_with, process_without, ended, with_object, may_get, in_order, has_default_rights, names_its_object, HandlesAreSound, HandlesAreNamed, raisable, IsSound, Packet, Message, All, list_all, get-put, get-update, on_object, process_ended, object_changed, with_process, is_blocked, HasItsObject, packets_for, made_ready, with_body, body_with_packets, filter, Awaited, HasPeer, ◌++◌, ◌+◌, ne_eqb, length-append, append-nil, same_Some}
+use Rattle.zl_code.proofs.Common.{◌≡◌, ◌<◌, ◌≤◌, inl, inr, arith, ℕ, suc, Bool, true, false, not, ◌==◌, List, [], ◌∷◌, length, refl, ap, sym, subst, ◌∙◌, IsTrue, Option, Some, None, eq-eqb, if◌then◌else◌, ℤ, option_map, cases_Bool, eqb-true, within, Map, get, put, update, has_key, without, World, Cpu, answered, Process, State, Created, Ready, Blocked, Ended, Object, Body, ChannelEnd, EventBody, PortBody, JobBody, ProcessBody, is_process, state_passes, lives, runs, Settles, queue_of, fired, on_process, process_with, process_without, ended, with_object, may_get, in_order, has_default_rights, names_its_object, HandlesAreSound, HandlesAreNamed, raisable, IsSound, Packet, Message, All, list_all, get-put, get-update, on_object, process_ended, object_changed, with_process, is_blocked, HasItsObject, packets_for, made_ready, with_body, body_with_packets, filter, Awaited, HasPeer, body_of, entry_at, is_port_there, ◌++◌, ◌+◌, ne_eqb, length-append, append-nil, same_Some}
 use Rattle.std.proofs.lemmas.List.Elements.{filter-append}
 use Rattle.zl_rights.specs.declared.entry.Entry.{Entry}
 use Rattle.zl_code.specs.Effects.{message_sent, message_read, without_waits, waiting}
-use Rattle.zl_code.specs.Waiting.{registered, without_keyed, body_packed, repacked}
+use Rattle.zl_code.specs.Waiting.{is_by_handle, registered, without_keyed, body_packed, repacked}
 use Rattle.zl_rights.specs.World.{Wait}
 use Rattle.zl_code.proofs.MapKept.{in_order-put, in_order-update, in_order-each, Changed, same, changed, new, EachChanged, unchanged, changed_put, changed_update, changed_each}
 
+-- ---- registered waits
+
+-- What is true of a wait within a step too: if its handle is live, it names the object that the wait watches.
+pub record IsWait (w : World) (x : Wait) : Type 0 where
+  pub handle : (e : Entry) → entry_at w x.pid x.value ≡ Some e → e.koid ≡ x.object
+  pub port : IsTrue (is_port_there (body_of w x.port))
+
+-- none of the waits was made by the value v of the process p
+abbrev pub AreUnmade : List Wait → ℕ → ℕ → Type 0
+AreUnmade waits p v = All (λ x. is_by_handle p v x ≡ false) waits
+
+-- the waits are as they were, or fewer, or one more
+pub data WaitsChange (start w w2 : World) : Type 0 where
+  alike : w2.waits ≡ w.waits → WaitsChange start w w2
+  fewer : (test : Wait → Bool) → w2.waits ≡ filter test w.waits → WaitsChange start w w2
+  begins : (x : Wait) → w2.waits ≡ w.waits ++ (x ∷ []) → w2.processes ≡ w.processes → (IsSound start → IsWait w2 x) → WaitsChange start w w2
+
 -- ---- what becomes of one process and of one object, in a step that begins at the world start
 
--- e may enter the table of x at the value v; after is the world in which it stands there
-pub record MayEnter (start after : World) (x : Process) (v : ℕ) (e : Entry) : Type 0 where
+-- e may enter the table of x, the process p, at the value v; after is the world in which it stands there
+pub record MayEnter (start after : World) (p : ℕ) (x : Process) (v : ℕ) (e : Entry) : Type 0 where
   pub value : IsTrue (may_get x v)
   pub room : IsSound start → length x.handles < 1024
   pub running : IsTrue (runs x.state)
+  pub unmade : IsSound start → AreUnmade after.waits p v
   pub rights : HandlesAreSound start → IsTrue (has_default_rights e)
   pub names : HandlesAreNamed start → names_its_object after.objects e
 
--- x becomes y
-pub data ProcessChange (start after : World) (x y : Process) : Type 0 where
+-- x, the process p, becomes y
+pub data ProcessChange (start after : World) (p : ℕ) (x y : Process) : Type 0 where
   -- a handle enters its table
-  handle_enters : (v : ℕ) (e : Entry) → y ≡ process_with v e x → MayEnter start after x v e → ProcessChange start after x y
+  handle_enters : (v : ℕ) (e : Entry) → y ≡ process_with v e x → MayEnter start after p x v e → ProcessChange start after p x y
   -- a handle leaves it
-  handle_leaves : (v : ℕ) → y ≡ record x { handles = without x.handles v; last = Some v } → has_key x.handles v ≡ true → ProcessChange start after x y
+  handle_leaves : (v : ℕ) → y ≡ record x { handles = without x.handles v; last = Some v } → has_key x.handles v ≡ true → ProcessChange start after p x y
   -- it goes on, by itself or with an answer
-  computes : (c : Cpu) → y ≡ record x { cpu = c } → ProcessChange start after x y
+  computes : (c : Cpu) → y ≡ record x { cpu = c } → ProcessChange start after p x y
   -- it is over, and its handles are closed
-  ends : (code : ℤ) → y ≡ record x { state = Ended code; handles = []; last = None } → ProcessChange start after x y
+  ends : (code : ℤ) → y ≡ record x { state = Ended code; handles = []; last = None } → ProcessChange start after p x y
   -- it was blocked, and is ready
-  wakes : (c : Cpu) → y ≡ record x { state = Ready; cpu = c } → IsTrue (runs x.state) → ProcessChange start after x y
+  wakes : (c : Cpu) → y ≡ record x { state = Ready; cpu = c } → IsTrue (runs x.state) → ProcessChange start after p x y
   -- it was ready, and waits within a call
-  blocks : (awaited : Awaited) (destinations : List ℕ) → y ≡ record x { state = Blocked awaited destinations } → IsTrue (runs x.state) → ProcessChange start after x y
+  blocks : (awaited : Awaited) (destinations : List ℕ) → y ≡ record x { state = Blocked awaited destinations } → IsTrue (runs x.state) → ProcessChange start after p x y
 
 -- a process that is made between w and after
 pub record IsNewProcess (start w after : World) (k : ℕ) (y : Process) : Type 0 where
@@ -79,9 +97,10 @@ pub record Change (start w w2 : World) : Type 0 where
   pub next_koid : w.next_koid ≤ w2.next_koid
   pub processes_in_order : IsTrue (in_order w.processes) → IsTrue (in_order w2.processes)
   pub objects_in_order : IsTrue (in_order w.objects) → IsTrue (in_order w2.objects)
-  pub processes : EachChanged (λ k. ProcessChange start w2) (IsNewProcess start w w2) w.processes w2.processes
+  pub processes : EachChanged (ProcessChange start w2) (IsNewProcess start w w2) w.processes w2.processes
   pub objects : EachChanged (λ k. ObjectChange start w2) (IsNewObject w w2) w.objects w2.objects
   pub blocked : IsSound start → (p : ℕ) → KeepsBlocked w w2 p
+  pub waits : WaitsChange start w w2
 
 -- changes one after another, and what settles
 pub data Changes (start : World) : World → World → Type 0 where
@@ -106,13 +125,13 @@ kept start P by_change by_settling _ _ (settles u v w c rest) p = kept start P b
 -- what is true of a table stays true of it, where it is true of none, and of one without a handle or with one more
 pub table_kept : (P : Map Entry → Type 0) (start after : World) → P [] → ((m : Map Entry) (v : ℕ) → P m → P (without m v))
     → ((m : Map Entry) (v : ℕ) (e : Entry) → (HandlesAreSound start → IsTrue (has_default_rights e)) → (HandlesAreNamed start → names_its_object after.objects e) → P m → P (put m v e))
-    → (x y : Process) → ProcessChange start after x y → P x.handles → P y.handles
-table_kept P start after none out in_ x y (handle_enters v e is may) t = rw is (in_ x.handles v e may.rights may.names t)
-table_kept P start after none out in_ x y (handle_leaves v is there) t = rw is (out x.handles v t)
-table_kept P start after none out in_ x y (computes c is) t = rw is t
-table_kept P start after none out in_ x y (ends code is) t = rw is none
-table_kept P start after none out in_ x y (wakes c is running) t = rw is t
-table_kept P start after none out in_ x y (blocks awaited ds is running) t = rw is t
+    → (p : ℕ) (x y : Process) → ProcessChange start after p x y → P x.handles → P y.handles
+table_kept P start after none out in_ p x y (handle_enters v e is may) t = rw is (in_ x.handles v e may.rights may.names t)
+table_kept P start after none out in_ p x y (handle_leaves v is there) t = rw is (out x.handles v t)
+table_kept P start after none out in_ p x y (computes c is) t = rw is t
+table_kept P start after none out in_ p x y (ends code is) t = rw is none
+table_kept P start after none out in_ p x y (wakes c is running) t = rw is t
+table_kept P start after none out in_ p x y (blocks awaited ds is running) t = rw is t
 
 -- ---- the list of the blocked
 
@@ -149,24 +168,25 @@ without_one w w2 p list here apart k = elim (cases_Bool (p == k)) as (λ _. Keep
 -- ---- changes of a process
 
 state_kept : (m : Map Process) (p : ℕ) (f : Process → Process) → ((x : Process) → (f x).state ≡ x.state) → (k : ℕ) → state_passes is_blocked (get (update m p f) k) ≡ state_passes is_blocked (get m k)
-state_kept m p f alike k = ap (state_passes is_blocked) (get-update m p f k) ∙ by_test (p == k) (get m k)
+state_kept m p f same_state k = ap (state_passes is_blocked) (get-update m p f k) ∙ by_test (p == k) (get m k)
   where
     by_test : (b : Bool) (o : Option Process) → state_passes is_blocked (if b then option_map f o else o) ≡ state_passes is_blocked o
     by_test true None = refl
-    by_test true (Some x) = ap is_blocked (alike x)
+    by_test true (Some x) = ap is_blocked (same_state x)
     by_test false o = refl
 
 pub process_changes : (start w : World) (p : ℕ) (f : Process → Process)
-    → ((x : Process) → get w.processes p ≡ Some x → Changed (ProcessChange start (on_process w p f)) (IsNewProcess start w (on_process w p f) p) (Some x) (Some (f x)))
+    → ((x : Process) → get w.processes p ≡ Some x → Changed (ProcessChange start (on_process w p f) p) (IsNewProcess start w (on_process w p f) p) (Some x) (Some (f x)))
     → ((x : Process) → (f x).state ≡ x.state) → Change start w (on_process w p f)
 unfolding on_process is_process
-process_changes start w p f ok alike = record {
+process_changes start w p f ok same_state = record {
   next_koid = omega arith;
   processes_in_order = λ h. rw (in_order-update w.processes p f) h;
   objects_in_order = λ h. h;
   processes = changed_update _ _ w.processes p f ok;
   objects = unchanged _ _ w.objects w.objects refl;
-  blocked = λ s k. still refl (state_kept w.processes p f alike k);
+  blocked = λ s k. still refl (state_kept w.processes p f same_state k);
+  waits = alike refl;
 }
 
 -- a handle leaves a table, if it is there
@@ -181,7 +201,7 @@ handle_goes start w p v = process_changes start w p (process_without v) (λ x at
     state_of x false = refl
 
     by_key : (x : Process) (b : Bool) → has_key x.handles v ≡ b
-        → Changed (ProcessChange start (on_process w p (process_without v))) (IsNewProcess start w (on_process w p (process_without v)) p) (Some x) (Some (after b x))
+        → Changed (ProcessChange start (on_process w p (process_without v)) p) (IsNewProcess start w (on_process w p (process_without v)) p) (Some x) (Some (after b x))
     by_key x true is = changed x _ refl refl (handle_leaves v refl is)
     by_key x false is = same refl
 
@@ -195,12 +215,13 @@ process_ends start w p code = record {
   objects = unchanged _ _ w.objects w.objects refl;
   blocked = λ s. without_one w (ended w p code) p refl (ap (state_passes is_blocked) (get-update w.processes p (process_ended code) p ∙ rw (eq-eqb p p refl) refl) ∙ by_process (get w.processes p))
       (λ k other. get-update w.processes p (process_ended code) k ∙ rw other refl);
+  waits = alike refl;
 }
   where
     after : Bool → Process → Process
     after b x = if b then record x { state = Ended code; handles = []; last = None } else x
 
-    by_life : (x : Process) (b : Bool) → Changed (ProcessChange start (ended w p code)) (IsNewProcess start w (ended w p code) p) (Some x) (Some (after b x))
+    by_life : (x : Process) (b : Bool) → Changed (ProcessChange start (ended w p code) p) (IsNewProcess start w (ended w p code) p) (Some x) (Some (after b x))
     by_life x true = changed x _ refl refl (ends code refl)
     by_life x false = same refl
 
@@ -223,6 +244,7 @@ process_wakes start w p q ds vs there running = record {
   processes = changed_put _ _ w.processes p _ (changed q _ there refl (wakes (answered q.cpu ds vs) refl running));
   objects = unchanged _ _ w.objects w.objects refl;
   blocked = λ s. without_one w (made_ready w p q ds vs) p refl (ap (state_passes is_blocked) {y = Some (record q { state = Ready; cpu = answered q.cpu ds vs })} (get-put w.processes p _ p ∙ rw (eq-eqb p p refl) refl)) (λ k other. get-put w.processes p _ k ∙ rw other refl);
+  waits = alike refl;
 }
 
 -- a ready process waits within a call, last of all
@@ -238,6 +260,7 @@ process_blocks w p q ds awaited there ready = record {
     | inl is ↦ subst (KeepsBlocked w (waiting w p ds (Some awaited))) (eqb-true p k is) (asleep (once s) (ap (state_passes is_blocked) {y = Some (blocked q)} (get-update w.processes p blocked p ∙ rw (eq-eqb p p refl, there) refl)))
     | inr other ↦ still (times-behind k other w.blocked) (ap (state_passes is_blocked) (get-update w.processes p blocked k ∙ rw other refl))
   ];
+  waits = alike refl;
 }
   where
     blocked : Process → Process
@@ -263,38 +286,40 @@ process_is_made start w k y fine unblocked = record {
     | inl here ↦ rw (here, ← eqb-true k p here, fine.free s) unblocked
     | inr other ↦ rw other refl
   ]);
+  waits = alike refl;
 }
 
 -- ---- changes of an object
 
 -- a world with other objects alone
 objects_alone : (start w w2 : World) → w2.processes ≡ w.processes → w2.blocked ≡ w.blocked → w.next_koid ≤ w2.next_koid
-    → (IsTrue (in_order w.objects) → IsTrue (in_order w2.objects)) → EachChanged (λ k. ObjectChange start w2) (IsNewObject w w2) w.objects w2.objects → Change start w w2
+    → (IsTrue (in_order w.objects) → IsTrue (in_order w2.objects)) → EachChanged (λ k. ObjectChange start w2) (IsNewObject w w2) w.objects w2.objects → WaitsChange start w w2 → Change start w w2
 unfolding is_process
-objects_alone start w w2 processes blocked next order objects = record {
+objects_alone start w w2 processes blocked next order objects waits = record {
   next_koid = next;
   processes_in_order = λ h. rw processes h;
   objects_in_order = order;
   processes = unchanged _ _ w.processes w2.processes processes;
   objects = objects;
   blocked = λ s p. still (ap (times p) blocked) (ap (λ (m : Map Process). state_passes is_blocked (get m p)) processes);
+  waits = waits;
 }
 
 pub object_changes : (start w : World) (k : ℕ) (f : Object → Object) → ((x : Object) → get w.objects k ≡ Some x → ObjectChange start (on_object w k f) x (f x)) → Change start w (on_object w k f)
 unfolding on_object
-object_changes start w k f ok = objects_alone start w (on_object w k f) refl refl (omega arith) (λ h. rw (in_order-update w.objects k f) h) (changed_update _ _ w.objects k f (λ x there. changed x _ refl refl (ok x there)))
+object_changes start w k f ok = objects_alone start w (on_object w k f) refl refl (omega arith) (λ h. rw (in_order-update w.objects k f) h) (changed_update _ _ w.objects k f (λ x there. changed x _ refl refl (ok x there))) (alike refl)
 
 pub object_is_made : (start w : World) (b : Body) → queue_of b ≡ [] → HasPeer (with_object w b).objects (with_object w b).next_koid b → Change start w (with_object w b)
 unfolding with_object
 object_is_made start w b quiet peer =
     objects_alone start w (with_object w b) refl refl (omega arith) (in_order-put w.objects w.next_koid _)
-    (changed_put _ _ w.objects w.next_koid _ (new _ refl (record { next = omega arith; given = omega arith; quiet = quiet; unraised = refl; peer = peer })))
+    (changed_put _ _ w.objects w.next_koid _ (new _ refl (record { next = omega arith; given = omega arith; quiet = quiet; unraised = refl; peer = peer }))) (alike refl)
 
 -- both ends of a channel
 pub ends_are_made : (start w : World) (n : ℕ) → w.next_koid ≡ n → Change start w (with_object (with_object w (ChannelEnd (n + 1) [])) (ChannelEnd n []))
 unfolding with_object
 ends_are_made start w n here =
-    objects_alone start w (with_object (with_object w (ChannelEnd (n + 1) [])) (ChannelEnd n [])) refl refl (omega arith) (λ h. in_order-put first _ _ (in_order-put w.objects _ _ h)) at_koid
+    objects_alone start w (with_object (with_object w (ChannelEnd (n + 1) [])) (ChannelEnd n [])) refl refl (omega arith) (λ h. in_order-put first _ _ (in_order-put w.objects _ _ h)) at_koid (alike refl)
   where
     end_at : ℕ → Object
     end_at peer = record { body = ChannelEnd peer []; raised = 0 }
@@ -329,7 +354,7 @@ pub packets_are_changed : (start w : World) (k : ℕ) (f : List Packet → List 
 unfolding on_object
 packets_are_changed start w k f =
     objects_alone start w (on_object w k (repacked f)) refl refl (omega arith) (λ h. rw (in_order-update w.objects k (repacked f)) h)
-    (changed_update _ _ w.objects k (repacked f) (λ x there. by_body x x.body refl))
+    (changed_update _ _ w.objects k (repacked f) (λ x there. by_body x x.body refl)) (alike refl)
   where
     other : (x : Object) → body_packed f x.body ≡ x.body → Changed (ObjectChange start (on_object w k (repacked f))) (IsNewObject w (on_object w k (repacked f)) k) (Some x) (Some (repacked f x))
     other x e = same (ap (λ (b : Body). Some (record x { body = b })) e)
@@ -342,28 +367,28 @@ packets_are_changed start w k f =
     by_body x (ProcessBody job) is = other x (ap (body_packed f) is ∙ sym is)
 
 -- a wait is registered
-pub wait_begins : (start w : World) (x : Wait) → Change start w (registered w x)
-wait_begins start w x = objects_alone start w (registered w x) refl refl (omega arith) (λ h. h) (unchanged _ _ w.objects w.objects refl)
+pub wait_begins : (start w : World) (x : Wait) → (IsSound start → IsWait (registered w x) x) → Change start w (registered w x)
+wait_begins start w x fine = objects_alone start w (registered w x) refl refl (omega arith) (λ h. h) (unchanged _ _ w.objects w.objects refl) (begins x refl refl fine)
 
 -- waits with a key end
 pub keyed_end : (start w : World) (p v k key : ℕ) → Change start w (without_keyed w p v k key)
-keyed_end start w p v k key = objects_alone start w (without_keyed w p v k key) refl refl (omega arith) (λ h. h) (unchanged _ _ w.objects w.objects refl)
+keyed_end start w p v k key = objects_alone start w (without_keyed w p v k key) refl refl (omega arith) (λ h. h) (unchanged _ _ w.objects w.objects refl) (fewer _ refl)
 
 -- waits end
 pub waits_end : (start w : World) (p v : ℕ) → Change start w (without_waits w p v)
-waits_end start w p v = objects_alone start w (without_waits w p v) refl refl (omega arith) (λ h. h) (unchanged _ _ w.objects w.objects refl)
+waits_end start w p v = objects_alone start w (without_waits w p v) refl refl (omega arith) (λ h. h) (unchanged _ _ w.objects w.objects refl) (fewer _ refl)
 
 -- the first packet leaves the port
 pub packet_goes : (start w : World) (k : ℕ) (o : Object) (old rest : List Packet) → get w.objects k ≡ Some o → o.body ≡ PortBody old → Change start w (with_body w k o (PortBody rest))
 packet_goes start w k o old rest there port =
     objects_alone start w (with_body w k o (PortBody rest)) refl refl (omega arith) (in_order-put w.objects k _)
-    (changed_put _ _ w.objects k _ (changed o _ there refl (packets_change old rest port refl)))
+    (changed_put _ _ w.objects k _ (changed o _ there refl (packets_change old rest port refl))) (alike refl)
 
 pub waits_fire : (start w : World) → Change start w (fired w)
 unfolding fired
 waits_fire start w =
     objects_alone start w (fired w) refl refl (omega arith) (λ h. rw (in_order-each w.objects (λ k o. record o { body = body_with_packets (packets_for w k) o.body })) h)
-    (changed_each _ _ w.objects (λ k o. record o { body = body_with_packets (packets_for w k) o.body }) (λ k x. by_body k x x.body refl))
+    (changed_each _ _ w.objects (λ k o. record o { body = body_with_packets (packets_for w k) o.body }) (λ k x. by_body k x x.body refl)) (fewer _ refl)
   where
     other : (k : ℕ) (x : Object) → body_with_packets (packets_for w k) x.body ≡ x.body → Changed (ObjectChange start (fired w)) (IsNewObject w (fired w) k) (Some x) (Some (record x { body = body_with_packets (packets_for w k) x.body }))
     other k x e = same (ap (λ (b : Body). Some (record x { body = b })) e)

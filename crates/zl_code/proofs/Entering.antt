@@ -1,12 +1,14 @@
 -- Handles enter and leave the table of a process: where there is room values are free, and each handle is one change.
-use Rattle.zl_code.proofs.Common.{IsSound, All, All-nil, Body, Bool, HandlesAreNamed, HandlesAreSound, IsTrue, List, Map, None, Object, Option, Process, Some, World, [], and_from, and_parts, ap, arith, cases_Bool, cond, copy_of, default_rights_of, entry_at, eq-eqb, false, get, has_default_rights, has_key, inl, inr, insert_all, is_some, kind_of, length, lt-ltb, may_get, names_its_object, narrowed, nat_tests, ne_eqb, none-some, not, on_process, process_with, process_without, put, refl, remove_all, runs, same_Some, subst, suc, sym, taken, true, where_key, with_object, with_rights, without, zero, ℕ, ◌-◌, ◌<◌, ◌==◌, ◌∙◌, ◌∷◌, ◌≡◌, ◌≤◌, get-put, get-update, get-where_key-in, handles_in, new_entry, may_get_all, All-cons, All-head, All-tail, filter, true≢false}
+use Rattle.zl_code.proofs.Common.{IsSound, All, All-nil, Body, Bool, HandlesAreNamed, HandlesAreSound, IsTrue, List, Map, None, Object, Option, Process, Some, World, [], and_from, and_parts, ap, arith, cases_Bool, cond, copy_of, default_rights_of, entry_at, eq-eqb, false, get, has_default_rights, has_key, inl, inr, insert_all, is_some, kind_of, length, lt-ltb, may_get, names_its_object, narrowed, nat_tests, ne_eqb, none-some, not, on_process, process_with, process_without, put, refl, remove_all, runs, same_Some, subst, suc, sym, taken, true, where_key, with_object, with_rights, without, zero, ℕ, ◌-◌, ◌<◌, ◌==◌, ◌∙◌, ◌∷◌, ◌≡◌, ◌≤◌, get-put, get-update, get-where_key-in, get-where_key-out, handles_in, new_entry, may_get_all, All-cons, All-head, All-tail, filter, true≢false, eqb-true, nat_lt, may_get_after, and_parts}
 use Rattle.zl_rights.specs.declared.kind.Kind.TheVariants as kind
 use Rattle.zl_rights.specs.declared.rights.Rights.{Rights}
 use Rattle.zl_rights.specs.declared.entry.Entry.{Entry}
 use Rattle.zl_rights.specs.LookUp.{granted}
 use Rattle.zl_rights.proofs.Narrowed.{narrowed_within}
+use Rattle.std.proofs.lemmas.Bool.{not-true}
 use Rattle.zl_code.proofs.MapKept.{changed}
-use Rattle.zl_code.proofs.Changes.{MayEnter, handle_enters, Changes, stays, changes, process_changes, handle_goes}
+use Rattle.zl_rights.specs.World.{Wait}
+use Rattle.zl_code.proofs.Changes.{AreUnmade, MayEnter, handle_enters, Changes, stays, changes, process_changes, handle_goes}
 use Rattle.zl_rights.specs.declared.kind.Kind.{Kind}
 
 -- ---- an unused value
@@ -28,9 +30,13 @@ length_without {X = X} (e ∷ m) k h = elim (cases_Bool (e.0 == k)) as (λ _. le
   | inr there ↦ rw there (let short : length (without m k) < length m = length_without m k (rw there at h) in omega arith)
 ]
 
-get_without : {X : Type 0} (m : Map X) (k v : ℕ) → (v == k) ≡ false → get (without m k) v ≡ get m v
+pub get_without : {X : Type 0} (m : Map X) (k v : ℕ) → (v == k) ≡ false → get (without m k) v ≡ get m v
 unfolding without where_key
 get_without m k v other = get-where_key-in m (λ j. not (j == k)) v (ap not other)
+
+pub gone_without : {X : Type 0} (m : Map X) (k : ℕ) → has_key (without m k) k ≡ false
+unfolding without where_key
+gone_without m k = ap is_some (get-where_key-out m (λ j. not (j == k)) k (ap not (eq-eqb k k refl)))
 
 -- of the values from 1 to n one is no key of a map with fewer entries
 unused : {X : Type 0} (n : ℕ) (m : Map X) → length m < n → (v : ℕ) × (0 < v) × (v ≤ n) × (has_key m v ≡ false)
@@ -66,6 +72,12 @@ unfolding put
 length_put [] k v = omega arith
 length_put (e ∷ m) k v = grind (arith, nat_tests, length_put m k v)
 
+-- Handles may enter the table of q, the process p, beside these waits: at a free value none of them was made,
+-- and the value that was removed last is free.
+pub record MayTake (start : World) (waits : List Wait) (p : ℕ) (q : Process) : Type 0 where
+  pub free : IsSound start → (v : ℕ) → has_key q.handles v ≡ false → AreUnmade waits p v
+  pub last : IsSound start → (v : ℕ) → q.last ≡ Some v → has_key q.handles v ≡ false
+
 -- the table of the process has room for the new handles
 abbrev pub HaveRoom : Process → List Entry → Type 0
 HaveRoom q es = length es ≤ 1024 - length q.handles
@@ -76,18 +88,33 @@ unfolding on_process
 changed_table w p q f there = get-update w.processes p f p ∙ rw (eq-eqb p p refl, there) refl
 
 pub all_enter : (start u : World) (p : ℕ) (q : Process) (es : List Entry) (vs : List ℕ) → get u.processes p ≡ Some q → IsTrue (runs q.state) → IsTrue (may_get_all q es vs)
-    → (IsSound start → HaveRoom q es) → All (IsFine start u.objects) es → Changes start u (insert_all u p es vs)
+    → (IsSound start → HaveRoom q es) → MayTake start u.waits p q → All (IsFine start u.objects) es → Changes start u (insert_all u p es vs)
 unfolding insert_all on_process
-all_enter start u p q [] vs there running gets room fine = stays u
-all_enter start u p q (e ∷ es) [] there running gets room fine = stays u
-all_enter start u p q (e ∷ es) (v ∷ vs) there running gets room fine =
+all_enter start u p q [] vs there running gets room may fine = stays u
+all_enter start u p q (e ∷ es) [] there running gets room may fine = stays u
+all_enter start u p q (e ∷ es) (v ∷ vs) there running gets room may fine =
     let both = and_parts (may_get q v) (may_get_all (process_with v e q) es vs) gets in
     let longer : length (put q.handles v e) ≤ suc (length q.handles) = length_put q.handles v e in
     let head = All-head (IsFine start u.objects) e es fine in
-    let enters : MayEnter start (on_process u p (process_with v e)) q v e = record { value = both.0; room = λ s. omega (arith, room s); running = running; rights = head.rights; names = head.names } in
+    let enters : MayEnter start (on_process u p (process_with v e)) p q v e = record { value = both.0; room = λ s. omega (arith, room s); running = running; unmade = λ s. may.free s v (unused_value s both.0); rights = head.rights; names = head.names } in
     changes u (on_process u p (process_with v e)) _
-    (process_changes start u p (process_with v e) (λ x at. changed x _ refl refl (handle_enters v e refl (subst (λ (y : Process). MayEnter start (on_process u p (process_with v e)) y v e) (same_Some q x (sym there ∙ at)) enters))) (λ x. refl))
-    (all_enter start (on_process u p (process_with v e)) p (process_with v e q) es vs (changed_table u p q (process_with v e) there) running both.1 (λ s. omega (arith, room s, longer)) (All-tail (IsFine start u.objects) e es fine))
+    (process_changes start u p (process_with v e) (λ x at. changed x _ refl refl (handle_enters v e refl (subst (λ (y : Process). MayEnter start (on_process u p (process_with v e)) p y v e) (same_Some q x (sym there ∙ at)) enters))) (λ x. refl))
+    (all_enter start (on_process u p (process_with v e)) p (process_with v e q) es vs (changed_table u p q (process_with v e) there) running both.1 (λ s. omega (arith, room s, longer)) (record { free = λ s j none. may.free s j (free_before j none); last = λ s j is. absurd (none-some j is) }) (All-tail (IsFine start u.objects) e es fine))
+  where
+    -- what is free after v was taken was free before
+    free_before : (j : ℕ) → has_key (put q.handles v e) j ≡ false → has_key q.handles j ≡ false
+    free_before j none = elim (cases_Bool (v == j)) as (λ _. has_key q.handles j ≡ false) [
+      | inl here ↦ absurd (true≢false (rw (get-put q.handles v e j, here) at none))
+      | inr other ↦ rw (get-put q.handles v e j, other) at none
+    ]
+
+    -- v is free
+    unused_value : IsSound start → IsTrue (may_get q v) → has_key q.handles v ≡ false
+    unused_value s = by_last q.last refl
+      where
+        by_last : (last : Option ℕ) → q.last ≡ last → IsTrue (may_get_after last q v) → has_key q.handles v ≡ false
+        by_last (Some l) is gets = may.last s v (rw (eqb-true v l gets) is)
+        by_last None is gets = not-true _ (and_parts (nat_lt v 65536) _ (and_parts (nat_lt 0 v) _ gets).1).1
 
 same_state : (v : ℕ) (q : Process) → (process_without v q).state ≡ q.state
 same_state v q = elim (cases_Bool (has_key q.handles v)) as (λ _. (process_without v q).state ≡ q.state) [ inl there ↦ rw there refl | inr gone ↦ rw gone refl ]

@@ -61,7 +61,7 @@ from_tables w processes objects tables queues = record {
 pub sound_change : (start u v : World) → HandlesAreSound start → Change start u v → HandlesAreSound u → HandlesAreSound v
 sound_change start u v before c s =
     from_tables v (c.processes_in_order s.processes) (c.objects_in_order s.objects)
-    (each_changed _ _ (λ k q. IsFineTable q.handles) u.processes v.processes c.processes (λ k. table_kept IsFineTable start v empty_table leaves (λ m n e rights names. enters m n e (rights before))) (λ k y n. rw n.empty empty_table) (fine_tables u s))
+    (each_changed _ _ (λ k q. IsFineTable q.handles) u.processes v.processes c.processes (table_kept IsFineTable start v empty_table leaves (λ m n e rights names. enters m n e (rights before))) (λ k y n. rw n.empty empty_table) (fine_tables u s))
     (each_changed _ _ (λ k o. HasFineQueue o) u.objects v.objects c.objects (λ k x y. by_object start v x y before) (λ k y n. rw n.quiet refl) s.queued)
 
 pub sound_settled : (u v : World) → Settles u v → HandlesAreSound u → HandlesAreSound v

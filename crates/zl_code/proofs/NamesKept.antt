@@ -68,7 +68,7 @@ named_change start u v before given c s = record {
 }
   where
     all_tables : (p : ℕ) (q : Process) → get v.processes p ≡ Some q → TableNames v.objects q
-    all_tables = each_changed _ _ (λ k q. TableNames v.objects q) u.processes v.processes c.processes (λ k. table_kept (Each (names_its_object v.objects)) start v (no_handle v.objects) (leaves v.objects) (λ m n e rights names t. each_put (names_its_object v.objects) m t n e (names before))) (λ k y n. rw n.empty (no_handle v.objects))
+    all_tables = each_changed _ _ (λ k q. TableNames v.objects q) u.processes v.processes c.processes (table_kept (Each (names_its_object v.objects)) start v (no_handle v.objects) (leaves v.objects) (λ m n e rights names t. each_put (names_its_object v.objects) m t n e (names before))) (λ k y n. rw n.empty (no_handle v.objects))
         (λ p q there w e at. still start u v given c e (s.tables p w q e there at))
 
 -- ---- settling

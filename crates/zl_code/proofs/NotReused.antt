@@ -116,18 +116,18 @@ given_settled u v c given = given_still u v given (by_settling u v c)
 
 -- ---- processes
 
-same_program : (start after : World) (x y : Process) → ProcessChange start after x y → y.program ≡ x.program
-same_program start after x y (handle_enters v e is may) = rw is refl
-same_program start after x y (handle_leaves v is there) = rw is refl
-same_program start after x y (computes c is) = rw is refl
-same_program start after x y (ends code is) = rw is refl
-same_program start after x y (wakes c is running) = rw is refl
-same_program start after x y (blocks awaited ds is running) = rw is refl
+same_program : (start after : World) (p : ℕ) (x y : Process) → ProcessChange start after p x y → y.program ≡ x.program
+same_program start after p x y (handle_enters v e is may) = rw is refl
+same_program start after p x y (handle_leaves v is there) = rw is refl
+same_program start after p x y (computes c is) = rw is refl
+same_program start after p x y (ends code is) = rw is refl
+same_program start after p x y (wakes c is running) = rw is refl
+same_program start after p x y (blocks awaited ds is running) = rw is refl
 
 process_stays : (start u v : World) → IsSound start → Change start u v → KeepsProcesses u v
 process_stays start u v s c p q there = elim (c.processes p) as (λ _. (after : Process) × (get v.processes p ≡ Some after) × (after.program ≡ q.program)) [
   | same e ↦ (q, e ∙ there, refl)
-  | changed x y was is r ↦ (y, is, same_program start v x y r ∙ ap (λ (z : Process). z.program) (same_Some x q (sym was ∙ there)))
+  | changed x y was is r ↦ (y, is, same_program start v p x y r ∙ ap (λ (z : Process). z.program) (same_Some x q (sym was ∙ there)))
   | new y is n ↦ absurd (none-some q (sym (n.free s) ∙ there))
 ]
 

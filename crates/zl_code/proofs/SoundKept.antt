@@ -1,17 +1,18 @@
 -- Every world of a run from a boot world is sound.
-use Rattle.zl_code.proofs.Common.{◌≡◌, ◌<◌, ◌≤◌, inl, inr, arith, ℕ, suc, Bool, true, false, not, ◌||◌, ◌==◌, [], length, refl, ap, sym, ◌∙◌, IsTrue, Option, Some, None, eq-eqb, if◌then◌else◌, is_some, nat_lt, bit_and, option_map, cases_Bool, eqb-true, and_parts, and_from, or_left, or_right, false≢true, none-some, same_Some, within, Map, get, put, without, where_key, each, has_key, World, Process, State, Created, Ready, Blocked, Gone, Object, Body, ChannelEnd, JobBody, ProcessBody, Message, is_process, state_passes, lives, runs, process_settled, Koids, Settles, without_others, is_held, in_table, in_queue, has_living_child, body_in, may_get, is_job_body, HasGivenKoids, raisable, IsSound, min, max, get-put, get-each, get-where_key-in, get-where_key-out, may_get_after, is_value, IsSoundTable, is_blocked, HasItsObject, HasPeer, is_end_if_there, bit_xor, state_without, IsLargestHeld, filter, true≢false}
+use Rattle.zl_code.proofs.Common.{All, HandlesAreNamed, HandlesAreSound, ◌≡◌, ◌<◌, ◌≤◌, inl, inr, arith, ℕ, suc, Bool, true, false, not, ◌||◌, ◌==◌, [], length, refl, ap, sym, ◌∙◌, IsTrue, Option, Some, None, eq-eqb, if◌then◌else◌, is_some, nat_lt, bit_and, option_map, cases_Bool, eqb-true, and_parts, and_from, or_left, or_right, false≢true, none-some, same_Some, within, Map, get, put, without, where_key, each, has_key, World, Process, State, Created, Ready, Blocked, Gone, Object, Body, ChannelEnd, JobBody, ProcessBody, Message, is_process, state_passes, lives, runs, process_settled, Koids, Settles, without_others, is_held, in_table, in_queue, has_living_child, body_in, may_get, is_job_body, HasGivenKoids, raisable, IsSound, min, max, get-put, get-each, get-where_key-in, get-where_key-out, may_get_after, is_value, IsSoundTable, is_blocked, HasItsObject, HasPeer, is_end_if_there, bit_xor, state_without, IsLargestHeld, filter, true≢false}
 use Rattle.std.specs.Int.{bit_at}
 use Rattle.std.proofs.lemmas.Nat.Bits.{same_from_bits, bit_at_and, bit_at_or, bit_at-zero}
 use Rattle.zl_rights.specs.declared.entry.Entry.{Entry}
 use Rattle.zl_rights.specs.Numbers.{changed as signals_changed}
 use Rattle.zl_code.proofs.MapKept.{each_where_key, EachChanged, same, changed, new, changed_each, each_changed}
-use Rattle.zl_code.proofs.Changes.{MayEnter, ProcessChange, handle_enters, handle_leaves, computes, ends, wakes, blocks, ObjectChange, signals_change, packets_change, message_comes, message_goes, still, awake, asleep, Change}
+use Rattle.zl_code.proofs.Changes.{IsWait, MayEnter, ProcessChange, handle_enters, handle_leaves, computes, ends, wakes, blocks, ObjectChange, signals_change, packets_change, message_comes, message_goes, still, awake, asleep, Change}
 use Rattle.zl_code.specs.Effects.{body_with_message, body_after_read}
 use Rattle.zl_code.proofs.Entering.{length_filter, length_put}
 use Rattle.zl_code.proofs.StepChanges.{job_is_there}
 use Rattle.zl_code.proofs.HandlesKept.{sound_change, sound_settled}
 use Rattle.zl_code.proofs.NamesKept.{named_change, named_settled, held_is_kept, list_any-get}
 use Rattle.zl_code.proofs.NotReused.{given_change, given_settled}
+use Rattle.zl_code.proofs.WaitsKept.{AreLive, are_waits, sound_waits, waits_kept, waits_settled}
 
 -- ---- a table
 
@@ -34,8 +35,8 @@ value_given x v t = by_last x.last refl
         let below = and_parts (nat_lt v 65536) _ above.1 in
         (and_from _ _ above.0 below.0, elim (cases_Bool (has_key x.handles v)) as (λ _. has_key x.handles v ≡ false) [ inl there ↦ absurd (false≢true (rw there at below.1)) | inr free ↦ free ])
 
-handle_in : (start after : World) (x : Process) (v : ℕ) (e : Entry) → IsSound start → MayEnter start after x v e → IsSoundTable (runs x.state) x.handles x.last → IsSoundTable (runs x.state) (put x.handles v e) None
-handle_in start after x v e s may t = record {
+handle_in : (start after : World) (p : ℕ) (x : Process) (v : ℕ) (e : Entry) → IsSound start → MayEnter start after p x v e → IsSoundTable (runs x.state) x.handles x.last → IsSoundTable (runs x.state) (put x.handles v e) None
+handle_in start after p x v e s may t = record {
   few = let longer : length (put x.handles v e) ≤ suc (length x.handles) = length_put x.handles v e in omega (arith, may.room s);
   values = λ j h. elim (cases_Bool (v == j)) as (λ _. IsTrue (is_value j)) [
     | inl here ↦ rw (← eqb-true v j here) (value_given x v t may.value).0
@@ -57,13 +58,13 @@ handle_out x v there t = record {
   idle = λ h. absurd (true≢false (sym (rw (t.idle h).0 at there) ∙ no_key v));
 }
 
-by_process : (start after : World) (x y : Process) → IsSound start → ProcessChange start after x y → IsSoundTable (runs x.state) x.handles x.last → IsSoundTable (runs y.state) y.handles y.last
-by_process start after x y s (handle_enters v e is may) t = rw is (handle_in start after x v e s may t)
-by_process start after x y s (handle_leaves v is there) t = rw is (handle_out x v there t)
-by_process start after x y s (computes c is) t = rw is t
-by_process start after x y s (ends code is) t = rw is (empty_table false)
-by_process start after x y s (wakes c is running) t = rw is (rw running at t)
-by_process start after x y s (blocks awaited ds is running) t = rw is (rw running at t)
+by_process : (start after : World) (p : ℕ) (x y : Process) → IsSound start → ProcessChange start after p x y → IsSoundTable (runs x.state) x.handles x.last → IsSoundTable (runs y.state) y.handles y.last
+by_process start after p x y s (handle_enters v e is may) t = rw is (handle_in start after p x v e s may t)
+by_process start after p x y s (handle_leaves v is there) t = rw is (handle_out x v there t)
+by_process start after p x y s (computes c is) t = rw is t
+by_process start after p x y s (ends code is) t = rw is (empty_table false)
+by_process start after p x y s (wakes c is running) t = rw is (rw running at t)
+by_process start after p x y s (blocks awaited ds is running) t = rw is (rw running at t)
 
 -- ---- a living process has its object
 
@@ -72,13 +73,13 @@ runs_lives Ready r = refl
 runs_lives (Blocked a b) r = refl
 runs_lives _ r = absurd (false≢true r)
 
-lives_before : (start after : World) (x y : Process) → ProcessChange start after x y → IsTrue (lives y.state) → IsTrue (lives x.state)
-lives_before start after x y (handle_enters v e is may) h = rw is at h
-lives_before start after x y (handle_leaves v is there) h = rw is at h
-lives_before start after x y (computes c is) h = rw is at h
-lives_before start after x y (ends code is) h = absurd (false≢true (rw is at h))
-lives_before start after x y (wakes c is running) h = runs_lives x.state running
-lives_before start after x y (blocks awaited ds is running) h = runs_lives x.state running
+lives_before : (start after : World) (p : ℕ) (x y : Process) → ProcessChange start after p x y → IsTrue (lives y.state) → IsTrue (lives x.state)
+lives_before start after p x y (handle_enters v e is may) h = rw is at h
+lives_before start after p x y (handle_leaves v is there) h = rw is at h
+lives_before start after p x y (computes c is) h = rw is at h
+lives_before start after p x y (ends code is) h = absurd (false≢true (rw is at h))
+lives_before start after p x y (wakes c is running) h = runs_lives x.state running
+lives_before start after p x y (blocks awaited ds is running) h = runs_lives x.state running
 
 has_body : (o : Option Object) (b : Body) → body_in o ≡ Some b → IsTrue (is_some o)
 has_body None b e = absurd (none-some b e)
@@ -197,24 +198,71 @@ end_stays start after x y (message_goes is) t = rw is (read x.body t)
 
 -- no change takes a peer away, or puts anything else at its koid
 peer_stays : (start u v : World) → Change start u v → (b : Body) → HasPeer u.objects u.next_koid b → HasPeer v.objects v.next_koid b
-peer_stays start u v c (ChannelEnd peer queue) (below, is_end) = (omega (arith, below, c.next_koid), elim (c.objects peer) as (λ _. IsTrue (is_end_if_there (body_in (get v.objects peer)))) [
-  | same e ↦ rw e is_end
-  | changed x y was is r ↦ rw is (end_stays start v x y r (rw was at is_end))
-  | new y is n ↦ absurd (omega (arith, n.next, below))
-])
+peer_stays start u v c (ChannelEnd peer queue) (below, is_end) = (
+  omega (arith, below, c.next_koid),
+  elim (c.objects peer) as (λ _. IsTrue (is_end_if_there (body_in (get v.objects peer)))) [
+    | same e ↦ rw e is_end
+    | changed x y was is r ↦ rw is (end_stays start v x y r (rw was at is_end))
+    | new y is n ↦ absurd (omega (arith, n.next, below))
+  ],
+)
 peer_stays start u v c _ h = tt
 
 -- nor does settling
 peer_settles : (m : Map Object) (n : ℕ) (K : Koids) (b : Body) → HasPeer m n b → HasPeer (where_key K m) n b
-peer_settles m n K (ChannelEnd peer queue) (below, is_end) = (below, elim (cases_Bool (K peer)) as (λ _. IsTrue (is_end_if_there (body_in (get (where_key K m) peer)))) [
-  | inl kept ↦ rw (get-where_key-in m K peer kept) is_end
-  | inr gone ↦ rw (get-where_key-out m K peer gone) refl
-])
+peer_settles m n K (ChannelEnd peer queue) (below, is_end) = (
+  below,
+  elim (cases_Bool (K peer)) as (λ _. IsTrue (is_end_if_there (body_in (get (where_key K m) peer)))) [
+    | inl kept ↦ rw (get-where_key-in m K peer kept) is_end
+    | inr gone ↦ rw (get-where_key-out m K peer gone) refl
+  ],
+)
 peer_settles m n K _ h = tt
 
 -- ---- a change
 
-pub kept_by_change : (start u v : World) → IsSound start → Change start u v → IsSound u → IsSound v
+-- What is true within a step too: all that is true of a sound world, but that waits may have lost their handles.
+pub record IsNearlySound (w : World) : Type 0 where
+  pub handles : HandlesAreSound w
+  pub named : HandlesAreNamed w
+  pub objects : HasGivenKoids w
+  pub processes : (p : ℕ) → IsTrue (has_key w.processes p) → p < w.next_koid
+  pub tables : (p : ℕ) (q : Process) → get w.processes p ≡ Some q → IsSoundTable (runs q.state) q.handles q.last
+  pub living : (p : ℕ) (q : Process) → get w.processes p ≡ Some q → IsTrue (lives q.state) → HasItsObject w.objects p
+  pub blocked : (p : ℕ) → length (filter (λ q. q == p) w.blocked) ≡ (if is_process w is_blocked p then 1 else 0)
+  pub peers : (k : ℕ) (o : Object) → get w.objects k ≡ Some o → HasPeer w.objects w.next_koid o.body
+  pub raised : (k : ℕ) (o : Object) → get w.objects k ≡ Some o → IsTrue (within o.raised (raisable o.body))
+  pub waits : All (IsWait w) w.waits
+
+pub nearly_sound : (w : World) → IsSound w → IsNearlySound w
+nearly_sound w s = record {
+  handles = s.handles;
+  named = s.named;
+  objects = s.objects;
+  processes = s.processes;
+  tables = s.tables;
+  living = s.living;
+  blocked = s.blocked;
+  peers = s.peers;
+  raised = s.raised;
+  waits = are_waits w s.waits;
+}
+
+pub wholly_sound : (w : World) → AreLive w → IsNearlySound w → IsSound w
+wholly_sound w live s = record {
+  handles = s.handles;
+  named = s.named;
+  objects = s.objects;
+  processes = s.processes;
+  tables = s.tables;
+  living = s.living;
+  blocked = s.blocked;
+  peers = s.peers;
+  raised = s.raised;
+  waits = sound_waits w live s.waits;
+}
+
+pub kept_by_change : (start u v : World) → IsSound start → Change start u v → IsNearlySound u → IsNearlySound v
 kept_by_change start u v before c s = record {
   handles = sound_change start u v before.handles c s.handles;
   named = named_change start u v before.named s.objects c s.named;
@@ -224,8 +272,8 @@ kept_by_change start u v before c s = record {
     | changed x y was is r ↦ let below : p < u.next_koid = s.processes p (ap is_some was) in omega (arith, c.next_koid)
     | new y is n ↦ n.given
   ];
-  tables = each_changed _ _ (λ k q. IsSoundTable (runs q.state) q.handles q.last) u.processes v.processes c.processes (λ k x y. by_process start v x y before) (λ k y n. rw (n.empty, n.nothing_last) (empty_table (runs y.state))) s.tables;
-  living = each_changed _ _ (λ k q. IsTrue (lives q.state) → HasItsObject v.objects k) u.processes v.processes c.processes (λ k x y r has alive. has (lives_before start v x y r alive)) (λ k y n alive. n.object before)
+  tables = each_changed _ _ (λ k q. IsSoundTable (runs q.state) q.handles q.last) u.processes v.processes c.processes (λ k x y. by_process start v k x y before) (λ k y n. rw (n.empty, n.nothing_last) (empty_table (runs y.state))) s.tables;
+  living = each_changed _ _ (λ k q. IsTrue (lives q.state) → HasItsObject v.objects k) u.processes v.processes c.processes (λ k x y r has alive. has (lives_before start v k x y r alive)) (λ k y n alive. n.object before)
       (λ p q there alive. object_stays start u v s.objects c p (s.living p q there alive));
   blocked = λ p. elim (c.blocked before p) as (λ _. length (filter (λ q. q == p) v.blocked) ≡ (if is_process v is_blocked p then 1 else 0)) [
     | still count state ↦ count ∙ (s.blocked p ∙ ap (λ (b : Bool). if b then 1 else 0) (sym state))
@@ -233,6 +281,7 @@ kept_by_change start u v before c s = record {
     | asleep count state ↦ count ∙ rw state refl
   ];
   peers = each_changed _ _ (λ k o. HasPeer v.objects v.next_koid o.body) u.objects v.objects c.objects (λ k. peer_kept start v v.objects v.next_koid) (λ k y n. n.peer) (λ k o there. peer_stays start u v c o.body (s.peers k o there));
+  waits = waits_kept start u v before s.objects c s.waits;
   raised = each_changed _ _ (λ k o. IsTrue (within o.raised (raisable o.body))) u.objects v.objects c.objects (λ k x y. by_object start v x y before) (λ k y n. rw n.unraised (none_raised (raisable y.body))) s.raised;
 }
 
@@ -271,7 +320,7 @@ module _ (u : World) (K : Koids) (largest : IsLargestHeld u K) (p : ℕ) (x : Pr
       held_is_kept u K largest job (and_from _ _ job_there (or_right _ _ (list_any-get _ u.objects p o at
       (and_from (K p) _ kept_p (rw (is, there, eq-eqb job job refl) alive)))))
 
-object_kept : (u : World) (K : Koids) → IsLargestHeld u K → IsSound u → (p : ℕ) (x : Process) → get u.processes p ≡ Some x → IsTrue (lives (state_without (K p) x.state)) → HasItsObject (where_key K u.objects) p
+object_kept : (u : World) (K : Koids) → IsLargestHeld u K → IsNearlySound u → (p : ℕ) (x : Process) → get u.processes p ≡ Some x → IsTrue (lives (state_without (K p) x.state)) → HasItsObject (where_key K u.objects) p
 object_kept u K largest s p x there alive =
     let both = lives_kept u K largest p x there (λ h. let has = s.living p x there h in has_body (get u.objects p) (ProcessBody has.0) has.1) alive in
     let (job, is, job_there) = s.living p x there both.0 in
@@ -282,7 +331,7 @@ object_kept u K largest s p x there alive =
     by_object job None at is job_there both = absurd (none-some _ is)
     by_object job (Some o) at is job_there both = job_kept u K largest p x there job o at (same_Some o.body (ProcessBody job) is) (job_is_there (get u.objects job) job_there) both.0 both.1
 
-pub kept_by_settling : (u v : World) → Settles u v → IsSound u → IsSound v
+pub kept_by_settling : (u v : World) → Settles u v → IsNearlySound u → IsNearlySound v
 unfolding without_others is_process
 kept_by_settling u v (K, largest, e) s = rw e (record {
   handles = sound_settled u (without_others u K) (K, largest, refl) s.handles;
@@ -293,6 +342,7 @@ kept_by_settling u v (K, largest, e) s = rw e (record {
   living = λ p q there. by_process p q (get u.processes p) refl (sym (get-each u.processes (process_settled K) p) ∙ there);
   blocked = λ p. s.blocked p ∙ ap (λ (b : Bool). if b then 1 else 0) (sym (ap (state_passes is_blocked) (get-each u.processes (process_settled K) p) ∙ blocked_before p (get u.processes p)));
   peers = each_where_key (λ o. HasPeer (where_key K u.objects) u.next_koid o.body) u.objects (λ k o there. peer_settles u.objects u.next_koid K o.body (s.peers k o there)) K;
+  waits = waits_settled u K s.waits;
   raised = each_where_key (λ o. IsTrue (within o.raised (raisable o.body))) u.objects s.raised K;
 })
   where

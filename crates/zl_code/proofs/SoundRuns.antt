@@ -1,5 +1,5 @@
 -- What steps keep, along runs and histories from a boot world.
-use Rattle.zl_code.proofs.Common.{◌≡◌, ◌<◌, arith, inl, inr, ℕ, false, HasPeer, JobBody, ◌==◌, List, [], ◌∷◌, refl, subst, IsTrue, Option, Some, None, is_some, list_all, flat_map, cases_Bool, eqb-true, false≢true, none-some, same_Some, within, get, World, Object, is_process, queue_of, Library, Step, pid_of, single, IsLegalHistory, Boots, IsBoot, boot_effect, origin, HasGivenKoids, has_default_rights, HandlesAreSound, HandlesAreNamed, raisable, IsSound, KeepsProcesses, Runs}
+use Rattle.zl_code.proofs.Common.{◌≡◌, ◌<◌, arith, inl, inr, ℕ, false, ◌∙◌, All-nil, HasPeer, IsSoundWait, JobBody, with_object, ◌==◌, List, [], ◌∷◌, refl, subst, IsTrue, Option, Some, None, is_some, list_all, flat_map, cases_Bool, eqb-true, false≢true, none-some, same_Some, within, get, World, Object, is_process, queue_of, Library, Step, pid_of, single, IsLegalHistory, Boots, IsBoot, boot_effect, origin, HasGivenKoids, has_default_rights, HandlesAreSound, HandlesAreNamed, raisable, IsSound, KeepsProcesses, Runs}
 use Rattle.zl_code.specs.declared.boot.Statement.{Statement}
 use Rattle.zl_code.specs.declared.history.TraceItem.{TraceItem}
 use Rattle.zl_code.specs.Koids.{KeepsKoids}
@@ -9,7 +9,9 @@ use Rattle.zl_code.proofs.StepChanges.{step_changes, boot_changes}
 use Rattle.zl_code.proofs.HandlesKept.{sound_change, sound_settled}
 use Rattle.zl_code.proofs.NamesKept.{QueueNames, no_queue, named_change, named_settled}
 use Rattle.zl_code.proofs.NotReused.{Keeps, nothing_changed, follows, koids_kept, Keeps-KeepsKoids, given_still, given_change, given_settled, stay_then, processes_kept}
-use Rattle.zl_code.proofs.SoundKept.{none_raised, kept_by_change, kept_by_settling}
+use Rattle.zl_code.specs.declared.boot.Statement.TheVariants as statement
+use Rattle.zl_code.proofs.WaitsKept.{AreLive, live_awake, live_settled, live_without}
+use Rattle.zl_code.proofs.SoundKept.{IsNearlySound, nearly_sound, wholly_sound, none_raised, kept_by_change, kept_by_settling}
 
 -- ---- what each step keeps
 
@@ -46,16 +48,27 @@ step_handles_named lib w p x after given s step =
 
 -- ---- sound worlds
 
-changes_keep_sound : (u v : World) → Changes u u v → IsSound u → IsSound v
-changes_keep_sound u v c s = kept u IsSound (λ a b d. kept_by_change u a b s d) kept_by_settling u v c s
+nearly_kept : (u v : World) → Changes u u v → IsSound u → IsNearlySound v
+nearly_kept u v c s = kept u IsNearlySound (λ a b d. kept_by_change u a b s d) kept_by_settling u v c (nearly_sound u s)
 
 pub step_sound : (lib : Library) (w : World) (p : ℕ) (x : TraceItem) (after : World) → IsSound w → Step lib w p x after → IsSound after
-step_sound lib w p x after s step = changes_keep_sound w after (step_changes lib w p x after step) s
+step_sound lib w p x after s step = wholly_sound after live (nearly_kept w after (step_changes lib w p x after step) s)
+  where
+    live : AreLive after
+    live = rw step.ends_awake (live_awake step.settled (live_settled step.acted step.settled step.settles))
 
-boots_sound : (lib : Library) (w : World) (statements : List Statement) (after : World) → IsSound w → Boots lib w statements after → IsSound after
-boots_sound lib w [] after s e = rw e s
-boots_sound lib w (st ∷ statements) after s (vs, fine, may, rest) =
-    boots_sound lib (boot_effect lib w st vs) statements after (changes_keep_sound w (boot_effect lib w st vs) (boot_changes lib w st vs s.objects fine may) s) rest
+-- a boot registers no wait
+no_wait_booted : (lib : Library) (w : World) (s : Statement) (vs : List ℕ) → (boot_effect lib w s vs).waits ≡ w.waits
+unfolding boot_effect with_object
+no_wait_booted lib w (statement.Process job program word handles) vs = refl
+
+boots_sound : (lib : Library) (w : World) (statements : List Statement) (after : World) → IsSound w → w.waits ≡ [] → Boots lib w statements after → IsSound after
+boots_sound lib w [] after s none e = rw e s
+boots_sound lib w (st ∷ statements) after s none (vs, fine, may, rest) =
+    let none_after : (boot_effect lib w st vs).waits ≡ [] = no_wait_booted lib w st vs ∙ none in
+    boots_sound lib (boot_effect lib w st vs) statements after
+    (wholly_sound (boot_effect lib w st vs) (live_without (boot_effect lib w st vs) none_after) (nearly_kept w (boot_effect lib w st vs) (boot_changes lib w st vs s.objects fine may) s))
+    none_after rest
 
 -- the root job is alone in the world where a boot begins
 root_alone : (P : ℕ → Object → Type 0) → P 1 (record { body = JobBody 0 1 [] false; raised = 0 }) → (k : ℕ) (o : Object) → get origin.objects k ≡ Some o → P k o
@@ -85,6 +98,7 @@ origin_is_sound = record {
   living = λ p q there. absurd (none-some q there);
   blocked = λ p. refl;
   peers = root_alone (λ k o. HasPeer origin.objects 2 o.body) tt;
+  waits = All-nil (IsSoundWait origin);
   raised = root_alone (λ k o. IsTrue (within o.raised (raisable o.body))) (none_raised (raisable (JobBody 0 1 [] false)));
 }
   where
@@ -93,7 +107,8 @@ origin_is_sound = record {
     by_object k (Some o) is h = root_alone (λ j x. j < 2) (omega arith) k o is
 
 pub boot_sound : (lib : Library) (statements : List Statement) (w : World) → IsBoot lib statements w → IsSound w
-boot_sound lib statements w boot = kept_by_settling boot.made w boot.settles (boots_sound lib origin statements boot.made origin_is_sound boot.boots)
+boot_sound lib statements w boot =
+    wholly_sound w (live_settled boot.made w boot.settles) (kept_by_settling boot.made w boot.settles (nearly_sound boot.made (boots_sound lib origin statements boot.made origin_is_sound refl boot.boots)))
 
 -- ---- runs and histories from a boot world
 

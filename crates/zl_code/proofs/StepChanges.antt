@@ -1,10 +1,11 @@
 -- Which changes a step is made of: a call with its answer, a statement of a boot, and waking.
-use Rattle.zl_code.proofs.Common.{◌≡◌, ◌<◌, arith, ℕ, true, false, List, [], ◌∷◌, refl, ap, sym, IsTrue, Option, Some, None, eq-eqb, if◌then◌else◌, is_some, ne_eqb, get, put, World, Process, State, Ready, Blocked, Object, Body, PortBody, ProcessBody, runs, wakes, fired, Library, Site, body_in, refusal, with_object, with_effect, gives_ok, gives_refused, taken_handles, may_choose, cpu_answered, replied, taken, ok_outcome, Choice, Refused, WantsMemory, Values, Next, Moves, AtCall, IsStuck, next_for, Acts, Step, boot_fault, boot_effect, is_job_body, IsSound, subst, ◌∙◌, All, and_parts, nat_tests, All-nil, Map, has_key, on_process, insert_all, process_with, has_default_rights, HasGivenKoids, ◌++◌, may_boot, update, meets, SignalOf, PacketAt, Packet, get-put, is_job, handle_given, handles_given, process_with_all, with_process, All-cons, active, packet_values, woken, made_ready, with_body, woken_by_first, woken_by, woken_at_port, woken_from, woken_if_there, after_refusal, after_ok, CallBy, created_process, started_with, fold, list_all, true≢false}
+use Rattle.zl_code.proofs.Common.{◌≡◌, ◌<◌, arith, ℕ, true, false, List, [], ◌∷◌, refl, ap, sym, IsTrue, Option, Some, None, eq-eqb, if◌then◌else◌, is_some, ne_eqb, get, put, World, Process, State, Ready, Blocked, Object, Body, PortBody, ProcessBody, runs, wakes, fired, Library, Site, body_in, refusal, with_object, with_effect, gives_ok, gives_refused, taken_handles, may_choose, cpu_answered, replied, taken, ok_outcome, Choice, Refused, WantsMemory, Values, Next, Moves, AtCall, IsStuck, next_for, Acts, Step, boot_fault, boot_effect, is_job_body, IsSound, subst, ◌∙◌, All, and_parts, nat_tests, All-nil, Map, has_key, on_process, insert_all, process_with, has_default_rights, HasGivenKoids, ◌++◌, may_boot, update, meets, SignalOf, PacketAt, Packet, get-put, is_job, handle_given, handles_given, process_with_all, with_process, All-cons, active, packet_values, woken, made_ready, with_body, woken_by_first, woken_by, woken_at_port, woken_from, woken_if_there, after_refusal, after_ok, CallBy, created_process, started_with, fold, list_all, true≢false, IsSoundWait, none-some, slice_index_or, cases_Bool, inl, inr, eqb-true, ◌==◌}
 use Rattle.std.specs.Option.{option_to_list}
 use Rattle.zl_rights.specs.declared.entry.Entry.{Entry}
 use Rattle.zl_rights.specs.declared.status.Status.{Status}
 use Rattle.zl_rights.specs.declared.status.Status.TheVariants as status
-use Rattle.zl_rights.specs.World.{Awaited}
+use Rattle.zl_rights.specs.World.{Awaited, Wait}
+use Rattle.zl_code.specs.Waiting.{is_by_handle}
 use Rattle.zl_code.specs.CallTable.{awaited_by}
 use Rattle.zl_code.specs.Effects.{waiting}
 use Rattle.zl_code.specs.declared.boot.Grant.{Grant}
@@ -15,7 +16,7 @@ use Rattle.zl_code.specs.declared.history.Outcome.TheVariants as outcome
 use Rattle.zl_code.specs.declared.history.TraceItem.{TraceItem}
 use Rattle.zl_code.proofs.CanStart.{CanStart, can_start, handles_at_most, started_with_all, started_may_get}
 use Rattle.zl_code.proofs.MapKept.{changed}
-use Rattle.zl_code.proofs.Changes.{computes, Changes, stays, changes, settles, join, one, process_changes, process_ends, process_wakes, process_blocks, process_is_made, object_is_made, packet_goes, waits_fire}
+use Rattle.zl_code.proofs.Changes.{AreUnmade, computes, Changes, stays, changes, settles, join, one, process_changes, process_ends, process_wakes, process_blocks, process_is_made, object_is_made, packet_goes, waits_fire}
 use Rattle.zl_code.proofs.Entering.{IsFine, all_enter, all_leave, left_behind}
 use Rattle.zl_code.proofs.CallLaws.{laws}
 
@@ -133,6 +134,17 @@ given_are_fine w made (g ∷ gs) stay rights = by_object (get w.objects g.koid) 
     by_object None is h others = others h
     by_object (Some o) is h others = All-cons (IsFine w made) _ _ (record { rights = λ s. (and_parts _ _ h).0; names = λ s. (o, stay g.koid o is, refl) }) (others (and_parts _ _ h).1)
 
+-- no wait was made by a process that isn't there
+nothing_made : (w : World) (k v : ℕ) → IsSound w → get w.processes k ≡ None → AreUnmade w.waits k v
+unfolding get
+nothing_made w k v s gone i d inside = one (slice_index_or w.waits i d) (s.waits i d inside)
+  where
+    one : (x : Wait) → IsSoundWait w x → is_by_handle k v x ≡ false
+    one x t = elim (cases_Bool (x.pid == k)) as (λ _. is_by_handle k v x ≡ false) [
+      | inl here ↦ absurd (none-some t.handle.0 (rw (eqb-true x.pid k here, gone) at t.handle.1))
+      | inr other ↦ rw other refl
+    ]
+
 pub boot_changes : (lib : Library) (w : World) (s : Statement) (vs : List ℕ) → HasGivenKoids w → boot_fault lib w s ≡ None → IsTrue (may_boot lib w s vs) → Changes w w (boot_effect lib w s vs)
 unfolding boot_effect with_object
 boot_changes lib w (statement.Process job program word handles) vs given fine may =
@@ -145,7 +157,7 @@ boot_changes lib w (statement.Process job program word handles) vs given fine ma
       object = λ s. (job, rw (get-put w.objects w.next_koid new_object w.next_koid, eq-eqb w.next_koid w.next_koid refl) refl, rw same_job can.in_job);
     }) refl)
     (subst (λ (x : World). Changes w begun x) (made_with_all made w.next_koid first es vs ∙ ap (with_process made w.next_koid) (started_with_all es vs vs word (created_process lib program)))
-    (all_enter w begun w.next_koid first es vs there refl (rw (started_may_get es vs vs word (created_process lib program)) may) (λ s. omega (arith, can.few, handles_at_most w.objects handles))
+    (all_enter w begun w.next_koid first es vs there refl (rw (started_may_get es vs vs word (created_process lib program)) may) (λ s. omega (arith, can.few, handles_at_most w.objects handles)) (record { free = λ s v none. nothing_made w w.next_koid v s (no_process s (get w.processes w.next_koid) refl); last = λ s v is. absurd (none-some v is) })
     (given_are_fine w made.objects handles (λ k o at. stays k (rw at refl) ∙ at) can.rights))))
   where
     made : World

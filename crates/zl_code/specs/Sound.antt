@@ -1,9 +1,10 @@
 -- What is true of every world of a run from a boot world, and what no step changes of a process.
 use Rattle.std.specs.Prelude.{ℕ, ◌≡◌, ◌≤◌, ◌<◌, ⊤, Bool, true, false, ◌&&◌, ◌==◌, nat_lt, [], length, Option, Some, None, if◌then◌else◌, IsTrue}
 use Rattle.zl_rights.specs.Common.{within, Map, get, has_key, World, Process, State, Blocked, Object, Body, ChannelEnd, PortBody, ProcessBody, lives, runs, is_process}
-use Rattle.std.specs.List.{filter}
+use Rattle.std.specs.List.{All, filter}
+use Rattle.zl_rights.specs.World.{Wait}
 use Rattle.zl_rights.specs.declared.entry.Entry.{Entry}
-use Rattle.zl_code.specs.Tests.{body_in, settable_of}
+use Rattle.zl_code.specs.Tests.{body_in, body_of, entry_at, settable_of}
 use Rattle.zl_code.specs.Boot.{is_job_body}
 use Rattle.zl_code.specs.Koids.{HasGivenKoids}
 use Rattle.zl_code.specs.Handles.{HandlesAreSound, HandlesAreNamed}
@@ -48,6 +49,18 @@ abbrev pub HasPeer : Map Object → ℕ → Body → Type 0
 HasPeer objects next_koid (ChannelEnd peer queue) = (peer < next_koid) × IsTrue (is_end_if_there (body_in (get objects peer)))
 HasPeer objects next_koid _ = ⊤
 
+-- a port is there
+abbrev pub is_port_there : Option Body → Bool
+is_port_there (Some (PortBody packets)) = true
+is_port_there _ = false
+
+-- What is true of a registered wait.
+pub record IsSoundWait (w : World) (x : Wait) : Type 0 where
+  -- the handle by which it was made is live, and names the object that it watches
+  pub handle : (e : Entry) × (entry_at w x.pid x.value ≡ Some e) × (e.koid ≡ x.object)
+  -- there is a port for its packet
+  pub port : IsTrue (is_port_there (body_of w x.port))
+
 -- What is true of every world of a run from a boot world.
 pub record IsSound (w : World) : Type 0 where
   -- each handle has a place of its own, and rights that a first handle of its kind has
@@ -66,6 +79,8 @@ pub record IsSound (w : World) : Type 0 where
   pub blocked : (p : ℕ) → length (filter (λ q. q == p) w.blocked) ≡ (if is_process w is_blocked p then 1 else 0)
   -- the peers of channel ends
   pub peers : (k : ℕ) (o : Object) → get w.objects k ≡ Some o → HasPeer w.objects w.next_koid o.body
+  -- each registered wait
+  pub waits : All (IsSoundWait w) w.waits
   -- no signal is raised that no call could have set
   pub raised : (k : ℕ) (o : Object) → get w.objects k ≡ Some o → IsTrue (within o.raised (raisable o.body))
 

@@ -43,9 +43,13 @@ wait_of w p h port key mask =
 abbrev pub registered : World → Wait → World
 registered w x = record w { waits = w.waits ++ (x ∷ []); waits_made = w.waits_made + 1 }
 
+-- the process made the wait by its handle of this value
+abbrev pub is_by_handle : (pid value : ℕ) → Wait → Bool
+is_by_handle pid value x = (x.pid == pid) && (x.value == value)
+
 -- the process made the wait by its handle of this value, for a packet with the key to the port
 abbrev pub is_keyed : (pid value port key : ℕ) → Wait → Bool
-is_keyed pid value port key x = ((x.pid == pid) && (x.value == value)) && ((x.port == port) && (x.key == key))
+is_keyed pid value port key x = is_by_handle pid value x && ((x.port == port) && (x.key == key))
 
 -- the world without the waits that the process p made by the value h for a packet with the key to the port k
 abbrev pub without_keyed : World → (p h k key : ℕ) → World

@@ -3,6 +3,7 @@ pub mod Slots
 pub mod Listing
 pub mod Tables
 pub mod Taking
+pub mod Entered
 pub mod Places
 pub mod Quiet
 pub mod Refused

@@ -4,3 +4,4 @@ pub mod Handle
 pub mod Event
 pub mod Process
 pub mod Channel
+pub mod Reading

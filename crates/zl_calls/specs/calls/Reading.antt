@@ -1,0 +1,99 @@
+-- What chan_read_etc does. No public clause cites this module.
+use Rattle.std.specs.Prelude.{ℕ, ◌≡◌, ◌+◌, Bool, not, nat_le, List, [], ◌∷◌, ◌++◌, length, Option, Some, None, Result, Ok, Err, IfOk, IfErr, OnErr, if◌then◌else◌, is_some, slice_get}
+use Rattle.std.specs.Result.{result_err}
+use Rattle.zl_code.specs.Common.{Map, get}
+use Rattle.zl_code.specs.Effects.{told_of}
+use Rattle.zl_code.specs.Tests.{first_handles, has_place_for, sizes_of}
+use Rattle.zl_rights.specs.declared.kind.Kind.TheVariants as kind
+use Rattle.zl_rights.specs.declared.status.Status.{Status}
+use Rattle.zl_rights.specs.declared.status.Status.TheVariants as status
+use Rattle.zl_rights.specs.declared.entry.Entry.{Entry}
+use Rattle.zl_rights.specs.LookUp.{looked_up}
+use Rattle.zl_rights.specs.Numbers.{READ}
+use Rattle.zl_rights.specs.World.{Message}
+use Rattle.zl_table.specs.Table.{Handles, Inserts}
+use Rattle.zl_objects.specs.declared.object.Object.{Object}
+use Rattle.zl_objects.specs.Objects.{Objects, peer_at, queue_in, receiving}
+use Rattle.zl_calls.specs.declared.calls.reading.Front.{Front}
+use Rattle.zl_calls.specs.declared.calls.reading.Received.{Received}
+use Rattle.zl_calls.specs.declared.calls.reading.ReadFault.{ReadFault}
+use Rattle.zl_calls.specs.declared.calls.reading.ReadFault.TheVariants as fault
+use Rattle.zl_calls.specs.calls.Answer.{Told}
+
+-- ---- handles that enter a table one after another
+
+-- the entry goes into the table at the value, and then the rest is done
+pub record InsertsThen (t : Handles) (e : Entry) (v : ℕ) (Rest : Handles → Type 0) : Type 0 where
+  pub between : Handles
+  pub inserts : Inserts t e v between
+  pub rest : Rest between
+
+-- the entries go into the table one after another, each at its value
+abbrev pub InsertsEach : Handles → List Entry → List ℕ → Handles → Type 0
+InsertsEach t [] [] t2 = t2 ≡ t
+InsertsEach t [] (v ∷ vs) t2 = ⊥
+InsertsEach t (e ∷ es) [] t2 = ⊥
+InsertsEach t (e ∷ es) (v ∷ vs) t2 = InsertsThen t e v (λ u. InsertsEach u es vs t2)
+
+-- insertions at these values led to the table, from one in which this was the value removed last
+pub record CameFrom (last : Option ℕ) (values : List ℕ) (t : Handles) : Type 0 where
+  pub before : Handles
+  pub entries : List Entry
+  pub inserts : InsertsEach before entries values t
+  pub was : before.last ≡ last
+
+-- ---- the message that is to be read
+
+-- the handles in the first message that is to be read at the object k
+abbrev pub front_handles : Map Object → ℕ → List Entry
+front_handles objects k = first_handles (queue_in (get objects k))
+
+-- the first message in the queue of the end k, for a table of count handles, or why it can't be read
+abbrev pub front_in : (count : ℕ) (has_peer : Bool) (room places k : ℕ) → List Message → Result Front ReadFault
+front_in count has_peer room places k [] = Err (fault.Refused (if has_peer then status.ShouldWait else status.PeerClosed))
+front_in count has_peer room places k (m ∷ ms) =
+    if not (has_place_for room places (m ∷ ms)) then Err (fault.TooSmall (length m.bytes) (length m.handles))
+    else (if not (nat_le (count + length m.handles) 1024) then Err (fault.Refused status.NoResources)
+    else Ok (record { end = k; handles = length m.handles }))
+
+-- the same, where this look-up found the end
+abbrev pub front_by : Map Entry → Map Object → (room places : ℕ) → Result Entry Status → Result Front ReadFault
+front_by entries objects room places (Err s) = Err (fault.Refused s)
+front_by entries objects room places (Ok end) =
+    front_in (length entries) (is_some (peer_at objects end.koid)) room places end.koid (queue_in (get objects end.koid))
+
+-- the first message at the end at the value channel, or why it can't be read
+abbrev pub front_at : Map Entry → Map Object → (channel room places : ℕ) → Result Front ReadFault
+front_at entries objects channel room places = front_by entries objects room places (looked_up entries channel (kind.Channel ∷ []) READ)
+
+-- ---- chan_read_etc
+
+-- the fault is this one; where nothing stands against the call, it is the want of memory
+abbrev pub IsFaultBy : Option ReadFault → ReadFault → Type 0
+IsFaultBy None found = found ≡ fault.Refused status.NoMemory
+IsFaultBy (Some f) found = found ≡ f
+
+-- the first message left the queue of the end k, and its handles are in the table at the values
+pub record ReadsMessage (t : Handles) (r : Objects) (channel room places : ℕ) (received : Received) (t2 : Handles) (r2 : Objects) : Type 0 where
+  pub front : Front
+  pub is_front : front_at t.entries r.objects channel room places ≡ Ok front
+  pub first : slice_get (queue_in (get r.objects front.end)) 0 ≡ Some received.message
+  pub inserts : InsertsEach t received.message.handles received.values.items t2
+  pub objects : r2 ≡ receiving r front.end
+
+-- chan_read_etc from the end at the value channel: the message is read, or it stays and nothing changes
+pub record ChanReadDoes (channel room places : ℕ) (t : Handles) (r : Objects) (answer : Result Received ReadFault) (t2 : Handles) (r2 : Objects) : Type 0 where
+  pub ok : IfOk answer (λ received. ReadsMessage t r channel room places received t2 r2)
+  pub err : IfErr answer (IsFaultBy (result_err (front_at t.entries r.objects channel room places)))
+  pub same_table : OnErr answer (t2 ≡ t)
+  pub same_objects : OnErr answer (r2 ≡ r)
+
+-- the caller is told both sizes of the message, of each handle its value, kind and rights, and the bytes from the address on; of one that is too large the sizes
+abbrev pub told_read : ℕ → Result Received ReadFault → Told
+told_read address (Ok received) = record {
+  status = status.Ok;
+  values = sizes_of (received.message ∷ []) ++ told_of received.message.handles received.values.items;
+  stored = (address, received.message.bytes);
+}
+told_read address (Err (fault.TooSmall bytes handles)) = record { status = status.BufferTooSmall; values = bytes ∷ handles ∷ []; stored = (0, []) }
+told_read address (Err (fault.Refused s)) = record { status = s; values = []; stored = (0, []) }

@@ -4,6 +4,8 @@ pub mod Listing
 pub mod Tables
 pub mod Taking
 pub mod Entered
+pub mod EnteredTables
+pub mod Told
 pub mod Places
 pub mod Quiet
 pub mod Refused
@@ -26,6 +28,7 @@ pub mod HandleCalls
 pub mod EventCalls
 pub mod ChannelCalls
 pub mod WriteCalls
+pub mod ReadCalls
 pub mod ProcessCalls
 pub mod Performed
 pub mod Performing

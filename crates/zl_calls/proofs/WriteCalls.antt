@@ -70,7 +70,7 @@ abbrev list_of : List ℕ → List Operand
 list_of hs = flat_map (λ h. operands_by (consumes any TRANSFER ∷ []) (h ∷ [])) hs
 
 module _ (w : World) (free : NoPolicy w) (p : ℕ) where
-  looked : (found : Result Entry Status) → by_look_up w p found ≡ answers (fault_of found)
+  pub looked : (found : Result Entry Status) → by_look_up w p found ≡ answers (fault_of found)
   looked (Ok e) = refl
   looked (Err status.BadHandle) = fault_answers w free p condition.BadHandle status.BadHandle
   looked (Err status.WrongType) = fault_answers w free p condition.WrongObject status.WrongType
@@ -111,7 +111,7 @@ module _ (r : Objects) (no_zero : (k : ℕ) → IsTrue (has_key r.objects k) →
   there_or_not false k = refl
 
   -- the peer of an end is there for the definitions where it is here
-  peer_there : (k : ℕ) → has_key (map object_entry r.objects) (peer_seen (body_in (get (map object_entry r.objects) k))) ≡ is_some (peer_at r.objects k)
+  pub peer_there : (k : ℕ) → has_key (map object_entry r.objects) (peer_seen (body_in (get (map object_entry r.objects) k))) ≡ is_some (peer_at r.objects k)
   peer_there k = rw (has_seen r.objects (peer_seen (body_in (get (map object_entry r.objects) k))), get_seen r.objects k) (by_object (get r.objects k))
     where
       by_body : (b : Body) → has_key r.objects (peer_seen (Some (body_value b))) ≡ is_some (if_there r.objects (peer_of b))
@@ -185,7 +185,7 @@ none_then None b h = h
 none_then (Some s) b h = absurd (none-some s (sym h))
 
 -- a handle that was looked up is there
-is_found : (o : Option Entry) (kinds : List Kind) (needed : ℕ) (e : Entry) → granted o kinds needed ≡ Ok e → o ≡ Some e
+pub is_found : (o : Option Entry) (kinds : List Kind) (needed : ℕ) (e : Entry) → granted o kinds needed ≡ Ok e → o ≡ Some e
 is_found None kinds needed e found = absurd cc
 is_found (Some x) kinds needed e found = by_tests (takes kinds x.kind) (within needed (bits x.rights)) found
   where

@@ -11,6 +11,7 @@ mod calls;
 mod cpu;
 mod process;
 mod program;
+mod reading;
 mod running;
 mod stepping;
 mod world;

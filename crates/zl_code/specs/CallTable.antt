@@ -49,6 +49,7 @@ request_of name.Dup (h ∷ []) number bytes hs = Some (dup h number)
 request_of name.Replace (h ∷ []) number bytes hs = Some (replace h number)
 request_of name.ChanCreate [] number bytes hs = Some chan_create
 request_of name.ChanWrite (c ∷ address ∷ size ∷ []) number bytes hs = Some (chan_write c bytes hs)
+request_of name.ChanReadEtc (c ∷ address ∷ room ∷ []) number bytes hs = Some (chan_read_etc c address room number)
 request_of name.EventCreate [] number bytes hs = Some event_create
 request_of name.Signal (h ∷ clear ∷ set ∷ []) number bytes hs = Some (signal h clear set)
 request_of name.ProcessExit (code ∷ []) number bytes hs = Some (process_exit code)

@@ -9,7 +9,7 @@ use Rattle.zl_rights.specs.declared.status.Status.{Status}
 use Rattle.zl_rights.specs.declared.status.Status.TheVariants as status
 use Rattle.zl_rights.specs.declared.entry.Entry.{Entry}
 use Rattle.zl_rights.specs.LookUp.{looked_up}
-use Rattle.zl_rights.specs.Numbers.{READ}
+use Rattle.zl_rights.specs.Numbers.{READ, bits, kind_number}
 use Rattle.zl_rights.specs.World.{Message}
 use Rattle.zl_table.specs.Table.{Handles, Inserts}
 use Rattle.zl_objects.specs.declared.object.Object.{Object}
@@ -97,3 +97,8 @@ told_read address (Ok received) = record {
 }
 told_read address (Err (fault.TooSmall bytes handles)) = record { status = status.BufferTooSmall; values = bytes ∷ handles ∷ []; stored = (0, []) }
 told_read address (Err (fault.Refused s)) = record { status = s; values = []; stored = (0, []) }
+
+-- what a reader is told of the handle in one place and its value in another; zeros where there is none
+abbrev pub triple_of : Option Entry → Option ℕ → List ℕ
+triple_of (Some e) (Some v) = v ∷ kind_number e.kind ∷ bits e.rights ∷ []
+triple_of _ _ = 0 ∷ 0 ∷ 0 ∷ []

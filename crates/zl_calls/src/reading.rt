@@ -1,0 +1,157 @@
+//! What chan_read_etc writes of its caller, and how it gets its answer.
+
+ghost use Rattle.std.specs.Prelude.{◌≡◌, ◌+◌, ◌<◌, ◌^◌, ◌∷◌, [], None, length, slice_get, IfSome, IfNone, IsTrue};
+ghost use Rattle.zl_rights.specs.Numbers.{status_magnitude};
+ghost use Rattle.zl_rights.specs.World.{answered, written};
+ghost use Rattle.zl_code.specs.Asked.{triples_from};
+ghost use Rattle.zl_code.specs.Effects.{told_of};
+ghost use Rattle.zl_code.specs.Local.{is_in_memory, overwritten};
+ghost use Rattle.zl_code.specs.Request.{site_of};
+ghost use Rattle.zl_code.specs.declared.instr.CallInstr.TheVariants as call;
+ghost use Rattle.zl_calls.specs.Acted.{Acted};
+ghost use Rattle.zl_calls.specs.Cpu.{register_set};
+ghost use Rattle.zl_calls.specs.calls.Reading.{triple_of};
+
+use crate::calls::reading::{ReadFault, chan_read_etc};
+use crate::cpu::Cpu;
+use crate::process::Process;
+use bitflags::Flags;
+use std::alloc::Global;
+use zl_code::{Outcome, Register};
+use zl_objects::Objects;
+use zl_rights::{Entry, HValue, Status};
+
+/// The registers that get the answer of a read: the status, both counts, and a triple for each of so
+/// many handles, from the first on.
+#[derive(Clone, Copy)]
+pub struct Destinations {
+    pub status: Register,
+    pub bytes: Register,
+    pub handles: Register,
+    pub first: Register,
+    pub places: u32,
+}
+
+impl Cpu {
+    /// The bytes stand in the memory from the address on; they lie in it.
+    pub fn store(&mut self, address: u64, bytes: &[u8])
+        requires { IsTrue (is_in_memory self.old address (length bytes.now)) }
+        ensures { self.new ≡ record self.old {
+          memory = overwritten self.old.memory address bytes.now;
+        } }
+    {
+        let start = address as usize;
+        self.memory[start..start + bytes.len()].copy_from_slice(bytes);
+    }
+
+    /// The register of this number becomes the value, if there is one.
+    fn set_number(&mut self, number: usize, value: u64)
+        ensures { self.new ≡ register_set self.old number value }
+    {
+        if number < Register::COUNT {
+            self.registers[number] = value;
+        }
+    }
+
+    /// So many triples of registers, from the first on, are told of handles: value, kind and rights
+    /// of each. Where there is no handle they become 0.
+    pub fn tell(&mut self, first: Register, places: u32, handles: &[Entry], values: &[HValue])
+        ensures { self.new ≡ record self.old {
+          registers = written
+              self.old.registers (triples_from first places) (told_of handles.now values.now);
+        } }
+    {
+        let start = usize::from(first.number());
+        for n in 0..places as usize {
+            let [value, kind, rights] = triple(handles, values, n);
+            self.set_number(start + 3 * n, value);
+            self.set_number(start + 3 * n + 1, kind);
+            self.set_number(start + 3 * n + 2, rights);
+        }
+    }
+}
+
+/// What is told of the handle at place `n`; zeros where there is none.
+fn triple(handles: &[Entry], values: &[HValue], n: usize) -> [u64; 3]
+    ensures { result ≡ triple_of (slice_get handles.now n) (slice_get values.now n) }
+{
+    match (handles.get(n), values.get(n)) {
+        (Some(handle), Some(value)) => [
+            u64::from(*value),
+            u64::from(handle.kind.number()),
+            u64::from(handle.rights.bits()),
+        ],
+        _ => [0, 0, 0],
+    }
+}
+
+impl Process {
+    /// The read is answered: the registers get the status, both sizes, and what is told of these
+    /// handles, and the next instruction stands next.
+    #[tactic(auto, unfolding(zl_rights::specs::World::answered))]
+    pub fn answer_read(
+        &mut self,
+        to: Destinations,
+        answer: Status,
+        bytes: usize,
+        handles: usize,
+        entries: &[Entry],
+        values: &[HValue],
+    ) -> Outcome
+        requires { self.old.cpu.counter < 2 ^ 32 }
+        ensures ends { result ≡ Outcome.Answered answer }
+        ensures process { self.new ≡ record self.old {
+          cpu = answered self.old.cpu
+              (to.status ∷ to.bytes ∷ to.handles ∷ triples_from to.first to.places)
+              (status_magnitude answer ∷ bytes ∷ handles ∷ told_of entries.now values.now);
+        } }
+    {
+        self.cpu.set(to.status, u64::from(answer.magnitude()));
+        self.cpu.set(to.bytes, bytes as u64);
+        self.cpu.set(to.handles, handles as u64);
+        self.cpu.tell(to.first, to.places, entries, values);
+        self.cpu.advance();
+        Outcome::Answered(answer)
+    }
+}
+
+/// Does `chan_read_etc` at these registers. Where its room doesn't lie in the memory, nothing
+/// changes.
+#[tactic(auto, unfolding(zl_code::specs::Request::site_of, zl_code::specs::Instructions::row_of, zl_code::specs::Spells::call_parts, zl_rights::specs::World::answered))]
+pub fn read(
+    alloc: Global,
+    process: &mut Process,
+    objects: &mut Objects,
+    channel: Register,
+    address: Register,
+    room: Register,
+    to: Destinations,
+) -> Option<Outcome>
+    requires counter { process.old.cpu.counter < 2 ^ 32 }
+    ensures acted { IfSome result (λ outcome. Acted
+        (site_of (call.ChanReadEtc to.status channel address room
+        to.bytes to.handles to.first to.places) process.old.cpu)
+        process.old objects.old outcome process.new objects.new) }
+    ensures missing { IfNone result (site_of (call.ChanReadEtc to.status channel address room
+        to.bytes to.handles to.first to.places) process.old.cpu ≡ None) }
+    ensures same_process { IfNone result (process.new ≡ process.old) }
+    ensures same_objects { IfNone result (objects.new ≡ objects.old) }
+{
+    let address = process.cpu.register(address);
+    let room = process.cpu.register(room);
+    process.cpu.bytes(address, room)?;
+    let channel = process.cpu.register(channel);
+    match chan_read_etc(alloc, &mut process.table, objects, channel, room, to.places) {
+        Ok(received) => {
+            let bytes = &received.message.bytes;
+            let handles = received.message.handles.as_slice();
+            process.cpu.store(address, bytes);
+            let values = received.values.as_slice();
+            Some(process.answer_read(to, Status::Ok, bytes.len(), handles.len(), handles, values))
+        }
+        Err(ReadFault::TooSmall { bytes, handles }) => {
+            Some(process.answer_read(to, Status::BufferTooSmall, bytes, handles, &[], &[]))
+        }
+        Err(ReadFault::Refused(status)) => { Some(process.answer_read(to, status, 0, 0, &[], &[])) }
+    }
+}

@@ -52,6 +52,7 @@ fn push_reason(hint: &mut String, stuck: Stuck, instr: Instr) -> Result<(), Allo
     match &instr {
         Instr::Unknown(_) => write!(hint, ": no instruction has the opcode {}", bytes[0]),
         Instr::Call(CallInstr::ChanWrite { .. }) => push_no_bytes(hint, stuck, bytes),
+        Instr::Call(CallInstr::ChanReadEtc { .. }) => push_no_bytes(hint, stuck, bytes),
         Instr::Call(_) => match Row::of_opcode(bytes[0]) {
             Some(row) => write!(hint, ": the call {} isn't built yet", row.name),
             None => Ok(()),

@@ -7,3 +7,4 @@ pub mod Turning
 pub mod Leading
 pub mod Bounding
 pub mod Raising
+mod RowsConforms

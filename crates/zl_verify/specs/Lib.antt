@@ -5,3 +5,4 @@ pub mod Search
 pub mod Leading
 pub mod Checks
 pub mod Names
+pub mod Conforms

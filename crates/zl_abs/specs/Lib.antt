@@ -10,3 +10,4 @@ pub mod Operands
 pub mod Typing
 pub mod Successors
 pub mod Laws
+pub mod Outcome

@@ -13,4 +13,8 @@ pub mod Weakening
 pub mod Moving
 pub mod RightsGained
 pub mod Refining
+pub mod Memories
+pub mod Agreeing
+pub mod CallSites
+pub mod LocalSteps
 mod RowsConforms

@@ -6,3 +6,4 @@ pub mod Leading
 pub mod Checks
 pub mod Names
 pub mod Conforms
+pub mod LocalLaws

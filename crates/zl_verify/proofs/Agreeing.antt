@@ -1,0 +1,330 @@
+-- The rule of each local instruction and its effect agree.
+use Rattle.std.proofs.Common.{◌≡◌, ◌≢◌, ℕ, zero, suc, ◌+◌, ◌-◌, ◌*◌, ◌<◌, ◌≤◌, ◌⊎◌, Bool, true, false, not, ◌&&◌, ◌||◌, ◌==◌, List, [], ◌∷◌, length, take, drop, refl, sym, ap, subst, Option, Some, None, Result, Ok, Err, arith, inl, inr, slice_set, eq-eqb}
+use Rattle.std.specs.Prelude.{if◌then◌else◌, nat_lt, nat_le, slice_get, slice_index_or, bit_and, bit_or, bit_xor, ◌%◌, ◌/◌, ◌^◌}
+use Rattle.std.proofs.lemmas.Bool.Decides.{nat_tests}
+use Rattle.std.proofs.lemmas.Nat.{and_le_l, and_le_r, or_lt, xor_lt, le-div, pow_pos}
+use Rattle.std.proofs.Math.Nat.{mod-le, mod-lt, div-mul-le_self}
+use Rattle.zl_rights.specs.Common.{Cpu}
+use Rattle.zl_rights.specs.declared.entry.Entry.{Entry}
+use Rattle.zl_rights.specs.Numbers.{bits, within, KNOWN_RIGHTS}
+use Rattle.zl_code.specs.declared.image.SlotArray.{SlotArray}
+use Rattle.zl_code.specs.declared.instr.LocalInstr.{LocalInstr}
+use Rattle.zl_code.specs.declared.instr.LocalInstr.TheVariants as local
+use Rattle.zl_code.specs.Image.{Image}
+use Rattle.zl_code.specs.Spells.{number_of, are_registers, is_32_bits, is_local_in_range, local_parts}
+use Rattle.zl_code.specs.Local.{reg, sets, wrapped, is_in_memory, loads as loads_from, stores as stores_to, swaps, goes_if, local_effect}
+use Rattle.zl_abs.specs.declared.value.AbsVal.{AbsVal}
+use Rattle.zl_abs.specs.declared.value.AbsVal.TheVariants.{Word, Has, KindOf, RightsOf}
+use Rattle.zl_abs.specs.declared.cause.Cause.{Cause}
+use Rattle.zl_abs.specs.declared.cause.Cause.TheVariants as cause
+use Rattle.zl_abs.specs.Outcome.{Outcome}
+use Rattle.zl_abs.specs.Values.{ANY, is_has, capped, smaller, kind_below}
+use Rattle.zl_abs.specs.States.{State, IsState, value_at, with_value}
+use Rattle.zl_abs.specs.Bounds.{least_from, rounded}
+use Rattle.zl_abs.specs.Rule.{and_then, passes, writes, word_at}
+use Rattle.zl_abs.specs.LocalRules.{computes, shifted, in_memory, loads, stores, copies, may_move, moved, takes, slot_fault, swaps_by, swaps_in, unless, zero_ways, equal_ways, below_ways, has_ways, local_rule}
+use Rattle.zl_abs.specs.Typing.{target_of}
+use Rattle.zl_abs.proofs.Order.{both}
+use Rattle.zl_verify.specs.Conforms.{Table, IsHandle, Describes, one_if, is_it, owns, Holds, IsMemory}
+use Rattle.zl_verify.proofs.Writing.{write_word, write_copy}
+use Rattle.zl_verify.proofs.Weakening.{handle_below}
+use Rattle.zl_verify.proofs.Moving.{take_holds, swap_holds, array_there}
+use Rattle.zl_verify.proofs.Refining.{Known, Splits, unless_splits, zero_splits, equal_splits, below_splits, has_splits}
+use Rattle.zl_verify.proofs.Memories.{byte_less, word_less, stored}
+
+-- ---- numbers
+
+least_above : (x n best : ℕ) (bs : List ℕ) → x ≤ n → x ≤ best → x ≤ least_from n best bs
+unfolding least_from
+least_above x n best [] h k = k
+least_above x n best (b ∷ bs) h k = least_above x n (if nat_le n b && nat_lt b best then b else best) bs h (one x n best b h k)
+  where
+    one : (x n best b : ℕ) → x ≤ n → x ≤ best → x ≤ (if nat_le n b && nat_lt b best then b else best)
+    one x n best b h k = grind (arith, nat_tests)
+
+above : (bounds : List ℕ) (x n : ℕ) → x ≤ n → x ≤ ANY → x ≤ rounded bounds n
+above bounds x n h k = least_above x n ANY bounds h k
+
+wrapped_few : (x : ℕ) → wrapped x ≤ ANY
+wrapped_few x = let k : x % 2 ^ 64 < 2 ^ 64 = mod-lt x (pow_pos 64) in omega arith
+
+sum_fits : (x m : ℕ) → x ≤ m → wrapped x ≤ capped m
+sum_fits x m h = let few = wrapped_few x in let le = mod-le x (2 ^ 64) in omega arith
+
+meet_fits : (x y m n : ℕ) → x ≤ m → y ≤ n → bit_and x y ≤ smaller m n
+meet_fits x y m n h k = let l = and_le_l x y in let r = and_le_r x y in by (bit_and x y) m n (omega arith) (omega arith)
+  where
+    by : (z m n : ℕ) → z ≤ m → z ≤ n → z ≤ smaller m n
+    by z m n h k = grind (arith, nat_tests)
+
+or_few : (x y : ℕ) → x ≤ ANY → y ≤ ANY → bit_or x y ≤ ANY
+or_few x y h k = let z : bit_or x y < 2 ^ 64 = or_lt 64 x y (omega arith) (omega arith) in omega arith
+
+xor_few : (x y : ℕ) → x ≤ ANY → y ≤ ANY → bit_xor x y ≤ ANY
+xor_few x y h k = let z : bit_xor x y < 2 ^ 64 = xor_lt 64 x y (omega arith) (omega arith) in omega arith
+
+up_few : (x places : ℕ) → (if nat_lt places 64 then wrapped (x * 2 ^ places) else 0) ≤ ANY
+up_few x places = by (nat_lt places 64)
+  where
+    by : (t : Bool) → (if t then wrapped (x * 2 ^ places) else 0) ≤ ANY
+    by true = wrapped_few (x * 2 ^ places)
+    by false = omega arith
+
+div_fits : (x m places : ℕ) → x ≤ m → x / 2 ^ places ≤ m / 2 ^ places
+div_fits x m places h = le-div (x / 2 ^ places) m (2 ^ places) (pow_pos places) (let k = div-mul-le_self x (2 ^ places) in omega arith)
+
+down_fits : (x m places : ℕ) → x ≤ m → shifted x places ≤ shifted m places
+down_fits x m places h = by (nat_lt places 64)
+  where
+    by : (t : Bool) → (if t then x / 2 ^ places else 0) ≤ (if t then m / 2 ^ places else 0)
+    by true = div_fits x m places h
+    by false = omega arith
+
+down_less : (x places : ℕ) → shifted x places ≤ x
+down_less x places = by (nat_lt places 64)
+  where
+    by : (t : Bool) → (if t then x / 2 ^ places else 0) ≤ x
+    by true = let k = div-mul-le_self x (2 ^ places) in let p = pow_pos places in less (x / 2 ^ places) (2 ^ places) x p k
+      where
+        less : (q d x : ℕ) → 0 < d → q * d ≤ x → q ≤ x
+        less q zero x p k = absurd (omega arith)
+        less q (suc d) x p k = omega arith
+    by false = omega arith
+
+-- ---- registers of an instruction
+
+first_in : (imm target a : ℕ) (rs : List ℕ) → (is_32_bits imm && is_32_bits target) && are_registers (a ∷ rs) ≡ true → a < 32
+first_in imm target a rs h = leads (both (nat_lt a 32) (are_registers rs) (both _ _ h).1).0
+  where
+    leads : nat_lt a 32 ≡ true → a < 32
+    leads e = grind (arith, nat_tests)
+
+second_in : (imm target a b : ℕ) (rs : List ℕ) → (is_32_bits imm && is_32_bits target) && are_registers (a ∷ b ∷ rs) ≡ true → b < 32
+second_in imm target a b rs h = leads (both (nat_lt b 32) (are_registers rs) (both (nat_lt a 32) (are_registers (b ∷ rs)) (both _ _ h).1).1).0
+  where
+    leads : nat_lt b 32 ≡ true → b < 32
+    leads e = grind (arith, nat_tests)
+
+imm_in : (imm target : ℕ) (rs : List ℕ) → (is_32_bits imm && is_32_bits target) && are_registers rs ≡ true → imm ≤ ANY
+imm_in imm target rs h = leads (both (is_32_bits imm) (is_32_bits target) (both _ _ h).0).0
+  where
+    leads : nat_lt imm 4294967296 ≡ true → imm ≤ ANY
+    leads e = grind (arith, nat_tests)
+
+-- ---- slots
+
+-- what may go into a slot array is a handle as the array keeps it, or 0
+slot_goes : (f : Table) (xs : List ℕ) (t : SlotArray) (v : AbsVal) (x : ℕ) → slot_fault t v ≡ None → Describes f xs v x → IsHandle f true t.kind t.rights x × ((y : ℕ) → one_if (owns y v x) ≡ one_if (is_it y x))
+unfolding owns
+slot_goes f xs t (Word m) x e d = by (m == 0) refl e
+  where
+    none : (y : ℕ) → one_if (is_it y 0) ≡ 0
+    none y = test (0 == y)
+      where
+        test : (b : Bool) → one_if (b && nat_lt 0 0) ≡ 0
+        test true = refl
+        test false = refl
+
+    by : (b : Bool) → (m == 0) ≡ b → (if b then None else Some cause.NotLive) ≡ None → IsHandle f true t.kind t.rights x × ((y : ℕ) → one_if (owns y (Word m) x) ≡ one_if (is_it y x))
+    by true is e = let z : x ≡ 0 = grind (arith, nat_tests) in (inl (refl, z), λ y. rw z (sym (none y)))
+    by false is e = cc
+slot_goes f xs t (Has maybe k q) x e d = by (kind_below k t.kind) refl (within (bits t.rights) (bits q)) refl e
+  where
+    any : (b : Bool) → (not b || true) ≡ true
+    any true = refl
+    any false = refl
+
+    by : (b : Bool) → kind_below k t.kind ≡ b → (c : Bool) → within (bits t.rights) (bits q) ≡ c → (if not b then Some cause.WrongKind else if not c then Some cause.LacksRight else None) ≡ None
+        → IsHandle f true t.kind t.rights x × ((y : ℕ) → one_if (owns y (Has maybe k q) x) ≡ one_if (is_it y x))
+    by true kind true rights e = (handle_below f maybe true k t.kind q t.rights x (any maybe) kind rights d, λ y. refl)
+    by true kind false rights e = cc
+    by false kind c rights e = cc
+slot_goes f xs t (KindOf r) x e d = cc
+slot_goes f xs t (RightsOf r) x e d = cc
+
+get_there : (slots : List (List ℕ)) (n : ℕ) → n < length slots → slice_get slots n ≡ Some (slice_index_or slots n [])
+get_there [] n less = absurd (omega arith)
+get_there (x ∷ xs) zero less = refl
+get_there (x ∷ xs) (suc n) less = get_there xs n (omega arith)
+
+-- ---- the effect arrives where the rule leads
+
+-- where the rule holds there is an effect, and it stands at the end of an edge, as the state there says
+abbrev pub Arrives : Table → Image → ℕ → ℕ → Result Outcome Cause → Option Cpu → Type 0
+Arrives f i n target (Err c) o = Unit {0}
+Arrives f i n target (Ok w) None = ⊥
+Arrives f i n target (Ok w) (Some c) =
+    IsMemory i c.memory
+    × (((c.counter ≡ target) × Known f c.registers i.slots c.slots w.jumped) ⊎ ((c.counter ≡ n + 1) × Known f c.registers i.slots c.slots w.passed))
+
+module _ {f : Table} {i : Image} {s : State} (c : Cpu) (h : Holds f s c.registers i.slots c.slots) (states : IsState s) (memory : IsMemory i c.memory) (target : ℕ) where
+  abbrev Ends : Result Outcome Cause → Option Cpu → Type 0
+  Ends w o = Arrives f i c.counter target w o
+
+  there : (r : ℕ) → r < 32 → r < length s
+  there r less = subst (λ n. r < n) (sym states.long) less
+
+  -- ---- writes
+
+  word_written : (a n x : ℕ) → a < 32 → x ≤ ANY → x ≤ n → Ends (writes s a (Word n)) (Some (sets c a x))
+  word_written a n x less few le = by (is_has (value_at s a)) refl
+    where
+      by : (t : Bool) → is_has (value_at s a) ≡ t → Ends (if t then Err cause.Leak else Ok (passes (with_value s a (Word n)))) (Some (sets c a x))
+      by true e = tt
+      by false e = (memory, inr (refl, write_word h states a (there a less) e n x few le))
+
+  computed : (bounds : List ℕ) (a n x : ℕ) → a < 32 → x ≤ ANY → x ≤ n → Ends (computes bounds s a n) (Some (sets c a x))
+  computed bounds a n x less few le = word_written a (rounded bounds n) x less few (above bounds x n le few)
+
+  with_word : (b : ℕ) (g : ℕ → Result Outcome Cause) (o : Option Cpu) → ((m : ℕ) → reg c b ≤ m → is_has (value_at s b) ≡ false → Ends (g m) o) → Ends (and_then (word_at s b) g) o
+  with_word b g o k = by (value_at s b) refl
+    where
+      by : (v : AbsVal) → value_at s b ≡ v → Ends (and_then (word_at s b) g) o
+      by (Word m) is = rw is (k m (rw is at (h.described b)) (ap is_has is))
+      by (Has maybe j q) is = rw is tt
+      by (KindOf r) is = rw is (k ANY (h.small b) (ap is_has is))
+      by (RightsOf r) is = rw is (k ANY (h.small b) (ap is_has is))
+
+  copied : (a b : ℕ) → a < 32 → Ends (copies s a b) (Some (sets c a (reg c b)))
+  copied a b less = with_word b _ _ (λ m le plain. by plain (is_has (value_at s a)) refl)
+    where
+      by : is_has (value_at s b) ≡ false → (t : Bool) → is_has (value_at s a) ≡ t → Ends (if t then Err cause.Leak else Ok (passes (with_value s a (value_at s b)))) (Some (sets c a (reg c b)))
+      by plain true e = tt
+      by plain false e = (memory, inr (refl, write_copy h states a (there a less) e b plain))
+
+  -- ---- memory
+
+  in_it : (base offset n m : ℕ) → base ≤ m → in_memory i m offset n ≡ true → base + offset + n ≤ length c.memory
+  in_it base offset n m le e = let size = memory.long in let fits : m + (offset + n) ≤ i.memory = leads e in omega arith
+    where
+      leads : nat_le (m + (offset + n)) i.memory ≡ true → m + (offset + n) ≤ i.memory
+      leads e = grind (arith, nat_tests)
+
+  is_there : (address n : ℕ) → address + n ≤ length c.memory → is_in_memory c address n ≡ true
+  is_there address n le = grind (arith, nat_tests)
+
+  loaded : (n bound a b offset : ℕ) → a < 32 → bound ≤ ANY → ((address : ℕ) → number_of (take n (drop address c.memory)) ≤ bound) → Ends (loads i s n bound a b offset) (loads_from c n a (reg c b + offset))
+  loaded n bound a b offset less few fits = with_word b _ _ (λ m le plain. by m le (in_memory i m offset n) refl)
+    where
+      by : (m : ℕ) → reg c b ≤ m → (t : Bool) → in_memory i m offset n ≡ t → Ends (if t then writes s a (Word bound) else Err cause.MemoryRange) (loads_from c n a (reg c b + offset))
+      by m le false e = tt
+      by m le true e =
+          let x = fits (reg c b + offset) in
+          rw (is_there (reg c b + offset) n (in_it (reg c b) offset n m le e)) (word_written a bound _ less (omega arith) x)
+
+  kept : (n a b offset : ℕ) → Ends (stores i s n a b offset) (stores_to c n (reg c a + offset) (reg c b))
+  kept n a b offset = with_word a _ _ (λ m le plain. with_word b _ _ (λ m2 le2 plain2. by m le (in_memory i m offset n) refl))
+    where
+      by : (m : ℕ) → reg c a ≤ m → (t : Bool) → in_memory i m offset n ≡ t → Ends (if t then Ok (passes s) else Err cause.MemoryRange) (stores_to c n (reg c a + offset) (reg c b))
+      by m le false e = tt
+      by m le true e =
+          let inside = in_it (reg c a) offset n m le e in
+          rw (is_there (reg c a + offset) n inside) (stored i c.memory n (reg c b) (reg c a + offset) memory inside, inr (refl, h))
+
+  -- ---- moves
+
+  taken : (a b : ℕ) → a < 32 → b < 32 → Ends (takes s a b) (Some (record (sets c a (reg c b)) { registers = slice_set (slice_set c.registers a (reg c b)) b 0 }))
+  taken a b in_a in_b = by (a == b) refl (may_move (value_at s b)) refl (is_has (value_at s a)) refl
+    where
+      apart : (a == b) ≡ false → b ≢ a
+      apart e is = let t : (a == b) ≡ true = eq-eqb a b (sym is) in cc
+
+      by : (x : Bool) → (a == b) ≡ x → (y : Bool) → may_move (value_at s b) ≡ y → (z : Bool) → is_has (value_at s a) ≡ z
+          → Ends (if x then Err cause.IllegalOp else if not y then Err cause.NotLive else if z then Err cause.Leak else Ok (passes (moved s a b (value_at s b))))
+          (Some (record (sets c a (reg c b)) { registers = slice_set (slice_set c.registers a (reg c b)) b 0 }))
+      by true e y moves z free = tt
+      by false e false moves z free = tt
+      by false e true moves true free = tt
+      by false e true moves false free = (memory, inr (refl, take_holds h a b (apart e) (there a in_a) (there b in_b) free (value_at s b) refl moves))
+
+  swapped : (a b n : ℕ) → a < 32 → (o : Option SlotArray) → slice_get i.slots n ≡ o → Ends (swaps_in s a b o) (swaps c a (reg c b) n)
+  swapped a b n less None is = tt
+  swapped a b n less (Some t) is = with_word b _ _ (λ m le plain. by m le (nat_lt m t.length) refl (slot_fault t (value_at s a)) refl)
+    where
+      room : n < length c.slots
+      room = (array_there c.slots i.slots n t h.lengths is).0
+
+      long : length (slice_index_or c.slots n []) ≡ t.length
+      long = (array_there c.slots i.slots n t h.lengths is).1
+
+      inside : (m : ℕ) → reg c b ≤ m → nat_lt m t.length ≡ true → reg c b < t.length
+      inside m le e = grind (arith, nat_tests)
+
+      open_at : reg c b < t.length → nat_lt (reg c b) (length (slice_index_or c.slots n [])) ≡ true
+      open_at less = test (reg c b) (length (slice_index_or c.slots n [])) t.length less long
+        where
+          test : (x m k : ℕ) → x < k → m ≡ k → nat_lt x m ≡ true
+          test x m k less e = grind (arith, nat_tests)
+
+      by : (m : ℕ) → reg c b ≤ m → (x : Bool) → nat_lt m t.length ≡ x → (y : Option Cause) → slot_fault t (value_at s a) ≡ y
+          → Ends (if x then swaps_by s a t y else Err cause.MemoryRange) (swaps c a (reg c b) n)
+      by m le false e y fault = tt
+      by m le true e (Some x) fault = tt
+      by m le true e None fault =
+          let goes = slot_goes f c.registers t (value_at s a) (reg c a) fault (h.described a) in
+          rw (get_there c.slots n room, open_at (inside m le e))
+          (memory, inr (refl, swap_holds h states a n (reg c b) t (there a less) is (inside m le e) goes.0 goes.1))
+
+  -- ---- jumps
+
+  split_ends : (test : Bool) (w : Result Outcome Cause) → Splits (Known f c.registers i.slots c.slots) test w → Ends w (Some (goes_if c test target))
+  split_ends test (Err x) k = tt
+  split_ends true (Ok w) k = (memory, inl (refl, k.0 refl))
+  split_ends false (Ok w) k = (memory, inr (refl, k.1 refl))
+
+module _ {f : Table} {i : Image} {s : State} (c : Cpu) (h : Holds f s c.registers i.slots c.slots) (states : IsState s) (memory : IsMemory i c.memory)
+    (known : (v : ℕ) (e : Entry) → f v ≡ Some e → within (bits e.rights) KNOWN_RIGHTS ≡ true) (bounds : List ℕ) where
+  pub agrees : (x : LocalInstr) → is_local_in_range x ≡ true → Arrives f i c.counter (target_of x) (local_rule bounds i x s) (local_effect x c)
+  unfolding local_rule local_effect local_parts
+  agrees (local.Const a imm) r = word_written c h states memory 0 a (capped imm) imm (first_in imm 0 a [] r) (imm_in imm 0 (a ∷ []) r) (let k = imm_in imm 0 (a ∷ []) r in omega arith)
+  agrees (local.Move a b) r = copied c h states memory 0 a b (first_in 0 0 a (b ∷ []) r)
+  agrees (local.Add a b d) r =
+      with_word c h states memory 0 b _ _ (λ m le p. with_word c h states memory 0 d _ _ (λ n le2 p2.
+      computed c h states memory 0 bounds a (capped (m + n)) _ (first_in 0 0 a (b ∷ d ∷ []) r) (wrapped_few (reg c b + reg c d)) (sum_fits (reg c b + reg c d) (m + n) (omega arith))))
+  agrees (local.AddNumber a b imm) r =
+      with_word c h states memory 0 b _ _ (λ m le p.
+      computed c h states memory 0 bounds a (capped (m + imm)) _ (first_in imm 0 a (b ∷ []) r) (wrapped_few (reg c b + imm)) (sum_fits (reg c b + imm) (m + imm) (omega arith)))
+  agrees (local.Subtract a b d) r =
+      with_word c h states memory 0 b _ _ (λ m le p. with_word c h states memory 0 d _ _ (λ n le2 p2.
+      word_written c h states memory 0 a ANY _ (first_in 0 0 a (b ∷ d ∷ []) r) (wrapped_few (reg c b + 2 ^ 64 - reg c d)) (wrapped_few (reg c b + 2 ^ 64 - reg c d))))
+  agrees (local.And a b d) r =
+      with_word c h states memory 0 b _ _ (λ m le p. with_word c h states memory 0 d _ _ (λ n le2 p2.
+      computed c h states memory 0 bounds a (smaller m n) _ (first_in 0 0 a (b ∷ d ∷ []) r) (let k = and_le_l (reg c b) (reg c d) in let few = h.small b in omega arith) (meet_fits (reg c b) (reg c d) m n le le2)))
+  agrees (local.Or a b d) r =
+      with_word c h states memory 0 b _ _ (λ m le p. with_word c h states memory 0 d _ _ (λ n le2 p2.
+      word_written c h states memory 0 a ANY _ (first_in 0 0 a (b ∷ d ∷ []) r) (or_few (reg c b) (reg c d) (h.small b) (h.small d)) (or_few (reg c b) (reg c d) (h.small b) (h.small d))))
+  agrees (local.Xor a b d) r =
+      with_word c h states memory 0 b _ _ (λ m le p. with_word c h states memory 0 d _ _ (λ n le2 p2.
+      word_written c h states memory 0 a ANY _ (first_in 0 0 a (b ∷ d ∷ []) r) (xor_few (reg c b) (reg c d) (h.small b) (h.small d)) (xor_few (reg c b) (reg c d) (h.small b) (h.small d))))
+  agrees (local.ShiftLeft a b imm) r =
+      with_word c h states memory 0 b _ _ (λ m le p. word_written c h states memory 0 a ANY _ (first_in imm 0 a (b ∷ []) r) (up_few (reg c b) imm) (up_few (reg c b) imm))
+  agrees (local.ShiftRight a b imm) r =
+      with_word c h states memory 0 b _ _ (λ m le p. computed c h states memory 0 bounds a (shifted m imm) (shifted (reg c b) imm) (first_in imm 0 a (b ∷ []) r)
+      (let k = down_less (reg c b) imm in let few = h.small b in omega arith) (down_fits (reg c b) m imm le))
+  agrees (local.Take a b) r = taken c h states memory 0 a b (first_in 0 0 a (b ∷ []) r) (second_in 0 0 a b [] r)
+  agrees (local.Swap a b imm) r = swapped c h states memory 0 a b imm (first_in imm 0 a (b ∷ []) r) (slice_get i.slots imm) refl
+  agrees (local.LoadByte a b imm) r = loaded c h states memory 0 1 255 a b imm (first_in imm 0 a (b ∷ []) r) (omega arith) (λ n. byte_less c.memory n memory.bytes)
+  agrees (local.LoadWord a b imm) r = loaded c h states memory 0 8 ANY a b imm (first_in imm 0 a (b ∷ []) r) (omega arith) (λ n. word_less c.memory n memory.bytes)
+  agrees (local.StoreByte a b imm) r = kept c h states memory 0 1 a b imm
+  agrees (local.StoreWord a b imm) r = kept c h states memory 0 8 a b imm
+  agrees (local.Jump target) r = (memory, inl (refl, h))
+  agrees (local.JumpZero a target) r =
+      split_ends c h states memory target (reg c a == 0) (zero_ways s a (value_at s a)) (zero_splits h states a (there c h states memory target a (first_in 0 target a [] r)) (value_at s a) refl)
+  agrees (local.JumpNotZero a target) r =
+      split_ends c h states memory target (not (reg c a == 0)) (unless (zero_ways s a (value_at s a)))
+      (unless_splits _ (reg c a == 0) (zero_ways s a (value_at s a)) (zero_splits h states a (there c h states memory target a (first_in 0 target a [] r)) (value_at s a) refl))
+  agrees (local.JumpEqual a imm target) r =
+      split_ends c h states memory target (reg c a == imm) (equal_ways s a imm (value_at s a)) (equal_splits h states a imm (there c h states memory target a (first_in imm target a [] r)) (value_at s a) refl)
+  agrees (local.JumpNotEqual a imm target) r =
+      split_ends c h states memory target (not (reg c a == imm)) (unless (equal_ways s a imm (value_at s a)))
+      (unless_splits _ (reg c a == imm) (equal_ways s a imm (value_at s a)) (equal_splits h states a imm (there c h states memory target a (first_in imm target a [] r)) (value_at s a) refl))
+  agrees (local.JumpBelow a imm target) r =
+      split_ends c h states memory target (nat_lt (reg c a) imm) (below_ways s a imm) (below_splits h states a imm (there c h states memory target a (first_in imm target a [] r)))
+  agrees (local.JumpNotBelow a imm target) r =
+      split_ends c h states memory target (not (nat_lt (reg c a) imm)) (unless (below_ways s a imm))
+      (unless_splits _ (nat_lt (reg c a) imm) (below_ways s a imm) (below_splits h states a imm (there c h states memory target a (first_in imm target a [] r))))
+  agrees (local.JumpHas a imm target) r =
+      split_ends c h states memory target (within imm (reg c a)) (has_ways s imm (value_at s a)) (has_splits h states known a imm (value_at s a) refl)
+  agrees (local.JumpHasNot a imm target) r =
+      split_ends c h states memory target (not (within imm (reg c a))) (unless (has_ways s imm (value_at s a)))
+      (unless_splits _ (within imm (reg c a)) (has_ways s imm (value_at s a)) (has_splits h states known a imm (value_at s a) refl))

@@ -1,0 +1,102 @@
+-- Where the rule of a call holds, what the call asks for can be read.
+use Rattle.std.proofs.Common.{◌≡◌, ℕ, ◌+◌, ◌≤◌, Bool, true, false, not, List, length, refl, subst, Option, Some, None, Result, Ok, Err, arith, slice_index}
+use Rattle.std.proofs.lemmas.Option.{same_Some}
+use Rattle.std.specs.Prelude.{if◌then◌else◌, nat_le}
+use Rattle.std.proofs.lemmas.Bool.Decides.{nat_tests}
+use Rattle.zl_rights.specs.Common.{Cpu}
+use Rattle.zl_code.specs.declared.instr.CallInstr.{CallInstr}
+use Rattle.zl_code.specs.Image.{Image}
+use Rattle.zl_code.specs.Instructions.{Row, row_of}
+use Rattle.zl_code.specs.Spells.{Last, Numbers, Room, Places, Parts, call_parts}
+use Rattle.zl_code.specs.Local.{reg, is_in_memory}
+use Rattle.zl_code.specs.Asked.{has_its_memory, asked_by, asked_of}
+use Rattle.zl_code.specs.CallTable.{Request, request_of}
+use Rattle.zl_code.specs.Request.{name_of, site_by, site_of}
+use Rattle.zl_abs.specs.declared.value.AbsVal.{AbsVal}
+use Rattle.zl_abs.specs.declared.value.AbsVal.TheVariants.{Word, Has, KindOf, RightsOf}
+use Rattle.zl_abs.specs.declared.cause.Cause.{Cause}
+use Rattle.zl_abs.specs.declared.cause.Cause.TheVariants as cause
+use Rattle.zl_abs.specs.Values.{ANY, bound_of}
+use Rattle.zl_abs.specs.States.{State, value_at, bound_at}
+use Rattle.zl_abs.specs.Rule.{and_then, passes}
+use Rattle.zl_abs.specs.CallRules.{sum_fits, range_fits, are_words, is_declared, answers, examined_all, finished, state_after, range_in, Uses, uses_by, uses_in, uses_of, values_of, goes_on, stops, call_rule_by, call_rule}
+use Rattle.zl_verify.specs.Conforms.{Table, Holds, IsMemory}
+
+-- the rule holds
+abbrev pub IsGiven : {A : Type 0} → Result A Cause → Type 0
+IsGiven (Err c) = ⊥
+IsGiven (Ok x) = Unit {0}
+
+given_then : {A B : Type 0} (x : Result A Cause) (f : A → Result B Cause) → IsGiven (and_then x f) → (a : A) × IsGiven (f a)
+given_then (Err c) f k = absurd k
+given_then (Ok a) f k = (a, k)
+
+given_first : {A B : Type 0} (x : Result A Cause) (f : A → Result B Cause) → IsGiven (and_then x f) → IsGiven x
+given_first (Err c) f k = absurd k
+given_first (Ok a) f k = tt
+
+range_is_given : (i : Image) (s t : State) (u : Uses) → IsGiven (finished i s t u) → range_fits i s u.range ≡ true
+range_is_given i s t u k = by (are_words s u.words) (range_fits i s u.range) k
+  where
+    by : (x y : Bool)
+        → IsGiven (if not x then Err cause.NotWord else if not y then Err cause.MemoryRange else if not (is_declared i u.condition) then Err cause.UndeclaredNeed else answers t u.results)
+        → y ≡ true
+    by true true k = refl
+    by true false k = absurd k
+    by false y k = absurd k
+
+module _ {f : Table} {i : Image} {s : State} (c : Cpu) (h : Holds f s c.registers i.slots c.slots) (memory : IsMemory i c.memory) where
+  bound_le : (r m : ℕ) → bound_at s r ≡ Some m → reg c r ≤ m
+  bound_le r m = by (value_at s r) refl
+    where
+      by : (v : AbsVal) → value_at s r ≡ v → bound_of v ≡ Some m → reg c r ≤ m
+      by (Word n) is e = let le : reg c r ≤ n = rw is at (h.described r) in subst (λ k. reg c r ≤ k) (same_Some n m e) le
+      by (Has maybe k q) is e = cc
+      by (KindOf t) is e = subst (λ k. reg c r ≤ k) (same_Some ANY m e) (h.small r)
+      by (RightsOf t) is e = subst (λ k. reg c r ≤ k) (same_Some ANY m e) (h.small r)
+
+  sum_there : (a b : ℕ) → sum_fits i.memory (bound_at s a) (bound_at s b) ≡ true → is_in_memory c (reg c a) (reg c b) ≡ true
+  sum_there a b = by (bound_at s a) refl (bound_at s b) refl
+    where
+      by : (x : Option ℕ) → bound_at s a ≡ x → (y : Option ℕ) → bound_at s b ≡ y → sum_fits i.memory x y ≡ true → is_in_memory c (reg c a) (reg c b) ≡ true
+      by (Some m) is (Some n) is2 e =
+          let first = bound_le a m is in
+          let second = bound_le b n is2 in
+          let size = memory.long in
+          fits (reg c a) (reg c b) m n i.memory (length c.memory) first second size e
+        where
+          fits : (x y m n top long : ℕ) → x ≤ m → y ≤ n → long ≡ top → nat_le (m + n) top ≡ true → nat_le (x + y) long ≡ true
+          fits x y m n top long p q z e = grind (arith, nat_tests)
+      by None is y is2 e = cc
+      by (Some m) is None is2 e = cc
+
+  range_there : (last : Last) (rs : List ℕ) → range_fits i s (range_in last rs) ≡ true → has_its_memory last rs c ≡ true
+  range_there (Numbers imm target) rs e = refl
+  range_there (Room handles) rs e = sum_there (slice_index rs 2) (slice_index rs 3) e
+  range_there (Places places) rs e = sum_there (slice_index rs 2) (slice_index rs 3) e
+
+  by_row : (o : Option Row) (p : Parts) (values : List AbsVal) (on : Bool) → IsGiven (call_rule_by i s on (uses_in o p values)) → (r : Row) × (o ≡ Some r) × (has_its_memory p.last p.registers c ≡ true)
+  by_row None p values on k = absurd k
+  by_row (Some r) p values on k =
+      let whole : IsGiven (state_after i s (uses_by r p values)) = given_first (state_after i s (uses_by r p values)) (λ t. Ok (if on then passes t else stops)) k in
+      let last = given_then (examined_all s (uses_by r p values).operands) (λ t. finished i s t (uses_by r p values)) whole in
+      (r, refl, range_there p.last p.registers (range_is_given i s last.0 (uses_by r p values) last.1))
+
+  -- the row of the call is there, and its memory
+  pub memory_there : (bounds : List ℕ) (x : CallInstr) → IsGiven (call_rule bounds i x s) → (r : Row) × (row_of (call_parts x).opcode ≡ Some r) × (has_its_memory (call_parts x).last (call_parts x).registers c ≡ true)
+  unfolding call_rule uses_of
+  memory_there bounds x k = by_row (row_of (call_parts x).opcode) (call_parts x) (values_of bounds s x) (goes_on x) k
+
+-- such a call asks for something, and has a site unless it isn't built
+pub asks_for : (x : CallInstr) (c : Cpu) (r : Row) → row_of (call_parts x).opcode ≡ Some r → has_its_memory (call_parts x).last (call_parts x).registers c ≡ true → asked_of x c ≡ Some (asked_by r (call_parts x) c)
+unfolding asked_of
+asks_for x c r is there = rw (is, there) refl
+
+pub no_request : (x : CallInstr) (c : Cpu) (r : Row) → row_of (call_parts x).opcode ≡ Some r → has_its_memory (call_parts x).last (call_parts x).registers c ≡ true → site_of x c ≡ None
+    → request_of (name_of x) (asked_by r (call_parts x) c).operands (asked_by r (call_parts x) c).number ≡ None
+unfolding site_of
+no_request x c r is there none = by (request_of (name_of x) (asked_by r (call_parts x) c).operands (asked_by r (call_parts x) c).number) (rw (is, there) at none)
+  where
+    by : (o : Option Request) → site_by (asked_by r (call_parts x) c) true o ≡ None → o ≡ None
+    by None e = refl
+    by (Some request) e = cc

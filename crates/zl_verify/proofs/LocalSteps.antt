@@ -1,0 +1,210 @@
+-- The law of the local steps of a process that conforms.
+use Rattle.std.proofs.Common.{◌≡◌, ℕ, zero, suc, ◌+◌, ◌⊎◌, Bool, true, false, List, [], ◌∷◌, ◌++◌, length, refl, ap, ◌∙◌, subst, IsTrue, Option, Some, None, Result, Ok, Err, IfSome, inl, inr}
+use Rattle.std.specs.Prelude.{if◌then◌else◌, slice_get, nat_lt}
+use Rattle.std.specs.List.{list_all}
+use Rattle.zl_rights.specs.Common.{bits, within, default_rights_of, get, World, Cpu, Process, Ready}
+use Rattle.zl_rights.specs.Numbers.{KNOWN_RIGHTS}
+use Rattle.zl_rights.specs.declared.entry.Entry.{Entry}
+use Rattle.zl_rights.specs.declared.kind.Kind.{Kind}
+use Rattle.zl_rights.specs.declared.kind.Kind.TheVariants as kind
+use Rattle.zl_rights.specs.declared.policy.Condition.{Condition}
+use Rattle.zl_code.specs.declared.instr.Instr.{Instr}
+use Rattle.zl_code.specs.declared.instr.Instr.TheVariants as instr
+use Rattle.zl_code.specs.declared.instr.LocalInstr.{LocalInstr}
+use Rattle.zl_code.specs.declared.instr.CallInstr.{CallInstr}
+use Rattle.zl_code.specs.Image.{Image, instr_at, call_at, call_in, is_among}
+use Rattle.zl_code.specs.Spells.{is_in_range, is_instr_in_range, is_local_in_range, call_parts}
+use Rattle.zl_code.specs.Local.{local_effect}
+use Rattle.zl_code.specs.Asked.{asked_by}
+use Rattle.zl_code.specs.Request.{Site, site_of, name_of}
+use Rattle.zl_code.specs.Steps.{Next, Moves, IsStuck, moves, calls_at, next_of, next_at}
+use Rattle.zl_code.specs.Effects.{on_process}
+use Rattle.zl_code.specs.Tests.{creates}
+use Rattle.zl_code.specs.Handles.{HandlesAreSound}
+use Rattle.zl_code.specs.declared.history.CallName.{CallName}
+use Rattle.zl_code.proofs.ImageRanges.{ranges}
+use Rattle.zl_abs.specs.declared.cause.Cause.{Cause}
+use Rattle.zl_abs.specs.declared.cause.Cause.TheVariants as cause
+use Rattle.zl_abs.specs.States.{State}
+use Rattle.zl_abs.specs.Bounds.{bounds_of}
+use Rattle.zl_abs.specs.Rule.{and_then, Edge, edge_to, edges}
+use Rattle.zl_abs.specs.LocalRules.{local_rule}
+use Rattle.zl_abs.specs.CallRules.{call_rule}
+use Rattle.zl_abs.specs.Outcome.{Outcome}
+use Rattle.zl_abs.specs.Typing.{target_of, rule_by, rule_with, IsAbove, IsTyping}
+use Rattle.zl_abs.specs.Typing.{Holds as RuleHolds}
+use Rattle.zl_abs.proofs.Order.{both, within_trans}
+use Rattle.zl_verify.specs.Steps.{targets_of, leads, OneOf}
+use Rattle.zl_verify.specs.Conforms.{Table, Holds, IsMemory, WaitsAt, Conforms}
+use Rattle.zl_verify.specs.LocalLaws.{IsUnbuilt, GoesOn}
+use Rattle.zl_verify.proofs.Weakening.{weaken}
+use Rattle.zl_verify.proofs.Refining.{Known}
+use Rattle.zl_verify.proofs.Agreeing.{Arrives, agrees}
+use Rattle.zl_verify.proofs.CallSites.{IsGiven, memory_there, asks_for, no_request}
+
+-- ---- facts of an image and of a world
+
+in_range_at : (raw : Bool) (code : List Instr) (n : ℕ) → list_all (is_instr_in_range raw) code ≡ true → IfSome (slice_get code n) (λ x. is_instr_in_range raw x ≡ true)
+in_range_at raw [] n h = tt
+in_range_at raw (x ∷ code) zero h = (both (is_instr_in_range raw x) (list_all (is_instr_in_range raw) code) h).0
+in_range_at raw (x ∷ code) (suc n) h = in_range_at raw code n (both (is_instr_in_range raw x) (list_all (is_instr_in_range raw) code) h).1
+
+defaults_known : (k : Kind) → within (default_rights_of k) KNOWN_RIGHTS ≡ true
+defaults_known kind.Process = refl
+defaults_known kind.Channel = refl
+defaults_known kind.Event = refl
+defaults_known kind.Port = refl
+defaults_known kind.Job = refl
+
+-- ---- the end of a followed edge
+
+-- the typing has a state there, as which the process is, and an edge leads there
+pub record Reaches (t : ℕ → Option State) (f : Table) (i : Image) (c : Cpu) (targets : List ℕ) : Type 0 where
+  pub state : State
+  pub stands : t c.counter ≡ Some state
+  pub holds : Holds f state c.registers i.slots c.slots
+  pub follows : OneOf (λ n. c.counter ≡ n) targets
+
+module _ (t : ℕ → Option State) (f : Table) (i : Image) (c : Cpu) where
+  arrived : (m : ℕ) (s : State) (targets : List ℕ) → c.counter ≡ m → IsAbove (t m) s → Holds f s c.registers i.slots c.slots → OneOf (λ n. c.counter ≡ n) targets → Reaches t f i c targets
+  arrived m s targets e above h follows = by (t m) refl above
+    where
+      by : (o : Option State) → t m ≡ o → IsAbove o s → Reaches t f i c targets
+      by None is bad = absurd bad
+      by (Some u) is le = record { state = u; stands = ap t e ∙ is; holds = weaken u h le; follows = follows }
+
+  module _ (size n target : ℕ) where
+    -- an edge, and both, where these states stand on them
+    abbrev one_edge : Bool → Cause → ℕ → Option State → Result (List Edge) Cause
+    one_edge x c m None = Ok []
+    one_edge x c m (Some s) = if x then Ok ((m, s) ∷ []) else Err c
+
+    abbrev both_edges : Bool → Bool → Option State → Option State → Result (List Edge) Cause
+    both_edges x y j o =
+        and_then (one_edge x cause.BadJump target j) (λ xs. and_then (one_edge y cause.FallsOff (n + 1) o) (λ ys. Ok (xs ++ ys)))
+
+    abbrev StandsAt : Option State → Option State → Type 0
+    StandsAt j o = ((c.counter ≡ target) × Known f c.registers i.slots c.slots j) ⊎ ((c.counter ≡ n + 1) × Known f c.registers i.slots c.slots o)
+
+    reached_by : (x y : Bool) (j o : Option State) → RuleHolds t (both_edges x y j o) → StandsAt j o → Reaches t f i c (targets_of (both_edges x y j o))
+    reached_by x y None None k (inl (e, bad)) = absurd bad
+    reached_by x y None None k (inr (e, bad)) = absurd bad
+    reached_by x y None (Some s) k (inl (e, bad)) = absurd bad
+    reached_by x true None (Some s) k (inr (e, h)) = arrived (n + 1) s _ e k.0 h (inl e)
+    reached_by x false None (Some s) k (inr (e, h)) = absurd k
+    reached_by x y (Some s) None k (inr (e, bad)) = absurd bad
+    reached_by true y (Some s) None k (inl (e, h)) = arrived target s _ e k.0 h (inl e)
+    reached_by false y (Some s) None k (inl (e, h)) = absurd k
+    reached_by false y (Some s) (Some u) k at = absurd k
+    reached_by true false (Some s) (Some u) k at = absurd k
+    reached_by true true (Some s) (Some u) k (inl (e, h)) = arrived target s _ e k.0 h (inl e)
+    reached_by true true (Some s) (Some u) k (inr (e, h)) = arrived (n + 1) u _ e k.1.0 h (inr (inl e))
+
+    reached_with : (j o : Option State)
+        → RuleHolds t (and_then (edge_to size cause.BadJump target j) (λ xs. and_then (edge_to size cause.FallsOff (n + 1) o) (λ ys. Ok (xs ++ ys)))) → StandsAt j o
+        → Reaches t f i c (targets_of (and_then (edge_to size cause.BadJump target j) (λ xs. and_then (edge_to size cause.FallsOff (n + 1) o) (λ ys. Ok (xs ++ ys)))))
+    reached_with None None = reached_by (nat_lt target size) (nat_lt (n + 1) size) None None
+    reached_with None (Some u) = reached_by (nat_lt target size) (nat_lt (n + 1) size) None (Some u)
+    reached_with (Some s) None = reached_by (nat_lt target size) (nat_lt (n + 1) size) (Some s) None
+    reached_with (Some s) (Some u) = reached_by (nat_lt target size) (nat_lt (n + 1) size) (Some s) (Some u)
+
+    pub reached : (w : Result Outcome Cause) → RuleHolds t (and_then w (edges size n target)) → Arrives f i n target w (Some c)
+        → IsMemory i c.memory × Reaches t f i c (targets_of (and_then w (edges size n target)))
+    reached (Err x) k at = absurd k
+    reached (Ok w) k at = (at.0, reached_with w.jumped w.passed k at.1)
+
+-- an effect is there, where the rule holds
+effect_there : (t : ℕ → Option State) (f : Table) (i : Image) (size n target : ℕ) (w : Result Outcome Cause) → RuleHolds t (and_then w (edges size n target)) → Arrives f i n target w None → ⊥
+effect_there t f i size n target (Err x) k at = absurd k
+effect_there t f i size n target (Ok w) k at = absurd at
+
+call_is_given : (t : ℕ → Option State) (size n target : ℕ) (w : Result Outcome Cause) → RuleHolds t (and_then w (edges size n target)) → IsGiven w
+call_is_given t size n target (Err x) k = absurd k
+call_is_given t size n target (Ok w) k = tt
+
+abbrev moved_to : Cpu → Next → Cpu
+moved_to d (Moves c) = c
+moved_to d _ = d
+
+-- ---- the law
+
+module _ (i : Image) (t : ℕ → Option State) (w : World) (p : ℕ) (q : Process) (range : IsTrue (is_in_range i)) (typing : IsTyping i t) (sound : HandlesAreSound w)
+    (is_there : get w.processes p ≡ Some q) (k : Conforms i t w p q) where
+  known : (v : ℕ) (e : Entry) → get q.handles v ≡ Some e → within (bits e.rights) KNOWN_RIGHTS ≡ true
+  known v e is = within_trans KNOWN_RIGHTS (default_rights_of e.kind) (bits e.rights) (defaults_known e.kind) (sound.rights p v q e is_there is)
+
+  holds_at : (o : Option Instr) → instr_at i q.cpu.counter ≡ o → RuleHolds t (rule_by (bounds_of i.code) i q.cpu.counter k.state o)
+  unfolding rule_with
+  holds_at o is = rw is at (typing.holds q.cpu.counter k.state k.stands)
+
+  local_range : (x : LocalInstr) → instr_at i q.cpu.counter ≡ Some (instr.Local x) → is_local_in_range x ≡ true
+  local_range x is = rw is at (in_range_at i.raw i.code q.cpu.counter (ranges i range).code)
+
+  arrives : (x : LocalInstr) → instr_at i q.cpu.counter ≡ Some (instr.Local x) → Arrives (get q.handles) i q.cpu.counter (target_of x) (local_rule (bounds_of i.code) i x k.state) (local_effect x q.cpu)
+  arrives x is = agrees q.cpu k.holds (typing.state q.cpu.counter k.state k.stands) k.memory known (bounds_of i.code) x (local_range x is)
+
+  leads_here : (x : LocalInstr) → instr_at i q.cpu.counter ≡ Some (instr.Local x)
+      → targets_of (and_then (local_rule (bounds_of i.code) i x k.state) (edges (length i.code) q.cpu.counter (target_of x))) ≡ leads i t q.cpu.counter
+  unfolding rule_with
+  leads_here x is = rw (k.stands, is) refl
+
+  still_allowed : (c : Cpu) (condition : Condition) → IsTrue (is_among i.needs condition) → creates (on_process w p (λ x. record x { cpu = c })) p condition ≡ None
+  unfolding creates on_process
+  still_allowed c condition e = k.allowed condition e
+
+  waits_nowhere : (c : Cpu) → q.state ≡ Ready → WaitsAt q.state (call_at i c.counter)
+  waits_nowhere c ready = rw ready tt
+
+  stepped : (x : LocalInstr) → instr_at i q.cpu.counter ≡ Some (instr.Local x) → q.state ≡ Ready → (c : Cpu) → local_effect x q.cpu ≡ Some c → GoesOn i t w p q c
+  stepped x is ready c effect =
+      let r = reached t (get q.handles) i c (length i.code) q.cpu.counter (target_of x) (local_rule (bounds_of i.code) i x k.state) (holds_at (Some (instr.Local x)) is) (rw effect at (arrives x is)) in
+      record {
+        follows = subst (OneOf (λ n. c.counter ≡ n)) (leads_here x is) r.1.follows;
+        conforms = record { state = r.1.state; stands = r.1.stands; holds = r.1.holds; memory = r.0; allowed = still_allowed c; waits = waits_nowhere c ready };
+      }
+
+  pub goes_on : q.state ≡ Ready → (c : Cpu) → next_at i q.cpu ≡ Moves c → GoesOn i t w p q c
+  unfolding next_at
+  goes_on ready c = by (instr_at i q.cpu.counter) refl
+    where
+      one : (x : LocalInstr) → instr_at i q.cpu.counter ≡ Some (instr.Local x) → (o : Option Cpu) → local_effect x q.cpu ≡ o → moves o ≡ Moves c → GoesOn i t w p q c
+      one x is None effect e = cc
+      one x is (Some d) effect e = stepped x is ready c (effect ∙ ap Some (ap (moved_to d) e))
+
+      no_move : (call : CallName) (o : Option Site) → calls_at call o ≡ Moves c → ⊥
+      no_move call None e = cc
+      no_move call (Some s) e = cc
+
+      by : (o : Option Instr) → instr_at i q.cpu.counter ≡ o → next_of o q.cpu ≡ Moves c → GoesOn i t w p q c
+      by None is e = cc
+      by (Some (instr.Local x)) is e = one x is (local_effect x q.cpu) refl e
+      by (Some (instr.Call x)) is e = absurd (no_move (name_of x) (site_of x q.cpu) e)
+      by (Some (instr.Unknown bytes)) is e = cc
+
+  unbuilt : (x : CallInstr) → instr_at i q.cpu.counter ≡ Some (instr.Call x) → (o : Option Site) → site_of x q.cpu ≡ o → calls_at (name_of x) o ≡ IsStuck → IsUnbuilt i q.cpu
+  unbuilt x is (Some s) site e = cc
+  unbuilt x is None site e =
+      let given = call_is_given t (length i.code) q.cpu.counter 0 (call_rule (bounds_of i.code) i x k.state) (holds_at (Some (instr.Call x)) is) in
+      let there = memory_there q.cpu k.holds k.memory (bounds_of i.code) x given in
+      record {
+        call = x;
+        stands = ap call_in is;
+        asked = asked_by there.0 (call_parts x) q.cpu;
+        there = asks_for x q.cpu there.0 there.1 there.2;
+        none = no_request x q.cpu there.0 there.1 there.2 site;
+      }
+
+  pub not_stuck : next_at i q.cpu ≡ IsStuck → IsUnbuilt i q.cpu
+  unfolding next_at
+  not_stuck = by (instr_at i q.cpu.counter) refl
+    where
+      one : (x : LocalInstr) → instr_at i q.cpu.counter ≡ Some (instr.Local x) → (o : Option Cpu) → local_effect x q.cpu ≡ o → moves o ≡ IsStuck → IsUnbuilt i q.cpu
+      one x is None effect e =
+          absurd (effect_there t (get q.handles) i (length i.code) q.cpu.counter (target_of x) (local_rule (bounds_of i.code) i x k.state) (holds_at (Some (instr.Local x)) is) (rw effect at (arrives x is)))
+      one x is (Some d) effect e = cc
+
+      by : (o : Option Instr) → instr_at i q.cpu.counter ≡ o → next_of o q.cpu ≡ IsStuck → IsUnbuilt i q.cpu
+      by None is e = absurd (holds_at None is)
+      by (Some (instr.Local x)) is e = one x is (local_effect x q.cpu) refl e
+      by (Some (instr.Call x)) is e = unbuilt x is (site_of x q.cpu) refl e
+      by (Some (instr.Unknown bytes)) is e = absurd (holds_at (Some (instr.Unknown bytes)) is)

@@ -19,7 +19,7 @@ pub record Was (m : Map Object) (k : ℕ) (o : Object) : Type 0 where
   pub before : Object
   pub there : get m k ≡ Some before
   pub body : o.body ≡ before.body
-  pub raised : o.raised ≡ before.raised
+  pub signals : o.signals ≡ before.signals
 
 less_was : (m : Map Object) (k j : ℕ) (o : Object) → Was (update m k held_once_less) j o → Was m j o
 less_was m k j o was =
@@ -28,18 +28,18 @@ less_was m k j o was =
       before = c.before;
       there = c.there;
       body = was.body ∙ changed_body held_once_less (λ x. refl) m k j was.before c;
-      raised = was.raised ∙ raised_same c;
+      signals = was.signals ∙ signals_same c;
     }
   where
-    raised_same : (c : Changed held_once_less m k j was.before) → was.before.raised ≡ c.before.raised
-    raised_same c = ap (λ (x : Object). x.raised) c.is ∙ elim (k == j) as (λ b. (if b then held_once_less c.before else c.before).raised ≡ c.before.raised) [ true ↦ refl | false ↦ refl ]
+    signals_same : (c : Changed held_once_less m k j was.before) → was.before.signals ≡ c.before.signals
+    signals_same c = ap (λ (x : Object). x.signals) c.is ∙ elim (k == j) as (λ b. (if b then held_once_less c.before else c.before).signals ≡ c.before.signals) [ true ↦ refl | false ↦ refl ]
 
 pub cascaded_was : (ks : List ℕ) (m m2 : Map Object) → Cascades ks m m2 → (j : ℕ) (o : Object) → get m2 j ≡ Some o → Was m j o
-cascaded_was _ _ _ (none_left m) j o at = record { before = o; there = at; body = refl; raised = refl }
+cascaded_was _ _ _ (none_left m) j o at = record { before = o; there = at; body = refl; signals = refl }
 cascaded_was _ _ _ (let_go k ks m m2 more) j o at = less_was m k j o (cascaded_was ks (update m k held_once_less) m2 more j o at)
 cascaded_was _ _ _ (goes k gone ks m m2 there unkept more) j o at =
     let was : Was (without m k) j o = cascaded_was _ (without m k) m2 more j o at in
-    record { before = was.before; there = (found_left m k j was.before was.there).1; body = was.body; raised = was.raised }
+    record { before = was.before; there = (found_left m k j was.before was.there).1; body = was.body; signals = was.signals }
 
 cascaded_shorter : (ks : List ℕ) (m m2 : Map Object) → Cascades ks m m2 → length m2 ≤ length m
 cascaded_shorter _ _ _ (none_left m) = omega arith

@@ -77,7 +77,7 @@ module _ (w : World) (m : Map Object) (shows : ShowStates w m) (k : ℕ) where
   shown_at : (q : Option Object) → get m k ≡ q → signals_in m k q ≡ active (with_objects w m) k
   unfolding active
   shown_at None is = rw (get_seen m k, is) refl
-  shown_at (Some o) is = rw (get_seen m k, is) (ap (bit_or o.raised.0) (implied_shown o o.body refl is))
+  shown_at (Some o) is = rw (get_seen m k, is) (ap (bit_or o.signals.raised) (implied_shown o o.body refl is))
 
 pub are_active : (m : Map Object) (k : ℕ) → AreActive m k (signals_at m k)
 are_active m k w shows = shown_at w m shows k (get m k) refl

@@ -6,12 +6,14 @@ use Rattle.std.specs.Map.{lookup, set_value, remove_entry}
 use Rattle.std.specs.BTreeMap.{BTreeMap, is_at, insert_entry, IsUnchanged, IsUpperBound, Updates}
 use Rattle.zl_rights.specs.World.{Message}
 use Rattle.zl_rights.proofs.MapLaws.{get-put, get-update}
+use Rattle.zl_signals.specs.declared.watch.Watch.{Watch}
 use Rattle.zl_table.proofs.MapEdits.{put_key, has_key-update, length-update}
 use Rattle.zl_objects.specs.declared.object.Body.{Body}
 use Rattle.zl_objects.specs.declared.object.Body.TheVariants as body
 use Rattle.zl_objects.specs.declared.object.Object.{Object}
 use Rattle.zl_objects.specs.Objects.{held_once_more, is_end_at, is_end_in, is_end_body, raised_changed, sent, received, stopped, new_object}
 use Rattle.zl_objects.specs.Dying.{HasPeer, IsWhole}
+use Rattle.zl_objects.specs.Waits.{watched, unwatched}
 use Rattle.zl_objects.proofs.ByKoid.{inserted, entry_inserted, looked_up, written, written_back}
 
 pub none_whole : (m : Map Object) (next room : ℕ) (d : List ℕ) → m ≡ [] → d ≡ [] → IsWhole m next d room
@@ -72,17 +74,25 @@ more_whole = updated_whole held_once_more (same_ends held_once_more more_same) (
 pub changed_whole : (m n : Map Object) (next room k clear set : ℕ) (d : List ℕ) → IsWhole m next d room → n ≡ update m k (raised_changed clear set) → IsWhole n next d room
 changed_whole m n next room k clear set = updated_whole (raised_changed clear set) (λ o. refl) (λ m next o has. has) m n next room k
 
+-- one wait more
+pub watched_whole : (m n : Map Object) (next room k : ℕ) (x : Watch) (d : List ℕ) → IsWhole m next d room → n ≡ update m k (watched x) → IsWhole n next d room
+watched_whole m n next room k x = updated_whole (watched x) (λ o. refl) (λ m next o has. has) m n next room k
+
+-- one wait less
+pub unwatched_whole : (test : Watch → Bool) (m n : Map Object) (next room k : ℕ) (d : List ℕ) → IsWhole m next d room → n ≡ update m k (unwatched test) → IsWhole n next d room
+unwatched_whole test = updated_whole (unwatched test) (λ o. refl) (λ m next o has. has)
+
 -- the end of a process
 pub stopped_whole : (m n : Map Object) (next room k : ℕ) (d : List ℕ) → IsWhole m next d room → n ≡ update m k stopped → IsWhole n next d room
 stopped_whole = updated_whole stopped (λ o. ends o.body) (λ m next o. peer m next o.body)
   where
-    ends : (b : Body) → is_end_body (stopped (record { body = b; raised = record { 0 = 0 }; handles = 0 })).body ≡ is_end_body b
+    ends : (b : Body) → is_end_body (stopped (record { body = b; signals = record { raised = 0; waits = [] }; handles = 0 })).body ≡ is_end_body b
     ends body.RootJob = refl
     ends (body.Process job lives) = refl
     ends body.Event = refl
     ends (body.ChannelEnd p queue) = refl
 
-    peer : (m : Map Object) (next : ℕ) (b : Body) → HasPeer m next b → HasPeer m next (stopped (record { body = b; raised = record { 0 = 0 }; handles = 0 })).body
+    peer : (m : Map Object) (next : ℕ) (b : Body) → HasPeer m next b → HasPeer m next (stopped (record { body = b; signals = record { raised = 0; waits = [] }; handles = 0 })).body
     peer m next body.RootJob has = has
     peer m next (body.Process job lives) has = has
     peer m next body.Event has = has
@@ -92,13 +102,13 @@ stopped_whole = updated_whole stopped (λ o. ends o.body) (λ m next o. peer m n
 pub sent_whole : (m n : Map Object) (next room k : ℕ) (d : List ℕ) (message : Message) → IsWhole m next d room → n ≡ update m k (sent message) → IsWhole n next d room
 sent_whole m n next room k d message = updated_whole (sent message) (λ o. ends o.body) (λ m next o. peer m next o.body) m n next room k d
   where
-    ends : (b : Body) → is_end_body (sent message (record { body = b; raised = record { 0 = 0 }; handles = 0 })).body ≡ is_end_body b
+    ends : (b : Body) → is_end_body (sent message (record { body = b; signals = record { raised = 0; waits = [] }; handles = 0 })).body ≡ is_end_body b
     ends body.RootJob = refl
     ends (body.Process job lives) = refl
     ends body.Event = refl
     ends (body.ChannelEnd p queue) = refl
 
-    peer : (m : Map Object) (next : ℕ) (b : Body) → HasPeer m next b → HasPeer m next (sent message (record { body = b; raised = record { 0 = 0 }; handles = 0 })).body
+    peer : (m : Map Object) (next : ℕ) (b : Body) → HasPeer m next b → HasPeer m next (sent message (record { body = b; signals = record { raised = 0; waits = [] }; handles = 0 })).body
     peer m next body.RootJob has = has
     peer m next (body.Process job lives) has = has
     peer m next body.Event has = has
@@ -108,13 +118,13 @@ sent_whole m n next room k d message = updated_whole (sent message) (λ o. ends 
 pub received_whole : (m n : Map Object) (next room k : ℕ) (d : List ℕ) → IsWhole m next d room → n ≡ update m k received → IsWhole n next d room
 received_whole = updated_whole received (λ o. ends o.body) (λ m next o. peer m next o.body)
   where
-    ends : (b : Body) → is_end_body (received (record { body = b; raised = record { 0 = 0 }; handles = 0 })).body ≡ is_end_body b
+    ends : (b : Body) → is_end_body (received (record { body = b; signals = record { raised = 0; waits = [] }; handles = 0 })).body ≡ is_end_body b
     ends body.RootJob = refl
     ends (body.Process job lives) = refl
     ends body.Event = refl
     ends (body.ChannelEnd p queue) = refl
 
-    peer : (m : Map Object) (next : ℕ) (b : Body) → HasPeer m next b → HasPeer m next (received (record { body = b; raised = record { 0 = 0 }; handles = 0 })).body
+    peer : (m : Map Object) (next : ℕ) (b : Body) → HasPeer m next b → HasPeer m next (received (record { body = b; signals = record { raised = 0; waits = [] }; handles = 0 })).body
     peer m next body.RootJob has = has
     peer m next (body.Process job lives) has = has
     peer m next body.Event has = has
@@ -265,6 +275,12 @@ pub sent_or_same_whole : {A B : Type 0} (m n : Map Object) (next room k : ℕ) (
 sent_or_same_whole m n next room k d message v w (Ok x) whole is other there set = sent_whole m n next room k d message whole (written m n k (sent message) v w there is set)
 sent_or_same_whole m n next room k d message v w (Err e) whole other is there set = roomy_whole m n next room room d d whole (written_back m n k v w there is set) refl (omega arith)
 
+-- one wait more, or the object as it was
+pub watched_or_same_whole : {A B : Type 0} (m n : Map Object) (next room k : ℕ) (d : List ℕ) (x : Watch) (v w : Object) (r : Result A B) → IsWhole m next d room → OnOk r (w ≡ watched x v) → OnErr r (w ≡ v)
+    → Some v ≡ lookup (is_at (nat_cmp k)) m → n ≡ set_value (is_at (nat_cmp k)) m w → IsWhole n next d room
+watched_or_same_whole m n next room k d x v w (Ok y) whole is other there set = watched_whole m n next room k x d whole (written m n k (watched x) v w there is set)
+watched_or_same_whole m n next room k d x v w (Err e) whole other is there set = roomy_whole m n next room room d d whole (written_back m n k v w there is set) refl (omega arith)
+
 -- ---- the newest object less
 
 no_entries : (es : Map Object) → (0 < length es → false ≡ true) → es ≡ []
@@ -327,4 +343,4 @@ popped_whole m n next koid room d (Some p) whole newest alone there fewer some u
     peers j o at = by_body o.body (whole.peers j o (was j o at))
 
 -- what the methods of objects cite
-pub ruleset whole = (none_whole, more_whole, changed_whole, stopped_whole, sent_whole, received_whole, inserted_whole, roomy_whole)
+pub ruleset whole = (none_whole, more_whole, changed_whole, watched_whole, unwatched_whole, stopped_whole, sent_whole, received_whole, inserted_whole, roomy_whole)

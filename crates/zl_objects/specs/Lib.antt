@@ -3,3 +3,4 @@ pub mod Release
 pub mod Seen
 pub mod Dying
 pub mod Signals
+pub mod Waits

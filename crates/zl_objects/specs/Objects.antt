@@ -5,8 +5,8 @@ use Rattle.std.specs.Option.{option_map}
 use Rattle.zl_rights.specs.declared.kind.Kind.{Kind}
 use Rattle.zl_rights.specs.declared.kind.Kind.TheVariants as kind
 use Rattle.zl_rights.specs.Map.{Map, get, update, has_key}
-use Rattle.zl_rights.specs.Numbers.{changed}
 use Rattle.zl_rights.specs.World.{Message}
+use Rattle.zl_signals.specs.Waits.{with_changed}
 use Rattle.zl_objects.specs.declared.object.Body.{Body}
 use Rattle.zl_objects.specs.declared.object.Body.TheVariants as body
 use Rattle.zl_objects.specs.declared.object.Object.{Object}
@@ -175,9 +175,9 @@ is_kept objects k o = nat_lt 0 o.handles || stays_alone objects k o.body
 
 -- ---- changes
 
--- an object with no signals raised, which so many handles name
+-- an object with no signals raised and no waits, which so many handles name
 abbrev pub new_object : Body → ℕ → Object
-new_object body handles = record { body = body; raised = record { 0 = 0 }; handles = handles }
+new_object body handles = record { body = body; signals = record { raised = 0; waits = [] }; handles = handles }
 
 -- the objects with a new one, which gets the next koid
 abbrev pub with_new : Objects → Body → ℕ → Objects
@@ -205,7 +205,7 @@ holding r k = record r { objects = update r.objects k held_once_more }
 
 -- the object with the signals of one mask cleared, and then those of the other set
 abbrev pub raised_changed : ℕ → ℕ → Object → Object
-raised_changed clear set o = record o { raised = record { 0 = changed o.raised.0 clear set } }
+raised_changed clear set o = record o { signals = with_changed o.signals clear set }
 
 -- the objects, where the signals of the object k were changed
 abbrev pub changing : Objects → ℕ → ℕ → ℕ → Objects

@@ -25,7 +25,7 @@ body_value (body.ChannelEnd peer queue) = ChannelEnd peer queue
 
 -- an object; how many handles name it isn't seen
 abbrev pub object_value : Object → ObjectValue
-object_value o = record { body = body_value o.body; raised = o.raised.0 }
+object_value o = record { body = body_value o.body; raised = o.signals.raised }
 
 -- an object of the world under its koid
 abbrev pub object_entry : ℕ × Object → ℕ × ObjectValue

@@ -23,7 +23,7 @@ implied m k (body.ChannelEnd peer queue) =
 -- the signals that calls raised at the object that was found, and those that follow
 abbrev pub signals_in : Map Object → ℕ → Option Object → ℕ
 signals_in m k None = 0
-signals_in m k (Some o) = bit_or o.raised.0 (implied m k o.body)
+signals_in m k (Some o) = bit_or o.signals.raised (implied m k o.body)
 
 -- the signals of the object k, none where it isn't there
 abbrev pub signals_at : Map Object → ℕ → ℕ

@@ -10,6 +10,7 @@ mod object;
 mod objects;
 mod releasing;
 mod signals;
+mod waits;
 
 pub use object::{Body, Object};
 pub use objects::Objects;

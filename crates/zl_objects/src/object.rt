@@ -8,6 +8,7 @@ ghost use Rattle.zl_channel.specs.Queue.{is_too_large, refused_message, front_si
 use crate::objects::Objects;
 use zl_channel::{ChannelEnd, Message, PushFault};
 use zl_rights::{Entry, Kind, Koid, Signals};
+use zl_signals::SignalState;
 
 /// What an object is.
 ///
@@ -23,11 +24,12 @@ pub enum Body {
     ChannelEnd { peer: Koid, queue: ChannelEnd },
 }
 
-/// An object, with the signals that calls set and clear and the number of its handles.
+/// An object, with the signals that calls set and clear, the waits that are registered there, and the
+/// number of its handles.
 #[derive(Drop)]
 pub struct Object {
     pub body: Body,
-    pub raised: Signals,
+    pub signals: SignalState,
     pub handles: u64,
 }
 
@@ -58,7 +60,7 @@ impl Object {
     pub(crate) fn change(&mut self, clear: Signals, set: Signals)
         ensures { self.new ≡ raised_changed clear.0 set.0 self.old }
     {
-        self.raised = self.raised.changed(clear, set);
+        self.signals.change(clear, set);
     }
 
     /// A process doesn't live any more.

@@ -7,12 +7,12 @@ ghost use Rattle.zl_objects.specs.Seen.{LeavesLargest};
 
 use crate::object::{Body, Object};
 use crate::releasing::{let_go, remove_dying, remove_unkept};
-use bitflags::Flags;
 use std::alloc::{AllocError, Global};
 use std::collections::BTreeMap;
 use std::marker::Model;
 use zl_channel::{ChannelEnd, Message, PushFault};
 use zl_rights::{Entry, Kind, Koid, Signals};
+use zl_signals::SignalState;
 
 /// The objects by koid, and the least koid that was not given yet.
 ///
@@ -98,11 +98,12 @@ impl Objects {
     {
         self.dying.reserve(self.by_koid.len() + 1)?;
         let koid = self.next_koid;
+        let alloc = *self.dying.allocator();
         self.by_koid.insert(
             koid,
             Object {
                 body,
-                raised: Signals::empty(),
+                signals: SignalState::new(alloc),
                 handles,
             },
         )?;
@@ -326,7 +327,7 @@ fn channel_end(alloc: Global, peer: Koid, handles: u64) -> Object
             peer,
             queue: ChannelEnd::new(alloc),
         },
-        raised: Signals::empty(),
+        signals: SignalState::new(alloc),
         handles,
     }
 }

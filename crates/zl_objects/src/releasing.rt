@@ -119,7 +119,8 @@ pub fn remove_unkept(by_koid: &mut BTreeMap<Koid, Object>, dying: &mut Vec<Koid>
     let Some(gone) = take_unkept(by_koid, koid) else {
         return;
     };
-    if let Body::ChannelEnd { queue, .. } = gone.body {
+    let Object { body, .. } = gone;
+    if let Body::ChannelEnd { queue, .. } = body {
         let_go_queue(by_koid, dying, queue);
     }
 }

@@ -22,7 +22,10 @@ impl Objects {
         ensures active { AreActive self.now.objects koid result.0 }
     {
         match self.by_koid.get(&koid) {
-            Some(object) => object.raised.union(self.implied(koid, &object.body)),
+            Some(object) => object
+                .signals
+                .raised()
+                .union(self.implied(koid, &object.body)),
             None => Signals::empty(),
         }
     }

@@ -4,6 +4,7 @@ use std::alloc::{AllocError, Global};
 use std::test::Fail;
 use zl_channel::{Handles, Message};
 use zl_rights::{Entry, Kind, Koid, Rights, Signals};
+use zl_signals::Watch;
 
 const LENGTH: u64 = 30_000;
 
@@ -85,5 +86,83 @@ fn a_job_goes_with_its_last_process(rt: HostRuntime) -> Result<(), Fail> {
     assert!(rt; objects.is_job(Objects::ROOT_JOB));
     objects.end(pid);
     assert!(rt; !objects.is_job(Objects::ROOT_JOB));
+    Ok(())
+}
+
+/// A wait of process 2 by its handle 1 for the signals, which gives a packet with the key to port 7.
+fn wait_for(mask: Signals, key: u64, order: u64) -> Watch {
+    Watch {
+        pid: 2,
+        value: 1,
+        port: 7,
+        key,
+        mask,
+        order,
+    }
+}
+
+/// Registers the wait, and once more where there was no memory for it.
+fn watch(objects: &mut Objects, koid: Koid, wait: Watch) -> Result<(), AllocError> {
+    if objects.kind_of(koid).is_none() {
+        return Err(AllocError);
+    }
+    match objects.watch(koid, wait) {
+        Ok(()) => Ok(()),
+        Err(refused) => objects.watch(koid, refused.value).map_err(|_| AllocError),
+    }
+}
+
+/// The key of a wait that was taken out.
+fn key(taken: Option<Watch>) -> Option<u64> {
+    Some(taken?.key)
+}
+
+#[test]
+fn waits_fire_in_the_order_of_their_registration(rt: HostRuntime) -> Result<(), Fail> {
+    let mut objects = Objects::new(rt.alloc())?;
+    let (first, second) = new_channel(&mut objects)?;
+    watch(&mut objects, first, wait_for(Signals::USER_0, 5, 10))?;
+    watch(&mut objects, first, wait_for(Signals::WRITABLE, 6, 20))?;
+    watch(&mut objects, second, wait_for(Signals::WRITABLE, 7, 30))?;
+    watch(&mut objects, first, wait_for(Signals::WRITABLE, 8, 40))?;
+    let active = objects.signals_of(first);
+    assert_eq!(rt; objects.next_order(first, active), Some(20));
+    assert_eq!(rt; key(objects.fire(first, active)), Some(6));
+    assert_eq!(rt; key(objects.fire(first, active)), Some(8));
+    assert_eq!(rt; objects.next_order(first, active), None);
+    assert!(rt; objects.fire(first, active).is_none());
+    objects.change(first, Signals::empty(), Signals::USER_0);
+    assert_eq!(rt;
+        key(objects.fire(first, objects.signals_of(first))),
+        Some(5)
+    );
+    assert_eq!(rt; objects.next_order(second, active), Some(30));
+    Ok(())
+}
+
+#[test]
+fn only_the_waits_that_are_named_end(rt: HostRuntime) -> Result<(), Fail> {
+    let mut objects = Objects::new(rt.alloc())?;
+    for n in 0..4 {
+        watch(
+            &mut objects,
+            Objects::ROOT_JOB,
+            wait_for(Signals::NO_JOBS, n, n),
+        )?;
+    }
+    assert!(rt; objects.unwatch_key(Objects::ROOT_JOB, 2, 1, 8, 2).is_none());
+    assert_eq!(rt;
+        key(objects.unwatch_key(Objects::ROOT_JOB, 2, 1, 7, 2)),
+        Some(2)
+    );
+    assert!(rt; objects.unwatch_handle(Objects::ROOT_JOB, 3, 1).is_none());
+    assert_eq!(rt;
+        key(objects.unwatch_handle(Objects::ROOT_JOB, 2, 1)),
+        Some(0)
+    );
+    assert!(rt; objects.unwatch_port(5, 7).is_none());
+    assert_eq!(rt; key(objects.unwatch_port(Objects::ROOT_JOB, 7)), Some(1));
+    assert_eq!(rt; key(objects.unwatch_port(Objects::ROOT_JOB, 7)), Some(3));
+    assert!(rt; objects.unwatch_port(Objects::ROOT_JOB, 7).is_none());
     Ok(())
 }

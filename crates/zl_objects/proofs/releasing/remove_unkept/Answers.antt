@@ -19,16 +19,16 @@ pub returns-in-ChannelEnd-clause-goes : goal.returns-in-ChannelEnd-clause-goes
 returns-in-ChannelEnd-clause-goes c =
     let was : IsTaken c.args.by_koid.now.entries c.args.koid c.in-Some.gone = taken c.args.by_koid.now.entries c.args.koid c.in-Some.gone (sym c.take_unkept.ensures.taken ∙ c.in-Some.is) in
     unkept_went c.args.by_koid.now.entries c.args.dying.now.items c.args.koid c.in-Some.gone c.let_go_queue.new.by_koid.entries c.let_go_queue.new.dying.items was.there was.unkept
-    (rw (c.in-ChannelEnd.is) (rw (c.take_unkept.ensures.left, was.left, c.in-ChannelEnd.queue-is) at c.let_go_queue.ensures.goes))
+    (rw (c.in-ChannelEnd.is) (rw (c.take_unkept.ensures.left, was.left) at c.let_go_queue.ensures.goes))
 
 pub returns-in-ChannelEnd-clause-less : goal.returns-in-ChannelEnd-clause-less
 returns-in-ChannelEnd-clause-less c =
     let was : IsTaken c.args.by_koid.now.entries c.args.koid c.in-Some.gone = taken c.args.by_koid.now.entries c.args.koid c.in-Some.gone (sym c.take_unkept.ensures.taken ∙ c.in-Some.is) in
-    let went : LetsGo (named_in c.in-ChannelEnd.queue) (without c.args.by_koid.now.entries c.args.koid) c.args.dying.now.items c.let_go_queue.new.by_koid.entries c.let_go_queue.new.dying.items = rw (c.take_unkept.ensures.left, was.left, c.in-ChannelEnd.queue-is) at c.let_go_queue.ensures.goes in
+    let went : LetsGo (named_in c.in-ChannelEnd.queue) (without c.args.by_koid.now.entries c.args.koid) c.args.dying.now.items c.let_go_queue.new.by_koid.entries c.let_go_queue.new.dying.items = rw (c.take_unkept.ensures.left, was.left) at c.let_go_queue.ensures.goes in
     omega (arith, less_left c.args.by_koid.now.entries c.args.dying.now.items c.args.koid, went.cheap)
 
-pub returns-in_default-body : goal.returns-in_default-body
-returns-in_default-body c =
+pub returns : goal.returns
+returns c =
     let was : IsTaken c.args.by_koid.now.entries c.args.koid c.in-Some.gone = taken c.args.by_koid.now.entries c.args.koid c.in-Some.gone (sym c.take_unkept.ensures.taken ∙ c.in-Some.is) in
     let empty : queue_of c.in-Some.gone.body ≡ [] = no_queue c.in-Some.gone.body c.in_default-body.not-ChannelEnd in
     rw (c.take_unkept.ensures.left, was.left) (record {

@@ -1,0 +1,8 @@
+use Rattle.std.proofs.Common.{rules, vec_capacity}
+use Rattle.zl_signals.specs.Waits.{holds}
+use Rattle.zl_objects.proofs.ByKoid.{by_koid}
+use Rattle.zl_objects.proofs.Whole.{unwatched_whole}
+use Rattle.zl_objects.proofs.objects.Objects.fire.Goals as goal
+
+pub invariant_of-self-2 : goal.invariant_of-self-2
+invariant_of-self-2 c = unwatched_whole (holds c.args.active.0) c.self.inside.by_koid.entries (c.get_mut.follows.lender c.fire.new.self).entries c.self.inside.next_koid (vec_capacity c.self.inside.dying) c.args.koid c.self.inside.dying.items c.self.invariant (search (rules, by_koid))

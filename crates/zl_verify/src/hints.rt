@@ -14,8 +14,8 @@ use zl_code::{Ending, HandleList, Image, Instr, InstrBytes, Register, Row};
 /// How many registers there are.
 const REGISTERS: u8 = 32;
 
-/// Adds why the image is refused at the instruction of this number: what was wanted there, and what
-/// the registers of the instruction hold before it.
+/// Adds why the image is refused at the instruction of this number: what was wanted there, and, where
+/// that matters, what the registers of the instruction hold before it.
 pub fn push_refusal(
     hint: &mut String,
     alloc: Global,
@@ -26,7 +26,10 @@ pub fn push_refusal(
     match cause {
         RefusalCause::Rule(cause) => {
             hint.push_str(reason_of(cause))?;
-            push_before(hint, alloc, image, at)
+            match cause {
+                Cause::BadJump | Cause::FallsOff | Cause::UndeclaredNeed | Cause::IllegalOp => Ok(()),
+                _ => push_before(hint, alloc, image, at),
+            }
         }
         RefusalCause::JoinConflict => {
             hint.push_str("two ways meet here, and nothing describes a register after both")?;
@@ -36,8 +39,8 @@ pub fn push_refusal(
             let budget = image.budget();
             write!(
                 hint,
-                "from here more than {budget} instructions, the budget, may follow one another \
-                 without a wait or an exit"
+                "from here more instructions may follow one another without a wait or an exit \
+                 than the budget, which is {budget}"
             )
         }
         RefusalCause::NoMemory => Err(AllocError),
@@ -134,7 +137,8 @@ fn push_conflict(hint: &mut String, alloc: Global, image: &Image) -> Result<(), 
             hint.push_str(": ")?;
             push_register(hint, &known, number)?;
             hint.push_str(" after one, and ")?;
-            return push_value(hint, other.get(register));
+            push_value(hint, other.get(register))?;
+            return hint.push_str(" after the other");
         }
     }
     Ok(())

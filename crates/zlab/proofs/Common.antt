@@ -20,4 +20,4 @@ unfoldable pub use Rattle.zlab.specs.Scenario.{block_said, body_named, body_said
 pub use Rattle.zlab.specs.System.{Adds, Runs, System, Turns, Walks, room_of}
 pub use Rattle.zlab.specs.Text.{cause_name, end_line, item_line, refused_line, state_line}
 unfoldable pub use Rattle.zlab.specs.Text.{history_text}
-pub use Rattle.zlab.specs.Words.{FaultOf, HasValue, HasValues, MayAskForHelp, assembling, commands, needed, program}
+pub use Rattle.zlab.specs.Words.{FaultOf, HasItsValues, HasValue, HasValues, MayAskForHelp, assembling, checking, commands, needed, program}

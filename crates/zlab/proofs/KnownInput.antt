@@ -1,13 +1,37 @@
 -- What has been read so far, of a reader that may tell its bytes.
-use Rattle.zlab.proofs.Common.{ℕ, ◌<◌, List, length, Option, None, Some, refl, sym, subst, arith, length-append, Consumes, MOST_INPUT, IsInputOf}
+use Rattle.zlab.proofs.Common.{ℕ, ◌≡◌, ◌+◌, ◌<◌, ◌≤◌, List, [], ◌++◌, length, take, Option, None, Some, refl, sym, ap, ◌∙◌, subst, arith, append-nil, length-append, length-take, Consumes, MOST_INPUT, IsInputOf}
+use Rattle.std.specs.Io.KnownBytes.{IsAtEnd}
+use Rattle.zl_code.proofs.Common.{take_all, take_at}
+use Rattle.zlab.specs.Input.{IsFrontOf}
 use Rattle.zlab.specs.declared.input.Input.TheVariants as input
 
--- where more than the limit was read, the whole is longer still
-pub too_long : (told left : Option (List ℕ)) (taken : List ℕ) → Consumes told left taken → MOST_INPUT < length taken → IsInputOf told input.TooLong
-too_long None left taken consumed more = record { bytes = taken; those_told = tt; holds = more }
-too_long (Some all) None taken consumed more = absurd consumed
-too_long (Some all) (Some rest) taken consumed more = record {
+-- where nothing is left, what was read is the front
+pub front_ended : (most : ℕ) (told left : Option (List ℕ)) (taken : List ℕ) → Consumes told left taken → IsAtEnd left → length taken ≤ most → IsFrontOf most told taken
+front_ended most None left taken consumed end short = record { bytes = taken; those_told = tt; is_front = sym (take_all most taken short) }
+front_ended most (Some all) None taken consumed end short = absurd consumed
+front_ended most (Some all) (Some rest) taken consumed end short =
+    let same : all ≡ taken = consumed ∙ ap (λ (r : List ℕ). taken ++ r) end ∙ append-nil taken in
+    record { bytes = all; those_told = refl; is_front = sym (ap (take most) same ∙ take_all most taken short) }
+
+-- where as much was read, it is the front
+pub front_full : (most : ℕ) (told left : Option (List ℕ)) (taken : List ℕ) → Consumes told left taken → length taken ≡ most → IsFrontOf most told taken
+front_full most None left taken consumed full = record { bytes = taken; those_told = tt; is_front = sym (take_all most taken (omega (arith, full))) }
+front_full most (Some all) None taken consumed full = absurd consumed
+front_full most (Some all) (Some rest) taken consumed full = record {
   bytes = all;
   those_told = refl;
-  holds = subst (λ (x : List ℕ). MOST_INPUT < length x) (sym consumed) (omega (arith, length-append taken rest));
+  is_front = sym (ap (take most) consumed ∙ take_at taken rest most full);
 }
+
+
+-- of a front that has more, the whole is longer still
+pub too_long : (told : Option (List ℕ)) (front : List ℕ) → IsFrontOf (MOST_INPUT + 1) told front → MOST_INPUT < length front → IsInputOf told input.TooLong
+too_long told front is more = record {
+  bytes = is.bytes;
+  those_told = is.those_told;
+  holds = omega (arith, more, ap length is.is_front, length-take (MOST_INPUT + 1) is.bytes);
+}
+
+-- a front that has no more is all of it
+pub all_read : (told : Option (List ℕ)) (front : List ℕ) (is : IsFrontOf (MOST_INPUT + 1) told front) → length front ≤ MOST_INPUT → front ≡ is.bytes
+all_read told front is short = is.is_front ∙ take_all (MOST_INPUT + 1) is.bytes (omega (arith, short, ap length is.is_front, length-take (MOST_INPUT + 1) is.bytes))

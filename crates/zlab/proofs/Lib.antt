@@ -22,3 +22,4 @@ pub mod WholeBlocks
 pub mod WalkKeeps
 pub mod CommandLine
 pub mod RowsWords
+pub mod ImageFindings

@@ -30,7 +30,19 @@ three_files : fault_of commands (codes "asm" ∷ codes "a" ∷ codes "b" ∷ cod
 unfolding clap_on_literals
 three_files = refl
 
-not_built : fault_of commands (codes "check" ∷ codes "a" ∷ []) ≡ kind.UnknownArgument ∷ kind.InvalidSubcommand ∷ []
+an_image : option_map (λ found. (found.0, first_of (codes "IMAGE") found.1)) (subcommand_of commands (codes "check" ∷ codes "a" ∷ [])) ≡ Some (codes "check", Some (codes "a"))
+unfolding clap_on_literals
+an_image = refl
+
+no_image : fault_of commands (codes "check" ∷ []) ≡ kind.MissingRequiredArgument ∷ []
+unfolding clap_on_literals
+no_image = refl
+
+two_images : fault_of commands (codes "check" ∷ codes "a" ∷ codes "b" ∷ []) ≡ kind.UnknownArgument ∷ []
+unfolding clap_on_literals
+two_images = refl
+
+not_built : fault_of commands (codes "step" ∷ codes "a" ∷ []) ≡ kind.UnknownArgument ∷ kind.InvalidSubcommand ∷ []
 unfolding clap_on_literals
 not_built = refl
 

@@ -9,3 +9,4 @@ pub mod Scenario
 pub mod Reading
 pub mod Words
 pub mod Assembling
+pub mod Checking

@@ -4,7 +4,7 @@ use Rattle.clap.specs.Words.{App, IsAmong, Kinds, Row, Rule, Text, first_of, new
 use Rattle.clap.specs.declared.error.kind.ErrorKind.{ErrorKind}
 use Rattle.clap.specs.declared.error.kind.ErrorKind.TheVariants.{DisplayHelp, DisplayVersion, OutOfMemory}
 use Rattle.zlab.specs.declared.words.Task.{Task}
-use Rattle.zlab.specs.declared.words.Task.TheVariants.{Assemble, Input}
+use Rattle.zlab.specs.declared.words.Task.TheVariants.{Assemble, Check, Input}
 use Rattle.zlab.specs.declared.words.WordFault.{WordFault}
 use Rattle.zlab.specs.declared.words.WordFault.TheVariants.{Usage, NoMemory}
 
@@ -27,19 +27,28 @@ program = record {
 abbrev pub assembling : App
 assembling = command_of (codes "asm") (codes "IN" ∷ codes "OUT" ∷ [])
 
+-- check IMAGE
+abbrev pub checking : App
+checking = command_of (codes "check") (codes "IMAGE" ∷ [])
+
 -- the command set: no words, or those of one of the commands
 abbrev pub commands : App
-commands = with_subcommand program assembling.top
+commands = with_subcommand (with_subcommand program assembling.top) checking.top
 
 -- clap finds a value of this name
 abbrev pub HasValue : List Row → Text → Type 0
 HasValue rows name = IsSome (first_of name rows)
 
+-- the command of this name has its values
+abbrev pub HasItsValues : Text → List Row → Type 0
+HasItsValues name rows =
+    ((name ≡ codes "asm") × HasValue rows (codes "IN") × HasValue rows (codes "OUT"))
+    ⊎ ((name ≡ codes "check") × HasValue rows (codes "IMAGE"))
+
 -- clap finds no subcommand, or one of the command set with its values
 abbrev pub HasValues : Option (Text × List Row) → Type 0
 HasValues None = Unit {0}
-HasValues (Some found) =
-    (found.0 ≡ codes "asm") × HasValue found.1 (codes "IN") × HasValue found.1 (codes "OUT")
+HasValues (Some found) = HasItsValues found.0 found.1
 
 -- the subcommand that clap finds, with its values, asks for the task
 abbrev pub AsksFor : Option (Text × List Row) → Task → Type 0
@@ -47,6 +56,8 @@ AsksFor None Input = Unit {0}
 AsksFor (Some found) (Assemble text image) = (found.0 ≡ codes "asm")
     × (first_of (codes "IN") found.1 ≡ Some text.now)
     × (first_of (codes "OUT") found.1 ≡ Some image.now)
+AsksFor (Some found) (Check image) = (found.0 ≡ codes "check")
+    × (first_of (codes "IMAGE") found.1 ≡ Some image.now)
 AsksFor _ _ = ⊥
 
 -- what an error of clap is to the program

@@ -8,8 +8,10 @@
 
 mod command;
 mod failing;
+mod refusal;
 mod scenario;
 
 pub use command::explain_words;
 pub use failing::{explain_failure, explain_trace};
+pub use refusal::explain_refusal;
 pub use scenario::explain_scenario;

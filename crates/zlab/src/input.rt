@@ -1,6 +1,6 @@
 //! Reading: the whole input, up to a limit.
 ghost use Rattle.std.specs.Prelude.{◌≢◌, IfOk, IfErr};
-ghost use Rattle.zlab.specs.Input.{IsInputOf, TakesNoMore};
+ghost use Rattle.zlab.specs.Input.{IsFrontOf, IsInputOf, TakesAtMost, TakesNoMore};
 
 use crate::fault::EngineFault;
 use std::alloc::Global;
@@ -27,20 +27,39 @@ pub fn read_input<R: Read>(alloc: Global, reader: &mut R) -> Result<Input, Engin
     ensures err { IfErr result (λ fault. fault ≢ EngineFault.Write) }
     ensures taken { TakesNoMore (R.remaining reader.old) (R.remaining reader.new) }
 {
+    let text = read_front(alloc, reader, MOST_INPUT + 1)?;
+    if text.len() <= MOST_INPUT {
+        Ok(Input::Text(text))
+    } else {
+        Ok(Input::TooLong)
+    }
+}
+
+/// Reads so many bytes, or all that the reader has where they are fewer. Every fault of the reader
+/// ends it with `Read`, an interruption too; `NoMemory` comes where memory is refused.
+pub fn read_front<R: Read>(
+    alloc: Global,
+    reader: &mut R,
+    most: usize,
+) -> Result<Vec<u8>, EngineFault>
+    ensures ok { IfOk result (λ front. IsFrontOf most (R.remaining reader.old) front.items) }
+    ensures err { IfErr result (λ fault. fault ≢ EngineFault.Write) }
+    ensures taken { TakesAtMost most (R.remaining reader.old) (R.remaining reader.new) }
+{
     let mut text = Vec::new(alloc);
     let mut block = [0u8; BLOCK];
-    while text.len() <= MOST_INPUT {
-        let room = BLOCK.min(MOST_INPUT + 1 - text.len());
+    while text.len() < most {
+        let room = BLOCK.min(most - text.len());
         let count = match reader.read(&mut block[..room]) {
             Ok(count) => count,
             Err(_) => return Err(EngineFault::Read),
         };
         if count == 0 {
-            return Ok(Input::Text(text));
+            return Ok(text);
         }
         if text.extend_from_slice(&block[..count]).is_err() {
             return Err(EngineFault::NoMemory);
         }
     }
-    Ok(Input::TooLong)
+    Ok(text)
 }

@@ -1,13 +1,15 @@
-//! The program: its command line, the trace of standard input, the assembler over files, what standard
-//! error says, and its exit status.
+//! The program: its command line, the trace of standard input, the assembler and the verifier over
+//! files, what standard error says, and its exit status.
 //!
 //! It stands on `zl_calls` for the world, on `zl_asm` for the assembler and for what is told of texts,
-//! images and stuck processes, on `zl_code` and `zl_rights` for what these speak of, and on `clap`,
-//! `itoa` and `thiserror`. It promises, by the contracts of `step_engine`, `asm_engine` and `words`,
-//! that what is written is the answer to what was read.
+//! images and stuck processes, on `zl_verify` and `zl_abs` for the verifier, on `zl_code` and
+//! `zl_rights` for what these speak of, and on `clap`, `itoa` and `thiserror`. It promises, by the
+//! contracts of `step_engine`, `asm_engine`, `check_engine` and `words`, that what is written is the
+//! answer to what was read.
 #![tactic(auto)]
 
 mod assembling;
+mod checking;
 mod engine;
 mod fault;
 mod hints;
@@ -20,6 +22,7 @@ mod told;
 mod words;
 
 use assembling::asm_engine;
+use checking::check_engine;
 use engine::step_engine;
 use fault::{EngineFault, Verdict};
 use hints::{explain_failure, explain_words};
@@ -91,6 +94,7 @@ fn run<R: AllocGlobal + Env + Files + Input + Print>(
     match words::words(rt.alloc(), words) {
         Ok(Task::Input) => Ok(step(rt, hints)?),
         Ok(Task::Assemble { text, image }) => Ok(assemble(rt, hints, text, image)?),
+        Ok(Task::Check { image }) => Ok(check(rt, hints, image)?),
         Err(fault) => {
             if fault == WordFault::Usage {
                 explain_words(hints, rt.alloc(), words);
@@ -154,6 +158,30 @@ fn assemble<R: AllocGlobal + Files + Print>(
         (Err(EngineFault::Read), _) => explain_failure(hints, text, source.reason()),
         (Err(EngineFault::Write), None) => explain_failure(hints, image, target.reason()),
         (Err(EngineFault::Write), reason) => explain_failure(hints, "standard output", reason),
+        _ => {}
+    }
+    ended
+}
+
+/// Answers the image in the file on standard output.
+fn check<R: AllocGlobal + Files + Print>(
+    rt: &R,
+    hints: &mut String,
+    image: &str,
+) -> Result<Verdict, EngineFault> {
+    let file = match fs::open(rt, image) {
+        Ok(file) => file,
+        Err(reason) => {
+            explain_failure(hints, image, Some(reason));
+            return Err(EngineFault::Read);
+        }
+    };
+    let mut reader = Told::new(file);
+    let mut writer = Told::new(io::writer(rt));
+    let ended = check_engine(rt.alloc(), &mut reader, &mut writer, hints);
+    match &ended {
+        Err(EngineFault::Read) => explain_failure(hints, image, reader.reason()),
+        Err(EngineFault::Write) => explain_failure(hints, "standard output", writer.reason()),
         _ => {}
     }
     ended

@@ -2,7 +2,7 @@
 ghost use Rattle.std.specs.Prelude.{◌≡◌, ◌≢◌, Some, IsSome, IfOk, IfErr, map, false, [], ◌∷◌};
 ghost use Rattle.clap.specs.Takes.{takes};
 ghost use Rattle.clap.specs.Words.{app_of, fault_of, first_of, found_of, kind_of, rows_of, rule_of, subcommand_of, subcommand_rows_of};
-ghost use Rattle.zlab.specs.Words.{AsksFor, FaultOf, HasValue, HasValues, MayAskForHelp, assembling, commands, needed};
+ghost use Rattle.zlab.specs.Words.{AsksFor, FaultOf, HasItsValues, HasValue, HasValues, MayAskForHelp, assembling, checking, commands, needed};
 ghost use Rattle.zlab.specs.declared.words.WordFault.TheVariants.{NoMemory, Usage};
 
 mod texts;
@@ -25,14 +25,19 @@ pub enum Task<'a> {
         /// The path of the image.
         image: &'a str,
     },
+    /// `check IMAGE`: the verifier accepts an image or refuses it.
+    Check {
+        /// The path of the image.
+        image: &'a str,
+    },
 }
 
 /// Why a command line asks for no task.
 #[derive(Clone, Copy, PartialEq, Eq, Debug, Error)]
 pub enum WordFault {
     /// The words are in none of the forms.
-    #[error("the forms are `zlab < INPUT` and `zlab asm IN OUT`; not built \
-             yet: `zlab step SCENARIO SCHEDULE`, `zlab check IMAGE`, \
+    #[error("the forms are `zlab < INPUT`, `zlab asm IN OUT` and `zlab check IMAGE`; not built \
+             yet: `zlab step SCENARIO SCHEDULE`, \
              `zlab run SCENARIO --workers N --limit M`, `zlab replay SCENARIO TRACE`; \
              `zlab --help` says more")]
     Usage,
@@ -83,10 +88,24 @@ fn task_of<'a>(matches: &ArgMatches<'a>) -> Task<'a>
 {
     match matches.subcommand() {
         None => Task::Input,
-        Some((_, values)) => Task::Assemble {
+        Some((name, values)) => task_of_command(name, values),
+    }
+}
+
+/// The task that a command of the set with its values stands for.
+fn task_of_command<'a>(name: &str, values: &ArgMatches<'a>) -> Task<'a>
+    requires { HasItsValues name.now (rows_of (found_of values.now)) }
+    ensures { AsksFor (Some (name.now, rows_of (found_of values.now))) result }
+{
+    if name == "asm" {
+        Task::Assemble {
             text: value(values, "IN"),
             image: value(values, "OUT"),
-        },
+        }
+    } else {
+        Task::Check {
+            image: value(values, "IMAGE"),
+        }
     }
 }
 
@@ -108,7 +127,8 @@ fn command<'a>(alloc: Global) -> Result<Command<'a>, AllocError>
         .version("0.1.0")
         .about(texts::ABOUT)
         .after_help(texts::FORMS)
-        .subcommand(assembling(alloc)?)
+        .subcommand(assembling(alloc)?)?
+        .subcommand(checking(alloc)?)
 }
 
 fn assembling<'a>(alloc: Global) -> Result<Command<'a>, AllocError>
@@ -118,6 +138,14 @@ fn assembling<'a>(alloc: Global) -> Result<Command<'a>, AllocError>
         .about("Assembles the text in the file IN into an image in the file OUT")
         .arg(needed(alloc, "IN", "The file of the assembler's text"))?
         .arg(needed(alloc, "OUT", "The file for the image; it is emptied first"))
+}
+
+fn checking<'a>(alloc: Global) -> Result<Command<'a>, AllocError>
+    ensures { IfOk result (λ made. app_of made ≡ checking) }
+{
+    Command::new(alloc, "check")
+        .about("Says whether the verifier accepts the image in the file IMAGE")
+        .arg(needed(alloc, "IMAGE", "The file of the image"))
 }
 
 /// A word that must be there.

@@ -5,10 +5,35 @@ use std::convert::AsStr;
 use zl_asm::hints::{Word, push_nearest};
 
 /// The commands that come later.
-const LATER: [&str; 4] = ["step", "check", "run", "replay"];
+const LATER: [&str; 3] = ["step", "run", "replay"];
 
 /// The commands that there are, and those that come later.
-const COMMANDS: [&str; 6] = ["asm", "help", "step", "check", "run", "replay"];
+const COMMANDS: [&str; 6] = ["asm", "check", "help", "step", "run", "replay"];
+
+/// A command whose words are files.
+#[derive(Clone, Copy)]
+struct Form {
+    command: &'static str,
+    /// Which files it takes.
+    files: &'static str,
+    count: usize,
+    /// What one word more is.
+    next: &'static str,
+}
+
+const ASM: Form = Form {
+    command: "asm",
+    files: "two files, IN and OUT",
+    count: 2,
+    next: "third",
+};
+
+const CHECK: Form = Form {
+    command: "check",
+    files: "one file, IMAGE",
+    count: 1,
+    next: "second",
+};
 
 const OPTIONS: [&str; 4] = ["--help", "--version", "-h", "-V"];
 
@@ -25,13 +50,16 @@ fn push_words<S: AsStr>(hint: &mut String, alloc: Global, words: &[S]) -> Result
     };
     let word = first.as_str();
     if word == "asm" {
-        return push_asm(hint, rest);
+        return push_files(hint, ASM, rest);
+    }
+    if word == "check" {
+        return push_files(hint, CHECK, rest);
     }
     if LATER.contains(&word) {
         return write!(hint, "{word} isn't built yet");
     }
     if word == "help" {
-        return hint.push_str("help knows the word asm alone");
+        return hint.push_str("help knows the words asm and check alone");
     }
     if word.starts_with('-') {
         return push_option(hint, alloc, word.as_bytes());
@@ -61,8 +89,14 @@ fn push_command(
     Ok(())
 }
 
-/// Adds what is wrong with the words behind `asm`: those behind a word `--` are files.
-fn push_asm<S: AsStr>(hint: &mut String, words: &[S]) -> Result<(), AllocError> {
+/// Adds what is wrong with the words behind the command: those behind a word `--` are files.
+fn push_files<S: AsStr>(hint: &mut String, form: Form, words: &[S]) -> Result<(), AllocError> {
+    let Form {
+        command,
+        files,
+        next,
+        ..
+    } = form;
     let mut are_files = false;
     let mut count = 0usize;
     for word in words {
@@ -72,19 +106,15 @@ fn push_asm<S: AsStr>(hint: &mut String, words: &[S]) -> Result<(), AllocError> 
             continue;
         }
         if word.len() > 1 && word.starts_with('-') && !are_files {
-            return write!(hint, "asm has no option {}", Word(word.as_bytes()));
+            let option = Word(word.as_bytes());
+            return write!(hint, "{command} has no option {option}");
         }
         count = count.saturating_add(1);
-        if count == 3 {
-            let third = Word(word.as_bytes());
-            return write!(
-                hint,
-                "asm takes two files, IN and OUT, and {third} is a third word"
-            );
+        if count > form.count {
+            let more = Word(word.as_bytes());
+            return write!(hint, "{command} takes {files}, and {more} is a {next} word");
         }
     }
-    match count {
-        0 => hint.push_str("asm takes two files, IN and OUT, and has none"),
-        _ => hint.push_str("asm takes two files, IN and OUT, and has one"),
-    }
+    let found = if count == 0 { "none" } else { "one" };
+    write!(hint, "{command} takes {files}, and has {found}")
 }

@@ -16,14 +16,15 @@ The forms of a command line:
       Assembles the text in the file IN, and writes the image to the file OUT, or
       `refused LINE CAUSE`. OUT is emptied before IN is read, so let it be another file.
       Example: zlab asm ping.zasm ping.zli
+  zlab check IMAGE
+      Writes what the verifier says of the image in the file IMAGE: `accepted`,
+      `refused AT CAUSE` with the number of an instruction, or `undecodable FAULT`.
+      Example: zlab check ping.zli
 
 Not built yet (a wrong command line for now):
   zlab step SCENARIO SCHEDULE
       Does what zlab does without words, with the scenario and the schedule in two files.
       Example: zlab step pair.zls turns.txt
-  zlab check IMAGE
-      Says whether the verifier accepts the image of a program.
-      Example: zlab check ping.zli
   zlab run SCENARIO --workers N --limit M
       Runs the scenario on N threads, for at most M items of trace.
       Example: zlab run pair.zls --workers 4 --limit 1000
@@ -32,8 +33,8 @@ Not built yet (a wrong command line for now):
       Example: zlab replay pair.zls pair.trace
 
 Exit status:
-  0  the trace, the image or the help is written
-  1  the input is refused, and its first faulty line named
+  0  the trace, the image or the help is written, or the image is accepted
+  1  the input is refused, and its first faulty line or instruction named
   2  the words are in none of the forms
   3  reading or writing failed
   4  memory was refused

@@ -1,17 +1,12 @@
-use Rattle.zlab.proofs.Common.{◌++◌, take, arith, length-append, length-take}
-use Rattle.std.proofs.KnownBytes.{Consumes-trans}
-use Rattle.zlab.proofs.KnownInput.{too_long}
+use Rattle.zlab.proofs.Common.{arith}
+use Rattle.zlab.proofs.KnownInput.{too_long, all_read}
 use Rattle.zlab.proofs.input.read_input.Goals as goal
 
-pub returns-then-is_err-clause-taken : goal.returns-then-is_err-clause-taken
-returns-then-is_err-clause-taken g c =
-    let front = c.loop-block.text.items in
-    let more = take c.in-Ok.count c.read.new.buf in
-    record {
-      taken = front ++ more;
-      consumed = Consumes-trans _ _ _ _ _ c.loop-block.invariant.consumed c.in-Ok.ensures.bytes.0;
-      at_most = omega (arith, length-append front more, c.in-Ok.ensures.bound, length-take c.min-room.result c.loop-block.block);
-    }
+pub returns-then-len-le-MOST_INPUT-clause-ok : goal.returns-then-len-le-MOST_INPUT-clause-ok
+returns-then-len-le-MOST_INPUT-clause-ok g c =
+    let front = c.in_ok-text.ensures.ok in
+    let is = all_read _ _ front (omega arith) in
+    record { bytes = front.bytes; those_told = front.those_told; holds = (is, rw (← is) (omega arith)) }
 
-pub returns-clause-ok : goal.returns-clause-ok
-returns-clause-ok g c = too_long _ _ _ c.loop-block.invariant.consumed (omega arith)
+pub returns-else-len-le-MOST_INPUT-clause-ok : goal.returns-else-len-le-MOST_INPUT-clause-ok
+returns-else-len-le-MOST_INPUT-clause-ok g c = too_long _ _ c.in_ok-text.ensures.ok (omega arith)

@@ -1,4 +1,4 @@
-use Rattle.zlab.proofs.Common.{ap, ◌≡◌, ◌∙◌, true, ap₂, app_of, with_subcommand, app_of_fields, on_top, assembling, program}
+use Rattle.zlab.proofs.Common.{ap, ◌≡◌, ◌∙◌, true, ap₂, app_of, with_subcommand, app_of_fields, on_top, assembling, checking, program}
 use Rattle.std.proofs.lemmas.Result.{IfOk-weaker}
 use Rattle.clap.proofs.SimpleLemmas.{plain_fields}
 use Rattle.zlab.proofs.words.command.Goals as goal
@@ -12,4 +12,7 @@ returns c =
     let told : app_of c.after_help.result ≡ app_of c.version.result = ap app_of_fields c.after_help.ensures ∙ ap app_of_fields c.about.ensures in
     let program_is : app_of c.after_help.result ≡ program = told ∙ (versioned ∙ ap (on_top (λ s. record s { has_version = true })) (called ∙ (unnamed ∙ ap (on_top (λ s. record s { no_binary_name = true })) c.new.ensures.app))) in
     let local = (plain_fields c.in_ok-assembling.field-0 (ap (λ a. a.top.is_plain) assembling_is)).globals in
-    IfOk-weaker c.subcommand.result _ _ (λ made added. added.shape local ∙ ap₂ with_subcommand program_is (ap (λ a. a.top) assembling_is)) c.subcommand.ensures
+    let first : app_of c.in_ok-subcommand.field-0 ≡ with_subcommand program assembling.top = c.in_ok-subcommand.ensures.shape local ∙ ap₂ with_subcommand program_is (ap (λ a. a.top) assembling_is) in
+    let checking_is : app_of c.in_ok-checking.field-0 ≡ checking = c.in_ok-checking.ensures in
+    let local_too = (plain_fields c.in_ok-checking.field-0 (ap (λ a. a.top.is_plain) checking_is)).globals in
+    IfOk-weaker c.subcommand-2.result _ _ (λ made added. added.shape local_too ∙ ap₂ with_subcommand first (ap (λ a. a.top) checking_is)) c.subcommand-2.ensures

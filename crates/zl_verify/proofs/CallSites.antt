@@ -9,7 +9,7 @@ use Rattle.zl_code.specs.Image.{Image}
 use Rattle.zl_code.specs.Instructions.{Row, row_of}
 use Rattle.zl_code.specs.Spells.{Last, Numbers, Room, Places, Parts, call_parts}
 use Rattle.zl_code.specs.Local.{reg, is_in_memory}
-use Rattle.zl_code.specs.Asked.{has_its_memory, asked_by, asked_of}
+use Rattle.zl_code.specs.Asked.{Asked, has_its_memory, asked_by, asked_of}
 use Rattle.zl_code.specs.CallTable.{Request, request_of}
 use Rattle.zl_code.specs.Request.{name_of, site_by, site_of}
 use Rattle.zl_abs.specs.declared.value.AbsVal.{AbsVal}
@@ -92,10 +92,14 @@ pub asks_for : (x : CallInstr) (c : Cpu) (r : Row) → row_of (call_parts x).opc
 unfolding asked_of
 asks_for x c r is there = rw (is, there) refl
 
+-- what is asked for, as a request
+abbrev requested : CallInstr → Asked → Option Request
+requested x a = request_of (name_of x) a.operands a.number a.bytes a.handles
+
 pub no_request : (x : CallInstr) (c : Cpu) (r : Row) → row_of (call_parts x).opcode ≡ Some r → has_its_memory (call_parts x).last (call_parts x).registers c ≡ true → site_of x c ≡ None
-    → request_of (name_of x) (asked_by r (call_parts x) c).operands (asked_by r (call_parts x) c).number ≡ None
+    → requested x (asked_by r (call_parts x) c) ≡ None
 unfolding site_of
-no_request x c r is there none = by (request_of (name_of x) (asked_by r (call_parts x) c).operands (asked_by r (call_parts x) c).number) (rw (is, there) at none)
+no_request x c r is there none = by (requested x (asked_by r (call_parts x) c)) (rw (is, there) at none)
   where
     by : (o : Option Request) → site_by (asked_by r (call_parts x) c) true o ≡ None → o ≡ None
     by None e = refl

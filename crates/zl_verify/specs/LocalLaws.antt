@@ -17,7 +17,7 @@ pub record IsUnbuilt (i : Image) (c : Cpu) : Type 0 where
   pub stands : call_at i c.counter ≡ Some call
   pub asked : Asked
   pub there : asked_of call c ≡ Some asked
-  pub none : request_of (name_of call) asked.operands asked.number ≡ None
+  pub none : request_of (name_of call) asked.operands asked.number asked.bytes asked.handles ≡ None
 
 -- With the Cpu c the process p of w, which is q, stands at the end of a followed edge, and conforms.
 pub record GoesOn (i : Image) (t : ℕ → Option State) (w : World) (p : ℕ) (q : Process) (c : Cpu) : Type 0 where

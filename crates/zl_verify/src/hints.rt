@@ -27,7 +27,9 @@ pub fn push_refusal(
         RefusalCause::Rule(cause) => {
             hint.push_str(reason_of(cause))?;
             match cause {
-                Cause::BadJump | Cause::FallsOff | Cause::UndeclaredNeed | Cause::IllegalOp => Ok(()),
+                Cause::BadJump | Cause::FallsOff | Cause::UndeclaredNeed | Cause::IllegalOp => Ok(
+                    (),
+                ),
                 _ => push_before(hint, alloc, image, at),
             }
         }

@@ -23,7 +23,6 @@ front_full most (Some all) (Some rest) taken consumed full = record {
   is_front = sym (ap (take most) consumed ∙ take_at taken rest most full);
 }
 
-
 -- of a front that has more, the whole is longer still
 pub too_long : (told : Option (List ℕ)) (front : List ℕ) → IsFrontOf (MOST_INPUT + 1) told front → MOST_INPUT < length front → IsInputOf told input.TooLong
 too_long told front is more = record {

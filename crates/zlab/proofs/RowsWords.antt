@@ -7,6 +7,9 @@ use Rattle.clap.proofs.OnLiterals.{clap_on_literals}
 abbrev files : List Text → Option (Text × Option Text × Option Text)
 files words = option_map (λ found. (found.0, first_of (codes "IN") found.1, first_of (codes "OUT") found.1)) (subcommand_of commands words)
 
+abbrev image : List Text → Option (Text × Option Text)
+image words = option_map (λ found. (found.0, first_of (codes "IMAGE") found.1)) (subcommand_of commands words)
+
 clap_defines_them : is_simple_and_free commands ≡ true
 clap_defines_them = refl
 
@@ -30,7 +33,7 @@ three_files : fault_of commands (codes "asm" ∷ codes "a" ∷ codes "b" ∷ cod
 unfolding clap_on_literals
 three_files = refl
 
-an_image : option_map (λ found. (found.0, first_of (codes "IMAGE") found.1)) (subcommand_of commands (codes "check" ∷ codes "a" ∷ [])) ≡ Some (codes "check", Some (codes "a"))
+an_image : image (codes "check" ∷ codes "a" ∷ []) ≡ Some (codes "check", Some (codes "a"))
 unfolding clap_on_literals
 an_image = refl
 

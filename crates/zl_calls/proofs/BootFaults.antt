@@ -30,6 +30,7 @@ job_seen ps r k = rw (get_seen r.objects k) (by_object (get r.objects k))
         by_body body.RootJob = refl
         by_body (body.Process job lives) = refl
         by_body body.Event = refl
+        by_body (body.Port port) = refl
         by_body (body.ChannelEnd peer queue) = refl
 
 -- ---- handles
@@ -65,6 +66,7 @@ module _ (objects : Map Object) where
       kind_is body.RootJob = refl
       kind_is (body.Process job lives) = refl
       kind_is body.Event = refl
+      kind_is (body.Port port) = refl
       kind_is (body.ChannelEnd peer queue) = refl
 
       by_object : (o : Option Object) → if_default (handle_given g (body_in (option_map object_value o))) ≡ with_kind g (option_map (λ (x : Object). kind_in x.body) o)

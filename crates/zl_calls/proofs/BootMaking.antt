@@ -104,6 +104,7 @@ module _ (ps : List Process) (p : Process) (r : Objects) (making : IsMaking ps p
   still_in_job (body.Process j false) h = refl
   still_in_job (body.Process j true) h = job_grown j h
   still_in_job body.Event h = refl
+  still_in_job (body.Port port) h = refl
   still_in_job (body.ChannelEnd peer queue) h = refl
 
   -- ---- counts

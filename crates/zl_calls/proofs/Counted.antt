@@ -25,6 +25,7 @@ pub queue_seen : (b : Body) → queue_value (body_value b) ≡ queue_of b
 queue_seen body.RootJob = refl
 queue_seen (body.Process job alive) = refl
 queue_seen body.Event = refl
+queue_seen (body.Port port) = refl
 queue_seen (body.ChannelEnd peer queue) = refl
 
 module _ (ps : List Process) (m : Map Entry) (r : Objects) (sound : IsSound ps m r) (k : ℕ) where

@@ -44,6 +44,7 @@ settable_named os e named = rw (get_seen os e.koid, named.there, named.kind) (by
     by_body body.RootJob = refl
     by_body (body.Process job lives) = refl
     by_body body.Event = refl
+    by_body (body.Port port) = refl
     by_body (body.ChannelEnd peer queue) = refl
 
 module _ (lib : Library) (w : World) (free : NoPolicy w) (p : ℕ) where

@@ -31,6 +31,7 @@ none_queued : (j : ℕ) (b : Body) → queue_of b ≡ [] → ◌≡◌ {A = ℕ}
 none_queued j body.RootJob empty = refl
 none_queued j (body.Process job lives) empty = refl
 none_queued j body.Event empty = refl
+none_queued j (body.Port port) empty = refl
 none_queued j (body.ChannelEnd peer queue) empty = rw empty refl
 
 -- the invariant, where the handles m count and are to enter a table
@@ -168,6 +169,7 @@ module _ (ps : List Process) (m : Map Entry) (r : Objects) (growing : IsGrowing 
           still_in_job (body.Process job false) h = refl
           still_in_job (body.Process job true) h = job_grown job h
           still_in_job body.Event h = refl
+          still_in_job (body.Port port) h = refl
           still_in_job (body.ChannelEnd peer queue) h = refl
 
       pub grown_one : IsGrowing ps (x ∷ m) grown
@@ -183,6 +185,7 @@ module _ (ps : List Process) (m : Map Entry) (r : Objects) (growing : IsGrowing 
           still_alone j body.RootJob = any_behind (λ e. lives_below j e.1.body) r.objects (n, fresh) (childless j)
           still_alone j (body.Process job lives) = refl
           still_alone j body.Event = refl
+          still_alone j (body.Port port) = refl
           still_alone j (body.ChannelEnd peer queue) = refl
 
 -- the handles m have entered the table of a process

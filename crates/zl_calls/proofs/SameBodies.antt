@@ -31,6 +31,7 @@ pub still_agrees : (w w2 : World) (k : ℕ) (b : Body) → ((test : StateValue �
 still_agrees w w2 k body.RootJob same agrees = same runs ∙ agrees
 still_agrees w w2 k (body.Process job alive) same agrees = record { running = agrees.running ∙ sym (same runs); living = agrees.living ∙ sym (same lives) }
 still_agrees w w2 k body.Event same agrees = same runs ∙ agrees
+still_agrees w w2 k (body.Port port) same agrees = same runs ∙ agrees
 still_agrees w w2 k (body.ChannelEnd peer queue) same agrees = same runs ∙ agrees
 
 -- what names objects before, names them after

@@ -54,6 +54,7 @@ module _ (before after : List Process) (p p2 : Process) (write : IsWrite before 
       by_body body.RootJob = refl
       by_body (body.Process job alive) = refl
       by_body body.Event = refl
+      by_body (body.Port port) = refl
       by_body (body.ChannelEnd peer queue) = refl
 
   entries_stopped : map object_entry ended.objects ≡ map object_entry r.objects
@@ -75,6 +76,7 @@ module _ (before after : List Process) (p p2 : Process) (write : IsWrite before 
       by_body body.RootJob = refl
       by_body (body.Process job alive) = refl
       by_body body.Event = refl
+      by_body (body.Port port) = refl
       by_body (body.ChannelEnd peer queue) = refl
 
       by_object : (o : Option Object) → is_job_in (option_map stopped o) ≡ is_job_in o
@@ -101,6 +103,7 @@ module _ (before after : List Process) (p p2 : Process) (write : IsWrite before 
   in_job_stopped body.RootJob h = refl
   in_job_stopped (body.Process job alive) h = rw (job_stopped job) h
   in_job_stopped body.Event h = refl
+  in_job_stopped (body.Port port) h = refl
   in_job_stopped (body.ChannelEnd peer queue) h = refl
 
   module _ (code : ℤ) (over : p2.state ≡ state.Ended code) where
@@ -119,12 +122,14 @@ module _ (before after : List Process) (p p2 : Process) (write : IsWrite before 
     stopped_agrees body.RootJob = not_now runs refl
     stopped_agrees (body.Process job alive) = record { running = sym (not_now runs refl); living = sym (not_now lives refl) }
     stopped_agrees body.Event = not_now runs refl
+    stopped_agrees (body.Port port) = not_now runs refl
     stopped_agrees (body.ChannelEnd peer queue) = not_now runs refl
 
     same_queue : (b : Body) → queue_of (stopped_body b) ≡ queue_of b
     same_queue body.RootJob = refl
     same_queue (body.Process job alive) = refl
     same_queue body.Event = refl
+    same_queue (body.Port port) = refl
     same_queue (body.ChannelEnd peer queue) = refl
 
     pub sound_stopped : IsSound after m ended
@@ -156,6 +161,7 @@ module _ (before after : List Process) (p p2 : Process) (write : IsWrite before 
         of_stopped body.RootJob = refl
         of_stopped (body.Process job alive) = refl
         of_stopped body.Event = refl
+        of_stopped (body.Port port) = refl
         of_stopped (body.ChannelEnd peer queue) = refl
 
 -- ---- the object of a process that has ended
@@ -176,6 +182,7 @@ not_stopped (e ∷ m) k none = elim (cases_Bool (e.0 == k)) as (λ _. update (e 
     by_body o body.RootJob is none = same_body o body.RootJob is refl
     by_body o (body.Process job alive) is none = absurd (none-some job (sym none))
     by_body o body.Event is none = same_body o body.Event is refl
+    by_body o (body.Port port) is none = same_body o (body.Port port) is refl
     by_body o (body.ChannelEnd peer queue) is none = same_body o (body.ChannelEnd peer queue) is refl
 
 -- what the end of the process k lets go: perhaps its object and its job

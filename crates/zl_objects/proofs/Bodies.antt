@@ -43,6 +43,7 @@ module _ (f : Object → Object) (same : (o : Object) → (f o).body ≡ o.body)
   alone_updated m k j body.RootJob = child_updated m k j
   alone_updated m k j (body.Process job lives) = refl
   alone_updated m k j body.Event = refl
+  alone_updated m k j (body.Port port) = refl
   alone_updated m k j (body.ChannelEnd p queue) = refl
 
 -- ---- one object has gone
@@ -88,6 +89,7 @@ module _ (m : Map Object) (sorted : IsTrue (is_sorted nat_cmp m)) (k : ℕ) (o :
           and_no true = refl
           and_no false = refl
       by_body body.Event off = refl
+      by_body (body.Port port) off = refl
       by_body (body.ChannelEnd p queue) off = refl
 
   child_left : (j : ℕ) → has_living_child (without m k) j ≡ has_living_child m j
@@ -98,6 +100,7 @@ module _ (m : Map Object) (sorted : IsTrue (is_sorted nat_cmp m)) (k : ℕ) (o :
   alone_left j body.RootJob = child_left j
   alone_left j (body.Process job alive) = refl
   alone_left j body.Event = refl
+  alone_left j (body.Port port) = refl
   alone_left j (body.ChannelEnd p queue) = refl
 
 -- ---- jobs and bodies
@@ -120,4 +123,5 @@ module _ (f : Object → Object) (same : (o : Object) → (f o).body ≡ o.body)
   in_job_updated m k body.RootJob = refl
   in_job_updated m k (body.Process job lives) = rw (job_updated m k job) refl
   in_job_updated m k body.Event = refl
+  in_job_updated m k (body.Port port) = refl
   in_job_updated m k (body.ChannelEnd p queue) = refl

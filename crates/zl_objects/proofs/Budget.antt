@@ -219,4 +219,5 @@ pub no_queue : (b : Body) → ((peer : ℕ) (queue : List Message) → b ≡ bod
 no_queue body.RootJob none = refl
 no_queue (body.Process job lives) none = refl
 no_queue body.Event none = refl
+no_queue (body.Port port) none = refl
 no_queue (body.ChannelEnd peer queue) none = absurd (none peer queue refl)

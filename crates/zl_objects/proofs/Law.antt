@@ -107,6 +107,7 @@ queue_moved : (k : ℕ) (b : Body) → queued_to k (body_value b) ≡ count_by (
 queue_moved k body.RootJob = refl
 queue_moved k (body.Process job lives_on) = refl
 queue_moved k body.Event = refl
+queue_moved k (body.Port port) = refl
 queue_moved k (body.ChannelEnd peer queue) = one_queue k queue
 
 -- ---- the law, after each change
@@ -176,6 +177,7 @@ module _ (w : World) (ks : List ℕ) (m : Map Object) (exact : IsExact w ks m) w
         by_body body.RootJob off h = false≢true (sym off ∙ child)
         by_body (body.Process j2 alive) off h = false≢true h
         by_body body.Event off h = false≢true h
+        by_body (body.Port port) off h = false≢true h
         by_body (body.ChannelEnd p queue) off h = false≢true h
 
     job_left : (j : ℕ) (q : Object) (b : Body) → q.body ≡ b → get m j ≡ Some q → IsTrue (is_in_job m b) → IsTrue (is_in_job (without m k) b)
@@ -186,6 +188,7 @@ module _ (w : World) (ks : List ℕ) (m : Map Object) (exact : IsExact w ks m) w
       | inr apart ↦ rw (get-without m k job, apart) h
     ]
     job_left j q body.Event is at h = refl
+    job_left j q (body.Port port) is at h = refl
     job_left j q (body.ChannelEnd p queue) is at h = refl
 
     pub left_exact : IsExact w (named_in (queue_of o.body) ++ ks) (without m k)
@@ -235,6 +238,7 @@ module _ (w : World) (ks : List ℕ) (m : Map Object) (exact : IsExact w ks m) w
         by_body body.RootJob off agrees = agrees
         by_body (body.Process job alive) off agrees = sym agrees.running ∙ off
         by_body body.Event off agrees = agrees
+        by_body (body.Port port) off agrees = agrees
         by_body (body.ChannelEnd p queue) off agrees = agrees
 
     no_child : living_child (with_objects w m) (has_key (map object_entry m)) k ≡ false
@@ -258,6 +262,7 @@ module _ (w : World) (ks : List ℕ) (m : Map Object) (exact : IsExact w ks m) w
             let alive_is : alive ≡ true = agrees.living ∙ both.1 in
             no_living j q job at (is ∙ ap (λ (b : Bool). body.Process job b) alive_is) both.0
         by_body j q body.Event is at passes = false≢true passes
+        by_body j q (body.Port port) is at passes = false≢true passes
         by_body j q (body.ChannelEnd p queue) is at passes = false≢true passes
 
         found : IsTrue (living_child (with_objects w m) (has_key (map object_entry m)) k) → ⊥
@@ -329,6 +334,7 @@ module _ (w : World) (m : Map Object) (exact : IsExact w [] m) (kept : (k : ℕ)
           → IsTrue (list_any (λ x. all x.0 && (is_job_below k x.1.body || (is_process_of k x.1.body && is_process w lives x.0))) (map object_entry m))
       by_body j o body.RootJob is at passes = absurd (false≢true (rw is at passes))
       by_body j o body.Event is at passes = absurd (false≢true (rw is at passes))
+      by_body j o (body.Port port) is at passes = absurd (false≢true (rw is at passes))
       by_body j o (body.ChannelEnd p queue) is at passes = absurd (false≢true (rw is at passes))
       by_body j o (body.Process job alive) is at passes =
           let both = and_parts (job == k) alive (rw is at passes) in
@@ -356,6 +362,7 @@ module _ (w : World) (m : Map Object) (exact : IsExact w [] m) (kept : (k : ℕ)
               let agrees : Agrees w k (body.Process job alive) = subst (Agrees w k) is (exact.agrees k o there) in
               or_left _ _ (or_right _ _ (sym agrees.running ∙ stays))
           alone body.Event is stays = absurd (false≢true stays)
+          alone (body.Port port) is stays = absurd (false≢true stays)
           alone (body.ChannelEnd p queue) is stays = absurd (false≢true stays)
 
           by_reason : IsTrue (nat_lt 0 o.handles) ⊎ IsTrue (stays_alone m k o.body) → IsHeldBy k

@@ -1,5 +1,5 @@
 -- What is left of the objects once handles have gone: each as it was, and the invariant holds.
-use Rattle.zl_rights.proofs.Common.{◌≡◌, ◌<◌, ◌≤◌, ℕ, true, false, ◌||◌, ◌==◌, ◌⊎◌, List, [], ◌∷◌, ◌++◌, length, if◌then◌else◌, refl, ap, ◌∙◌, subst, Option, Some, None, inl, inr, IsTrue, arith, is_some, list_any, append-nil, append_assoc, same_Some, or_left, or_right, cases_Bool, false≢true, Map, get, has_key, update, without}
+use Rattle.zl_rights.proofs.Common.{◌≡◌, ◌<◌, ◌≤◌, ◌+◌, ℕ, Bool, true, false, ◌&&◌, nat_lt, nat_tests, sym, ◌||◌, ◌==◌, ◌⊎◌, List, [], ◌∷◌, ◌++◌, length, if◌then◌else◌, refl, ap, ◌∙◌, subst, Option, Some, None, inl, inr, IsTrue, arith, is_some, list_any, append-nil, append_assoc, same_Some, or_left, or_right, cases_Bool, false≢true, Map, get, has_key, update, without}
 use Rattle.std.proofs.lemmas.Bool.{or_cases}
 use Rattle.std.proofs.lemmas.List.Sums.{count_by-le-length}
 use Rattle.zl_table.proofs.MapEdits.{is_sorted-update, length-update}
@@ -9,7 +9,9 @@ use Rattle.zl_objects.specs.declared.object.Object.{Object}
 use Rattle.zl_objects.specs.Objects.{Objects, has_living_child, held_once_less, is_end_at, is_kept, job_in, job_of, lives_below, queue_of, stays_alone, stopped, stopped_body, stopping}
 use Rattle.zl_objects.specs.Release.{named_in, AreKeptBut, Cascades, none_left, let_go, goes, Releases}
 use Rattle.zl_objects.specs.Dying.{HasPeer, IsWhole, LetsGo, budget, is_named}
-use Rattle.zl_objects.proofs.Sums.{length_left}
+use Rattle.zl_objects.specs.Ports.{reserved_in, reserved_of}
+use Rattle.zl_objects.specs.Waits.{has_gone, waits_at, waits_for}
+use Rattle.zl_objects.proofs.Sums.{length_left, sum_left, sum_no_more}
 use Rattle.zl_objects.proofs.Bodies.{Changed, changed, changed_body, found_left}
 
 -- ---- what is left was there before
@@ -46,16 +48,22 @@ cascaded_shorter _ _ _ (none_left m) = omega arith
 cascaded_shorter _ _ _ (let_go k ks m m2 more) = omega (arith, cascaded_shorter ks (update m k held_once_less) m2 more, length-update m k held_once_less)
 cascaded_shorter _ _ _ (goes k gone ks m m2 there unkept more) = omega (arith, cascaded_shorter _ (without m k) m2 more, length_left m k)
 
+cascaded_waits : (ks : List ℕ) (m m2 : Map Object) → Cascades ks m m2 → (j : ℕ) → waits_at m2 j ≤ waits_at m j
+cascaded_waits _ _ _ (none_left m) j = omega arith
+cascaded_waits _ _ _ (let_go k ks m m2 more) j = omega (arith, cascaded_waits ks (update m k held_once_less) m2 more j, sum_no_more (λ (e : ℕ × Object). waits_for j e.1) m k held_once_less (λ o. omega arith))
+cascaded_waits _ _ _ (goes k gone ks m m2 there unkept more) j = omega (arith, cascaded_waits _ (without m k) m2 more j, sum_left (λ (e : ℕ × Object). waits_for j e.1) m k)
+
 -- ---- the invariant
 
-pub starts : (m : Map Object) (next room : ℕ) (d : List ℕ) → IsWhole m next d room → budget m d ≤ room
+pub starts : (m : Map Object) (next room : ℕ) (d : List ℕ) → IsWhole None m next d room → budget m d ≤ room
 unfolding budget
 starts m next room d whole = rw whole.none (omega (arith, whole.enough, count_by-le-length is_named m))
 
-pub whole_left : (ks : List ℕ) (m m2 : Map Object) (next room room2 : ℕ) (d d2 : List ℕ) → Cascades ks m m2 → IsWhole m next d room → d2 ≡ [] → room2 ≡ room → IsWhole m2 next d2 room2
+pub whole_left : (ks : List ℕ) (m m2 : Map Object) (next room room2 : ℕ) (d d2 : List ℕ) → Cascades ks m m2 → IsWhole None m next d room → d2 ≡ [] → room2 ≡ room → IsWhole None m2 next d2 room2
 whole_left ks m m2 next room room2 d d2 cascades whole none same = record {
   below = λ k there. by_object k (get m2 k) refl there;
   peers = λ k o at. peers k o at;
+  places = λ k left. placed k (get m2 k) refl left;
   enough = omega (arith, same, whole.enough, cascaded_shorter ks m m2 cascades);
   none = none;
 }
@@ -78,12 +86,37 @@ whole_left ks m m2 next room room2 d d2 cascades whole none same = record {
     by_body body.RootJob has = has
     by_body (body.Process job lives) has = has
     by_body body.Event has = has
+    by_body (body.Port port) has = has
     by_body (body.ChannelEnd p queue) has = (has.0, λ there. end_left p (get m2 p) refl has.1 there)
 
     peers : (k : ℕ) (o : Object) → get m2 k ≡ Some o → HasPeer m2 next o.body
     peers k o at =
         let old : Was m k o = was k o at in
         rw old.body (by_body old.before.body (whole.peers k old.before old.there))
+
+    and_no : (b : Bool) → (b && false) ≡ false
+    and_no true = refl
+    and_no false = refl
+
+    -- no place was given back, and no wait is more
+    placed : (k : ℕ) (q : Option Object) → get m2 k ≡ q → has_gone m2 next k ≡ false → waits_at m2 k + 0 ≤ reserved_in (get m2 k)
+    placed k (Some o) is left =
+        let old : Was m k o = was k o is in
+        let before : has_gone m next k ≡ false = rw old.there (and_no (nat_lt k next)) in
+        let then_reserved : reserved_in (get m k) ≡ reserved_of old.before.body = ap reserved_in old.there in
+        let now_reserved : reserved_in (get m2 k) ≡ reserved_of old.before.body = ap reserved_in is ∙ ap reserved_of old.body in
+        omega (arith, whole.places k before, cascaded_waits ks m m2 cascades k, then_reserved, now_reserved)
+    placed k None is left = elim (cases_Bool (nat_lt k next)) as (λ _. waits_at m2 k + 0 ≤ reserved_in (get m2 k)) [
+      | inl given ↦ absurd (false≢true (sym left ∙ rw (given, is) refl))
+      | inr later ↦
+          let before : has_gone m next k ≡ false = rw later refl in
+          let none_reserved : ◌≡◌ {A = ℕ} (reserved_in (get m k)) 0 = nothing k (get m k) refl later in
+          omega (arith, whole.places k before, cascaded_waits ks m m2 cascades k, none_reserved)
+    ]
+      where
+        nothing : (k : ℕ) (q : Option Object) → get m k ≡ q → nat_lt k next ≡ false → ◌≡◌ {A = ℕ} (reserved_in q) 0
+        nothing k None is later = refl
+        nothing k (Some q) is later = let low : k < next = whole.below k (rw is refl) in absurd (grind (arith, nat_tests, low, later))
 
 -- ---- all of it
 
@@ -159,6 +192,7 @@ module _ (r : Objects) (pid job : ℕ) (of : job_in (get r.objects pid) ≡ Some
       by_body body.RootJob h = refl
       by_body (body.Process j lives) h = rw (same_Some j job h, apart) refl
       by_body body.Event h = refl
+      by_body (body.Port port) h = refl
       by_body (body.ChannelEnd p queue) h = refl
 
   pub stopped_loose : AreKeptBut [] r.objects → AreKeptBut (job ∷ pid ∷ []) (stopping r pid).objects
@@ -171,6 +205,7 @@ module _ (r : Objects) (pid job : ℕ) (of : job_in (get r.objects pid) ≡ Some
       alone k body.RootJob apart = other_child k apart r.objects of
       alone k (body.Process j lives) apart = refl
       alone k body.Event apart = refl
+      alone k (body.Port port) apart = refl
       alone k (body.ChannelEnd p queue) apart = refl
 
       by_key : (k : ℕ) (o : Object) → Changed stopped r.objects pid k o → is_kept (update r.objects pid stopped) k o ≡ false → IsTrue (job == k) ⊎ ((job == k) ≡ false) → IsTrue (pid == k) ⊎ ((pid == k) ≡ false) → IsTrue (list_any (λ x. x == k) (job ∷ pid ∷ []))

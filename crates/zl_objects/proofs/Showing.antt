@@ -31,6 +31,7 @@ module _ (w : World) (m : Map Object) (shows : ShowStates w m) (k : ℕ) where
       by_body body.RootJob = rw zero_apart refl
       by_body (body.Process job lives_on) = refl
       by_body body.Event = refl
+      by_body (body.Port port) = refl
       by_body (body.ChannelEnd peer queue) = refl
 
       none_of : (n : Map Object) → list_any (λ e. is_job_below k e.1.body) (map object_entry n) ≡ false
@@ -53,6 +54,7 @@ module _ (w : World) (m : Map Object) (shows : ShowStates w m) (k : ℕ) where
           let shown : Shows w j (body.Process job lives_on) = subst (Shows w j) is (shows.shown j o at) in
           ap (λ b. (job == k) && b) (sym shown.living)
       same j o body.Event is at = refl
+      same j o (body.Port port) is at = refl
       same j o (body.ChannelEnd peer queue) is at = refl
 
       there : IsTrue (list_any seen m) → IsTrue (list_any below m)
@@ -72,6 +74,7 @@ module _ (w : World) (m : Map Object) (shows : ShowStates w m) (k : ℕ) where
       let shown : Shows w k (body.Process job lives_on) = subst (Shows w k) is (shows.shown k o at) in
       ap (signal_if 8) shown.over
   implied_shown o body.Event is at = refl
+  implied_shown o (body.Port port) is at = refl
   implied_shown o (body.ChannelEnd peer queue) is at = rw (has_seen m peer) refl
 
   shown_at : (q : Option Object) → get m k ≡ q → signals_in m k q ≡ active (with_objects w m) k

@@ -1,24 +1,29 @@
 -- The invariant of the objects, after each change.
-use Rattle.zl_rights.proofs.Common.{◌≡◌, ◌<◌, ◌≤◌, ◌+◌, ◌^◌, ◌==◌, ◌⊎◌, ℕ, Bool, true, false, List, [], ◌∷◌, ◌++◌, length, refl, sym, ap, ◌∙◌, subst, cond, Option, Some, None, inl, inr, arith, eq-eqb, IsTrue, is_some, nat_lt, if◌then◌else◌, nat_cmp, cases_Bool, false≢true, nat_tests, none-some, same_Some, Map, get, put, update, has_key, length-append, option_map, eqb-true}
-use Rattle.std.specs.Prelude.{◌↔◌, IfNone, IfSome, IsSome, Result, Ok, Err, OnOk, OnErr, is_err}
+use Rattle.zl_rights.proofs.Common.{◌≡◌, ◌<◌, ◌≤◌, ◌+◌, ◌^◌, ◌==◌, ◌⊎◌, ℕ, Bool, true, false, List, [], ◌∷◌, ◌++◌, length, refl, sym, ap, ◌∙◌, subst, cond, Option, Some, None, inl, inr, arith, eq-eqb, IsTrue, is_some, nat_lt, if◌then◌else◌, find, not, ◌&&◌, and_from, and_parts, count_by, nat_cmp, cases_Bool, false≢true, nat_tests, none-some, same_Some, Map, get, put, update, has_key, length-append, option_map, eqb-true}
+use Rattle.std.proofs.lemmas.List.Sums.{sum_by-append}
+use Rattle.std.specs.Prelude.{◌-◌, ◌↔◌, IfNone, IfSome, IsSome, Result, Ok, Err, OnOk, OnErr, is_err}
 use Rattle.std.specs.Cmp.{unsigned_tied}
 use Rattle.std.specs.Map.{lookup, set_value, remove_entry}
 use Rattle.std.specs.BTreeMap.{BTreeMap, is_at, insert_entry, IsUnchanged, IsUpperBound, Updates}
 use Rattle.zl_rights.specs.World.{Message}
 use Rattle.zl_rights.proofs.MapLaws.{get-put, get-update}
 use Rattle.zl_signals.specs.declared.watch.Watch.{Watch}
+use Rattle.zl_signals.specs.Waits.{SignalState, is_at_port}
+use Rattle.zl_port.specs.Packets.{Port, with_place}
 use Rattle.zl_table.proofs.MapEdits.{put_key, has_key-update, length-update}
 use Rattle.zl_objects.specs.declared.object.Body.{Body}
 use Rattle.zl_objects.specs.declared.object.Body.TheVariants as body
 use Rattle.zl_objects.specs.declared.object.Object.{Object}
 use Rattle.zl_objects.specs.Objects.{held_once_more, is_end_at, is_end_in, is_end_body, raised_changed, sent, received, stopped, new_object}
 use Rattle.zl_objects.specs.Dying.{HasPeer, IsWhole}
-use Rattle.zl_objects.specs.Waits.{watched, unwatched}
+use Rattle.zl_objects.specs.Ports.{at_port, changed_port, is_port_at, reserved_in, reserved_of}
+use Rattle.zl_objects.specs.Waits.{HavePlaces, HavePlacesWith, has_gone, waits_at, waits_for, waits_in, watched, unwatched}
+use Rattle.zl_objects.proofs.Places.{places_made, places_put, places_taken, places_unwatched, places_updated, places_used}
 use Rattle.zl_objects.proofs.ByKoid.{inserted, entry_inserted, looked_up, written, written_back}
 
-pub none_whole : (m : Map Object) (next room : ℕ) (d : List ℕ) → m ≡ [] → d ≡ [] → IsWhole m next d room
+pub none_whole : (m : Map Object) (next room : ℕ) (d : List ℕ) → m ≡ [] → d ≡ [] → IsWhole None m next d room
 unfolding get
-none_whole m next room d none empty = rw none record { below = λ k there. cc; peers = λ k o at. absurd (none-some o at); enough = omega arith; none = empty }
+none_whole m next room d none empty = rw none record { below = λ k there. cc; peers = λ k o at. absurd (none-some o at); places = λ k left. omega arith; enough = omega arith; none = empty }
 
 -- ---- one of the objects is written
 
@@ -38,11 +43,14 @@ module _ (f : Object → Object) (ends : (o : Object) → is_end_body (f o).body
   still m k next body.RootJob has = has
   still m k next (body.Process job lives) has = has
   still m k next body.Event has = has
+  still m k next (body.Port port) has = has
 
-  pub updated_whole : (m n : Map Object) (next room k : ℕ) (d : List ℕ) → IsWhole m next d room → n ≡ update m k f → IsWhole n next d room
-  updated_whole m n next room k d whole is = rw is record {
+  -- the places are those that the wait needs
+  pub placed_whole : (x y : Option Watch) (m n : Map Object) (next room k : ℕ) (d : List ℕ) → IsWhole x m next d room → n ≡ update m k f → HavePlacesWith y (update m k f) next → IsWhole y n next d room
+  placed_whole x y m n next room k d whole is places = rw is record {
     below = λ j there. whole.below j (sym (has_key-update m k f j) ∙ there);
     peers = λ j o at. by_object j o (get m j) refl (sym (get-update m k f j) ∙ at);
+    places = places;
     enough = omega (arith, length-update m k f, whole.enough);
     none = whole.none;
   }
@@ -57,6 +65,13 @@ module _ (f : Object → Object) (ends : (o : Object) → is_end_body (f o).body
         | inr apart ↦ subst (λ (x : Object). HasPeer (update m k f) next x.body) (same_Some q o (rw (apart, is) at read)) (still m k next q.body (whole.peers j q is))
       ]
 
+  module _ (quiet : (o : Object) → (f o).signals ≡ o.signals) (same : (o : Object) → reserved_of (f o).body ≡ reserved_of o.body) where
+    fewer : (j : ℕ) (o : Object) → waits_for j (f o) ≤ waits_for j o
+    fewer j o = let is : waits_for j (f o) ≡ waits_for j o = ap (λ (s : SignalState). count_by (is_at_port j) s.waits) (quiet o) in omega (arith, is)
+
+    pub updated_whole : (m n : Map Object) (next room k : ℕ) (d : List ℕ) → IsWhole None m next d room → n ≡ update m k f → IsWhole None n next d room
+    updated_whole m n next room k d whole is = placed_whole None None m n next room k d whole is (places_updated f fewer same None m next k whole.places)
+
 same_ends : (f : Object → Object) → ((o : Object) → (f o).body ≡ o.body) → (o : Object) → is_end_body (f o).body ≡ is_end_body o.body
 same_ends f same o = ap is_end_body (same o)
 
@@ -66,68 +81,137 @@ same_peer f same m next o has = rw (same o) has
 pub more_same : (o : Object) → (held_once_more o).body ≡ o.body
 more_same o = elim (nat_lt o.handles (2 ^ 62)) as (λ b. (if b then record o { handles = o.handles + 1 } else o).body ≡ o.body) [ true ↦ refl | false ↦ refl ]
 
+more_quiet : (o : Object) → (held_once_more o).signals ≡ o.signals
+more_quiet o = elim (nat_lt o.handles (2 ^ 62)) as (λ b. (if b then record o { handles = o.handles + 1 } else o).signals ≡ o.signals) [ true ↦ refl | false ↦ refl ]
+
 -- one handle more
-pub more_whole : (m n : Map Object) (next room k : ℕ) (d : List ℕ) → IsWhole m next d room → n ≡ update m k held_once_more → IsWhole n next d room
-more_whole = updated_whole held_once_more (same_ends held_once_more more_same) (same_peer held_once_more more_same)
+pub more_whole : (m n : Map Object) (next room k : ℕ) (d : List ℕ) → IsWhole None m next d room → n ≡ update m k held_once_more → IsWhole None n next d room
+more_whole = updated_whole held_once_more (same_ends held_once_more more_same) (same_peer held_once_more more_same) more_quiet (λ o. ap reserved_of (more_same o))
 
 -- other signals
-pub changed_whole : (m n : Map Object) (next room k clear set : ℕ) (d : List ℕ) → IsWhole m next d room → n ≡ update m k (raised_changed clear set) → IsWhole n next d room
-changed_whole m n next room k clear set = updated_whole (raised_changed clear set) (λ o. refl) (λ m next o has. has) m n next room k
+pub changed_whole : (m n : Map Object) (next room k clear set : ℕ) (d : List ℕ) → IsWhole None m next d room → n ≡ update m k (raised_changed clear set) → IsWhole None n next d room
+changed_whole m n next room k clear set d whole is = placed_whole f (λ o. refl) (λ m next o has. has) None None m n next room k d whole is (places_updated f (λ j o. omega arith) (λ o. refl) None m next k whole.places)
+  where
+    f : Object → Object
+    f = raised_changed clear set
 
--- one wait more
-pub watched_whole : (m n : Map Object) (next room k : ℕ) (x : Watch) (d : List ℕ) → IsWhole m next d room → n ≡ update m k (watched x) → IsWhole n next d room
-watched_whole m n next room k x = updated_whole (watched x) (λ o. refl) (λ m next o has. has) m n next room k
+same_end : (g : Port → Port) (b : Body) → is_end_body (changed_port g b) ≡ is_end_body b
+same_end g body.RootJob = refl
+same_end g (body.Process job lives) = refl
+same_end g body.Event = refl
+same_end g (body.Port port) = refl
+same_end g (body.ChannelEnd p queue) = refl
 
--- one wait less
-pub unwatched_whole : (test : Watch → Bool) (m n : Map Object) (next room k : ℕ) (d : List ℕ) → IsWhole m next d room → n ≡ update m k (unwatched test) → IsWhole n next d room
-unwatched_whole test = updated_whole (unwatched test) (λ o. refl) (λ m next o has. has)
+same_other : (g : Port → Port) (m : Map Object) (next : ℕ) (b : Body) → HasPeer m next b → HasPeer m next (changed_port g b)
+same_other g m next body.RootJob has = has
+same_other g m next (body.Process job lives) has = has
+same_other g m next body.Event has = has
+same_other g m next (body.Port port) has = has
+same_other g m next (body.ChannelEnd p queue) has = has
+
+at_port_whole : (g : Port → Port) (x y : Option Watch) (m n : Map Object) (next room k : ℕ) (d : List ℕ) → IsWhole x m next d room → n ≡ update m k (at_port g) → HavePlacesWith y (update m k (at_port g)) next → IsWhole y n next d room
+at_port_whole g = placed_whole (at_port g) (λ o. same_end g o.body) (λ m next o. same_other g m next o.body)
+
+-- other packets at a port
+pub port_whole : (g : Port → Port) → ((p : Port) → (g p).reserved ≡ p.reserved) → (m n : Map Object) (next room k : ℕ) (d : List ℕ) → IsWhole None m next d room → n ≡ update m k (at_port g) → IsWhole None n next d room
+port_whole g same m n next room k d whole is = at_port_whole g None None m n next room k d whole is (places_updated (at_port g) (λ j o. omega arith) (λ o. by_body o.body) None m next k whole.places)
+  where
+    by_body : (b : Body) → reserved_of (changed_port g b) ≡ reserved_of b
+    by_body body.RootJob = refl
+    by_body (body.Process job lives) = refl
+    by_body body.Event = refl
+    by_body (body.Port port) = same port
+    by_body (body.ChannelEnd p queue) = refl
+
+-- a place is reserved for the wait
+pub made_whole : (x : Watch) (m n : Map Object) (next room : ℕ) (d : List ℕ) → IsTrue (is_port_at m x.port) → IsWhole None m next d room → n ≡ update m x.port (at_port with_place) → IsWhole (Some x) n next d room
+made_whole x m n next room d port whole is = at_port_whole with_place None (Some x) m n next room x.port d whole is (places_made x m next port whole.places)
+
+-- the wait is registered
+pub watched_whole : (x : Watch) (m n : Map Object) (next room k : ℕ) (d : List ℕ) → IsWhole (Some x) m next d room → n ≡ update m k (watched x) → IsWhole None n next d room
+watched_whole x m n next room k d whole is = placed_whole (watched x) (λ o. refl) (λ m next o has. has) (Some x) None m n next room k d whole is (places_taken x m next k whole.places)
+
+-- the wait has gone, and its place is left
+pub unwatched_whole : (test : Watch → Bool) (m n : Map Object) (next room k : ℕ) (d : List ℕ) → IsWhole None m next d room → n ≡ update m k (unwatched test) → IsWhole (find test (waits_in (get m k))) n next d room
+unwatched_whole test m n next room k d whole is = placed_whole (unwatched test) (λ o. refl) (λ m next o has. has) None (find test (waits_in (get m k))) m n next room k d whole is (places_unwatched test m next k whole.places)
+
+-- its place is given back, or holds its packet
+pub used_whole : (g : Port → Port) → ((p : Port) → (g p).reserved ≡ p.reserved - 1) → (x : Watch) (m n : Map Object) (next room : ℕ) (d : List ℕ) → IsWhole (Some x) m next d room → n ≡ update m x.port (at_port g) → IsWhole None n next d room
+used_whole g less x m n next room d whole is = at_port_whole g (Some x) None m n next room x.port d whole is (places_used g less x m next whole.places)
 
 -- the end of a process
-pub stopped_whole : (m n : Map Object) (next room k : ℕ) (d : List ℕ) → IsWhole m next d room → n ≡ update m k stopped → IsWhole n next d room
-stopped_whole = updated_whole stopped (λ o. ends o.body) (λ m next o. peer m next o.body)
+pub stopped_whole : (m n : Map Object) (next room k : ℕ) (d : List ℕ) → IsWhole None m next d room → n ≡ update m k stopped → IsWhole None n next d room
+stopped_whole = updated_whole stopped (λ o. ends o.body) (λ m next o. peer m next o.body) (λ o. refl) (λ o. same o.body)
   where
     ends : (b : Body) → is_end_body (stopped (record { body = b; signals = record { raised = 0; waits = [] }; handles = 0 })).body ≡ is_end_body b
     ends body.RootJob = refl
     ends (body.Process job lives) = refl
     ends body.Event = refl
+    ends (body.Port port) = refl
     ends (body.ChannelEnd p queue) = refl
+
+    same : (b : Body) → reserved_of (stopped (record { body = b; signals = record { raised = 0; waits = [] }; handles = 0 })).body ≡ reserved_of b
+    same body.RootJob = refl
+    same (body.Process job lives) = refl
+    same body.Event = refl
+    same (body.Port port) = refl
+    same (body.ChannelEnd p queue) = refl
 
     peer : (m : Map Object) (next : ℕ) (b : Body) → HasPeer m next b → HasPeer m next (stopped (record { body = b; signals = record { raised = 0; waits = [] }; handles = 0 })).body
     peer m next body.RootJob has = has
     peer m next (body.Process job lives) has = has
     peer m next body.Event has = has
+    peer m next (body.Port port) has = has
     peer m next (body.ChannelEnd p queue) has = has
 
 -- one message more
-pub sent_whole : (m n : Map Object) (next room k : ℕ) (d : List ℕ) (message : Message) → IsWhole m next d room → n ≡ update m k (sent message) → IsWhole n next d room
-sent_whole m n next room k d message = updated_whole (sent message) (λ o. ends o.body) (λ m next o. peer m next o.body) m n next room k d
+pub sent_whole : (m n : Map Object) (next room k : ℕ) (d : List ℕ) (message : Message) → IsWhole None m next d room → n ≡ update m k (sent message) → IsWhole None n next d room
+sent_whole m n next room k d message = updated_whole (sent message) (λ o. ends o.body) (λ m next o. peer m next o.body) (λ o. refl) (λ o. same o.body) m n next room k d
   where
     ends : (b : Body) → is_end_body (sent message (record { body = b; signals = record { raised = 0; waits = [] }; handles = 0 })).body ≡ is_end_body b
     ends body.RootJob = refl
     ends (body.Process job lives) = refl
     ends body.Event = refl
+    ends (body.Port port) = refl
     ends (body.ChannelEnd p queue) = refl
+
+    same : (b : Body) → reserved_of (sent message (record { body = b; signals = record { raised = 0; waits = [] }; handles = 0 })).body ≡ reserved_of b
+    same body.RootJob = refl
+    same (body.Process job lives) = refl
+    same body.Event = refl
+    same (body.Port port) = refl
+    same (body.ChannelEnd p queue) = refl
 
     peer : (m : Map Object) (next : ℕ) (b : Body) → HasPeer m next b → HasPeer m next (sent message (record { body = b; signals = record { raised = 0; waits = [] }; handles = 0 })).body
     peer m next body.RootJob has = has
     peer m next (body.Process job lives) has = has
     peer m next body.Event has = has
+    peer m next (body.Port port) has = has
     peer m next (body.ChannelEnd p queue) has = has
 
 -- one message less
-pub received_whole : (m n : Map Object) (next room k : ℕ) (d : List ℕ) → IsWhole m next d room → n ≡ update m k received → IsWhole n next d room
-received_whole = updated_whole received (λ o. ends o.body) (λ m next o. peer m next o.body)
+pub received_whole : (m n : Map Object) (next room k : ℕ) (d : List ℕ) → IsWhole None m next d room → n ≡ update m k received → IsWhole None n next d room
+received_whole = updated_whole received (λ o. ends o.body) (λ m next o. peer m next o.body) (λ o. refl) (λ o. same o.body)
   where
     ends : (b : Body) → is_end_body (received (record { body = b; signals = record { raised = 0; waits = [] }; handles = 0 })).body ≡ is_end_body b
     ends body.RootJob = refl
     ends (body.Process job lives) = refl
     ends body.Event = refl
+    ends (body.Port port) = refl
     ends (body.ChannelEnd p queue) = refl
+
+    same : (b : Body) → reserved_of (received (record { body = b; signals = record { raised = 0; waits = [] }; handles = 0 })).body ≡ reserved_of b
+    same body.RootJob = refl
+    same (body.Process job lives) = refl
+    same body.Event = refl
+    same (body.Port port) = refl
+    same (body.ChannelEnd p queue) = refl
 
     peer : (m : Map Object) (next : ℕ) (b : Body) → HasPeer m next b → HasPeer m next (received (record { body = b; signals = record { raised = 0; waits = [] }; handles = 0 })).body
     peer m next body.RootJob has = has
     peer m next (body.Process job lives) has = has
     peer m next body.Event has = has
+    peer m next (body.Port port) has = has
     peer m next (body.ChannelEnd p queue) has = has
 
 -- ---- one object more
@@ -136,19 +220,21 @@ later_peer : (m : Map Object) (next : ℕ) (o : Object) (b : Body) → ((j : ℕ
 later_peer m next o body.RootJob below has = has
 later_peer m next o (body.Process job lives) below has = has
 later_peer m next o body.Event below has = has
+later_peer m next o (body.Port port) below has = has
 later_peer m next o (body.ChannelEnd p queue) below has = (omega (arith, has.0), λ there. rw (get-put m next o p, apart) (has.1 (rw (get-put m next o p, apart) at there)))
   where
     apart : (next == p) ≡ false
     apart = grind (arith, nat_tests, has.0)
 
 -- the new object has the next koid, and is no end
-pub inserted_whole : (m n : Map Object) (next room room2 : ℕ) (d d2 : List ℕ) (o : Object) → IsWhole m next d room → is_end_body o.body ≡ false → d2 ≡ d → length m + 1 ≤ room2 → n ≡ insert_entry nat_cmp m next o → IsWhole n (next + 1) d2 room2
-inserted_whole m n next room room2 d d2 o whole alone same more into = rw (into, inserted m next o, same) record {
+pub inserted_whole : (m n : Map Object) (next room room2 : ℕ) (d d2 : List ℕ) (o : Object) → IsWhole None m next d room → is_end_body o.body ≡ false → o.signals.waits ≡ [] → d2 ≡ d → length m + 1 ≤ room2 → n ≡ insert_entry nat_cmp m next o → IsWhole None n (next + 1) d2 room2
+inserted_whole m n next room room2 d d2 o whole alone fresh same more into = rw (into, inserted m next o, same) record {
   below = λ k there. elim (put_key m next o k there) as (λ _. k < next + 1) [
     | inl here ↦ omega (arith, here)
     | inr old ↦ omega (arith, whole.below k old)
   ];
   peers = λ k q at. by_key k q (cases_Bool (next == k)) (sym (get-put m next o k) ∙ at);
+  places = places_put m next o whole.below fresh whole.places;
   enough = omega (arith, more, ap (λ (x : Map Object). length x) (sym (inserted m next o) ∙ entry_inserted m next o whole.below), length-append m ((next, o) ∷ []));
   none = whole.none;
 }
@@ -157,6 +243,7 @@ inserted_whole m n next room room2 d d2 o whole alone same more into = rw (into,
     no_end body.RootJob h = tt
     no_end (body.Process job lives) h = tt
     no_end body.Event h = tt
+    no_end (body.Port port) h = tt
     no_end (body.ChannelEnd p queue) h = absurd (false≢true (sym h))
 
     by_key : (k : ℕ) (q : Object) → IsTrue (next == k) ⊎ ((next == k) ≡ false) → (if next == k then Some o else get m k) ≡ Some q → HasPeer (put m next o) (next + 1) q.body
@@ -185,11 +272,12 @@ channel_created m n n2 next o o2 below into into2 =
       | inr old ↦ omega (arith, below j old)
     ]
 
-pub channel_whole : (m n n2 : Map Object) (next room room2 handles : ℕ) (d d2 : List ℕ) (o o2 : Object) → IsWhole m next d room → o ≡ end_of (next + 1) handles → o2 ≡ end_of next handles → d2 ≡ d → length m + 2 ≤ room2
-    → n ≡ insert_entry nat_cmp m next o → n2 ≡ insert_entry nat_cmp n (next + 1) o2 → IsWhole n2 (next + 1 + 1) d2 room2
+pub channel_whole : (m n n2 : Map Object) (next room room2 handles : ℕ) (d d2 : List ℕ) (o o2 : Object) → IsWhole None m next d room → o ≡ end_of (next + 1) handles → o2 ≡ end_of next handles → d2 ≡ d → length m + 2 ≤ room2
+    → n ≡ insert_entry nat_cmp m next o → n2 ≡ insert_entry nat_cmp n (next + 1) o2 → IsWhole None n2 (next + 1 + 1) d2 room2
 channel_whole m n n2 next room room2 handles d d2 o o2 whole first second same more into into2 = rw same record {
   below = λ k there. below_second k (rw is_put2 at there);
   peers = λ k q at. by_key k q (cases_Bool (next + 1 == k)) (cases_Bool (next == k)) (sym (get_second k) ∙ at);
+  places = rw is_put2 (places_put n (next + 1) o2 below_first (rw second refl) (rw is_put (places_put m next o whole.below (rw first refl) whole.places)));
   enough = rw (channel_created m n n2 next o o2 whole.below into into2) (omega (arith, more, length-append (m ++ (next, o) ∷ []) ((next + 1, o2) ∷ []), length-append m ((next, o) ∷ [])));
   none = whole.none;
 }
@@ -265,21 +353,42 @@ pub if_err : {A B : Type 0} (r : Result A B) (P : Type 0) → OnErr r P → is_e
 if_err (Ok x) P h out = absurd (false≢true out)
 if_err (Err e) P h out = h
 
+-- what holds holds of a fault
+pub kept_err : {A B : Type 0} (r : Result A B) (P : Type 0) → P → OnErr r P
+kept_err (Ok x) P h = tt
+kept_err (Err e) P h = h
+
 -- other room
-pub roomy_whole : (m n : Map Object) (next room room2 : ℕ) (d d2 : List ℕ) → IsWhole m next d room → n ≡ m → d2 ≡ d → room ≤ room2 → IsWhole n next d2 room2
-roomy_whole m n next room room2 d d2 whole is same more = rw (is, same) record { below = whole.below; peers = whole.peers; enough = omega (arith, whole.enough, more); none = whole.none }
+pub roomy_whole : (m n : Map Object) (next room room2 : ℕ) (d d2 : List ℕ) → IsWhole None m next d room → n ≡ m → d2 ≡ d → room ≤ room2 → IsWhole None n next d2 room2
+roomy_whole m n next room room2 d d2 whole is same more = rw (is, same) record { below = whole.below; peers = whole.peers; places = whole.places; enough = omega (arith, whole.enough, more); none = whole.none }
 
 -- one message more, or the end as it was
-pub sent_or_same_whole : {A B : Type 0} (m n : Map Object) (next room k : ℕ) (d : List ℕ) (message : Message) (v w : Object) (r : Result A B) → IsWhole m next d room → OnOk r (w ≡ sent message v) → OnErr r (w ≡ v)
-    → Some v ≡ lookup (is_at (nat_cmp k)) m → n ≡ set_value (is_at (nat_cmp k)) m w → IsWhole n next d room
+pub sent_or_same_whole : {A B : Type 0} (m n : Map Object) (next room k : ℕ) (d : List ℕ) (message : Message) (v w : Object) (r : Result A B) → IsWhole None m next d room → OnOk r (w ≡ sent message v) → OnErr r (w ≡ v)
+    → Some v ≡ lookup (is_at (nat_cmp k)) m → n ≡ set_value (is_at (nat_cmp k)) m w → IsWhole None n next d room
 sent_or_same_whole m n next room k d message v w (Ok x) whole is other there set = sent_whole m n next room k d message whole (written m n k (sent message) v w there is set)
 sent_or_same_whole m n next room k d message v w (Err e) whole other is there set = roomy_whole m n next room room d d whole (written_back m n k v w there is set) refl (omega arith)
 
--- one wait more, or the object as it was
-pub watched_or_same_whole : {A B : Type 0} (m n : Map Object) (next room k : ℕ) (d : List ℕ) (x : Watch) (v w : Object) (r : Result A B) → IsWhole m next d room → OnOk r (w ≡ watched x v) → OnErr r (w ≡ v)
-    → Some v ≡ lookup (is_at (nat_cmp k)) m → n ≡ set_value (is_at (nat_cmp k)) m w → IsWhole n next d room
-watched_or_same_whole m n next room k d x v w (Ok y) whole is other there set = watched_whole m n next room k x d whole (written m n k (watched x) v w there is set)
-watched_or_same_whole m n next room k d x v w (Err e) whole other is there set = roomy_whole m n next room room d d whole (written_back m n k v w there is set) refl (omega arith)
+-- other packets at a port, or the port as it was
+pub port_or_same_whole : {A B : Type 0} (g : Port → Port) → ((p : Port) → (g p).reserved ≡ p.reserved) → (m n : Map Object) (next room k : ℕ) (d : List ℕ) (v w : Object) (r : Result A B) → IsWhole None m next d room → OnOk r (w ≡ at_port g v) → OnErr r (w ≡ v)
+    → Some v ≡ lookup (is_at (nat_cmp k)) m → n ≡ set_value (is_at (nat_cmp k)) m w → IsWhole None n next d room
+port_or_same_whole g same m n next room k d v w (Ok y) whole is other there set = port_whole g same m n next room k d whole (written m n k (at_port g) v w there is set)
+port_or_same_whole g same m n next room k d v w (Err e) whole other is there set = roomy_whole m n next room room d d whole (written_back m n k v w there is set) refl (omega arith)
+
+-- ---- a wait that is taken out
+
+module _ (test : Watch → Bool) (m n : Map Object) (next room k : ℕ) (d : List ℕ) (whole : IsWhole None m next d room) (out : n ≡ update m k (unwatched test)) where
+  -- none was found
+  pub none_out_whole : find test (waits_in (get m k)) ≡ None → IsWhole None n next d room
+  none_out_whole none = subst (λ (q : Option Watch). IsWhole q n next d room) none (unwatched_whole test m n next room k d whole out)
+
+  module _ (x : Watch) (found : find test (waits_in (get m k)) ≡ Some x) where
+    -- its place is left
+    pub one_out_whole : IsWhole (Some x) n next d room
+    one_out_whole = subst (λ (q : Option Watch). IsWhole q n next d room) found (unwatched_whole test m n next room k d whole out)
+
+    -- its place was given back, or holds its packet
+    pub gone_whole : (g : Port → Port) → ((p : Port) → (g p).reserved ≡ p.reserved - 1) → (n2 : Map Object) → n2 ≡ update n x.port (at_port g) → IsWhole None n2 next d room
+    gone_whole g less n2 is = used_whole g less x n n2 next room d one_out_whole is
 
 -- ---- the newest object less
 
@@ -288,14 +397,15 @@ no_entries [] some = refl
 no_entries (e ∷ es) some = absurd (false≢true (some (omega arith)))
 
 -- the object with the greatest koid is gone; it was no end, so it was no peer
-pub popped_whole : (m n : BTreeMap ℕ Object) (next koid room : ℕ) (d : List ℕ) (r : Option (ℕ × Object)) → IsWhole m.entries next d room → next ≡ koid + 1 → is_end_at m.entries koid ≡ false → IsTrue (has_key m.entries koid) → length n.entries ≤ length m.entries
-    → IsSome r ↔ (0 < length m.entries) → IfNone r (IsUnchanged m n) → IfSome r (λ p. lookup (is_at (nat_cmp p.0)) m.entries ≡ Some p.1) → IfSome r (λ p. IsUpperBound nat_cmp m p.0) → IfSome r (λ p. Updates nat_cmp m n p.0 None)
-    → IsWhole n.entries koid d room
+pub popped_whole : (m n : BTreeMap ℕ Object) (next koid room : ℕ) (d : List ℕ) (r : Option (ℕ × Object)) → IsWhole None m.entries next d room → next ≡ koid + 1 → is_end_at m.entries koid ≡ false → reserved_in (get m.entries koid) ≡ 0 → IsTrue (has_key m.entries koid) → length n.entries ≤ length m.entries
+    → IsSome r ↔ (0 < length m.entries) → IfNone r (IsUnchanged m n) → IfSome r (λ p. lookup (is_at (nat_cmp p.0)) m.entries ≡ Some p.1) → IfSome r (λ p. IsUpperBound nat_cmp m p.0) → IfSome r (λ p. Updates nat_cmp m n p.0 None) → IfSome r (λ p. m.entries ≡ n.entries ++ p ∷ [])
+    → IsWhole None n.entries koid d room
 unfolding get
-popped_whole m n next koid room d None whole newest alone there fewer some unchanged value greatest updates = rw unchanged (none_whole m.entries koid room d (no_entries m.entries some.1) whole.none)
-popped_whole m n next koid room d (Some p) whole newest alone there fewer some unchanged value greatest updates = record {
+popped_whole m n next koid room d None whole newest alone unreserved there fewer some unchanged value greatest updates removal = rw unchanged (none_whole m.entries koid room d (no_entries m.entries some.1) whole.none)
+popped_whole m n next koid room d (Some p) whole newest alone unreserved there fewer some unchanged value greatest updates removal = record {
   below = λ j at. lower j (rw (read j) at at);
   peers = λ j o at. peers j o at;
+  places = places;
   enough = omega (arith, fewer, whole.enough);
   none = whole.none;
 }
@@ -337,10 +447,54 @@ popped_whole m n next koid room d (Some p) whole newest alone there fewer some u
     by_body body.RootJob has = has
     by_body (body.Process job lives) has = has
     by_body body.Event has = has
+    by_body (body.Port port) has = has
     by_body (body.ChannelEnd q queue) has = (not_newest q has.0 has.1, λ at. end_left q (get n.entries q) refl has.1 at)
 
     peers : (j : ℕ) (o : Object) → get n.entries j ≡ Some o → HasPeer n.entries koid o.body
     peers j o at = by_body o.body (whole.peers j o (was j o at))
 
+    waits : (j : ℕ) → waits_at n.entries j ≤ waits_at m.entries j
+    waits j = rw removal (omega (arith, sum_by-append (λ (e : ℕ × Object). waits_for j e.1) n.entries (p ∷ [])))
+
+    not_gone : has_gone m.entries next koid ≡ false
+    not_gone = rw there (and_no (nat_lt koid next))
+      where
+        and_no : (b : Bool) → (b && false) ≡ false
+        and_no true = refl
+        and_no false = refl
+
+    -- it was the one with this koid
+    is_koid : p.0 ≡ koid
+    is_koid = grind (arith, nat_tests, last, newest, greatest koid (rw (looked_up m.entries koid) there), unsigned_tied p.0 koid)
+
+    same : (j : ℕ) → (koid == j) ≡ false → get n.entries j ≡ get m.entries j
+    same j apart = rw (read j, tied j apart) (looked_up m.entries j)
+      where
+        tied : (j : ℕ) → (koid == j) ≡ false → is_at (nat_cmp p.0) j ≡ false
+        tied j apart = grind (arith, nat_tests, is_koid, apart, unsigned_tied p.0 j)
+
+    was_left : (j : ℕ) → (koid == j) ≡ false → has_gone n.entries koid j ≡ false → has_gone m.entries next j ≡ false
+    was_left j apart left = elim (cases_Bool (has_gone m.entries next j)) as (λ _. has_gone m.entries next j ≡ false) [
+      | inr there_still ↦ there_still
+      | inl gone ↦
+          let both = and_parts (nat_lt j next) (not (has_key m.entries j)) gone in
+          let lower : IsTrue (nat_lt j koid) = below both.0 in
+          absurd (false≢true (sym left ∙ and_from (nat_lt j koid) (not (has_key n.entries j)) lower (rw (same j apart) both.1)))
+    ]
+      where
+        below : IsTrue (nat_lt j next) → IsTrue (nat_lt j koid)
+        below h = grind (arith, nat_tests, h, newest, apart)
+
+    places : HavePlaces n.entries koid
+    places j left = by_key (cases_Bool (koid == j))
+      where
+        by_key : IsTrue (koid == j) ⊎ ((koid == j) ≡ false) → waits_at n.entries j + 0 ≤ reserved_in (get n.entries j)
+        by_key (inl here) =
+            subst (λ (i : ℕ). waits_at n.entries i + 0 ≤ reserved_in (get n.entries i)) (eqb-true koid j here)
+            (omega (arith, waits koid, whole.places koid not_gone, unreserved))
+        by_key (inr apart) =
+            let reserved : reserved_in (get n.entries j) ≡ reserved_in (get m.entries j) = ap reserved_in (same j apart) in
+            omega (arith, waits j, whole.places j (was_left j apart left), reserved)
+
 -- what the methods of objects cite
-pub ruleset whole = (none_whole, more_whole, changed_whole, watched_whole, unwatched_whole, stopped_whole, sent_whole, received_whole, inserted_whole, roomy_whole)
+pub ruleset whole = (none_whole, more_whole, changed_whole, stopped_whole, sent_whole, received_whole, inserted_whole, roomy_whole)

@@ -2,11 +2,13 @@
 use Rattle.std.specs.Prelude.{ℕ, ◌≡◌, ◌+◌, ◌<◌, ◌≤◌, Bool, false, ◌==◌, nat_lt, not, IsTrue, List, [], ◌++◌, length, Option, Some, None, if◌then◌else◌}
 use Rattle.std.specs.List.{count_by}
 use Rattle.zl_rights.specs.Map.{Map, get, has_key, without}
+use Rattle.zl_signals.specs.declared.watch.Watch.{Watch}
 use Rattle.zl_objects.specs.declared.object.Body.{Body}
 use Rattle.zl_objects.specs.declared.object.Body.TheVariants as body
 use Rattle.zl_objects.specs.declared.object.Object.{Object}
 use Rattle.zl_objects.specs.Objects.{is_end_at, is_kept}
 use Rattle.zl_objects.specs.Release.{AreKeptBut, Cascades}
+use Rattle.zl_objects.specs.Waits.{HavePlacesWith}
 
 -- one handle alone names the object that was found
 abbrev pub is_last : Option Object → Bool
@@ -45,9 +47,11 @@ abbrev pub HasPeer : Map Object → ℕ → Body → Type 0
 HasPeer m next_koid (body.ChannelEnd peer queue) = (peer < next_koid) × (IsTrue (has_key m peer) → IsTrue (is_end_at m peer))
 HasPeer m next_koid _ = Unit {0}
 
--- all koids lie below the next one, peers are ends, there is room for each object, and none is noted
-pub record IsWhole (m : Map Object) (next_koid : ℕ) (dying : List ℕ) (room : ℕ) : Type 0 where
+-- all koids lie below the next one, peers are ends, each wait has its place at its port and there is one more for this
+-- one, there is room for each object, and none is noted
+pub record IsWhole (more : Option Watch) (m : Map Object) (next_koid : ℕ) (dying : List ℕ) (room : ℕ) : Type 0 where
   pub below : (k : ℕ) → IsTrue (has_key m k) → k < next_koid
   pub peers : (k : ℕ) (o : Object) → get m k ≡ Some o → HasPeer m next_koid o.body
+  pub places : HavePlacesWith more m next_koid
   pub enough : length m ≤ room
   pub none : dying ≡ []

@@ -3,4 +3,5 @@ pub mod Release
 pub mod Seen
 pub mod Dying
 pub mod Signals
+pub mod Ports
 pub mod Waits

@@ -147,6 +147,7 @@ kind_in body.RootJob = kind.Job
 kind_in (body.Process job lives) = kind.Process
 kind_in body.Event = kind.Event
 kind_in (body.ChannelEnd peer queue) = kind.Channel
+kind_in (body.Port port) = kind.Port
 
 -- the kind of the object k, if it is there
 abbrev pub kind_at : Map Object → ℕ → Option Kind

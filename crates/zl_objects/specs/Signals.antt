@@ -17,6 +17,7 @@ abbrev pub implied : Map Object → ℕ → Body → ℕ
 implied m k body.RootJob = bit_or NO_JOBS (signal_if NO_PROCESSES (not (has_living_child m k)))
 implied m k (body.Process job lives_on) = signal_if TERMINATED (not lives_on)
 implied m k body.Event = 0
+implied m k (body.Port port) = 0
 implied m k (body.ChannelEnd peer queue) =
     bit_or (signal_if READABLE (not (is_empty queue))) (if has_key m peer then WRITABLE else PEER_CLOSED)
 

@@ -1,10 +1,14 @@
 -- The waits that are registered at the objects, and what operations make of them.
-use Rattle.std.specs.Prelude.{ℕ, Bool, List, [], Option, Some, None}
-use Rattle.zl_rights.specs.Map.{get, update}
+use Rattle.std.specs.Prelude.{ℕ, ◌≡◌, Bool, false, not, ◌&&◌, nat_lt, ◌+◌, ◌≤◌, cond, ◌==◌, List, [], Option, Some, None}
+use Rattle.std.specs.List.{find, count_by, sum_by}
+use Rattle.zl_rights.specs.Map.{Map, get, has_key, update}
+use Rattle.zl_rights.specs.World.{Packet}
 use Rattle.zl_signals.specs.declared.watch.Watch.{Watch}
-use Rattle.zl_signals.specs.Waits.{next_order, with_wait, without_wait}
+use Rattle.zl_signals.specs.Waits.{holds, is_at_port, next_order, with_wait, without_wait}
+use Rattle.zl_port.specs.Packets.{Port, with_packet, with_place, without_place}
 use Rattle.zl_objects.specs.declared.object.Object.{Object}
 use Rattle.zl_objects.specs.Objects.{Objects}
+use Rattle.zl_objects.specs.Ports.{at_port, reserved_in}
 
 -- the waits at the object that was found, the earliest registered first
 abbrev pub waits_in : Option Object → List Watch
@@ -16,6 +20,47 @@ abbrev pub next_in : ℕ → Option Object → Option ℕ
 next_in active None = None
 next_in active (Some o) = next_order o.signals active
 
+-- the packet of a wait that was registered at the object k, where these signals are active
+abbrev pub packet_of : ℕ → ℕ → Watch → Packet
+packet_of k active x = record {
+  kind = 1;
+  key = x.key;
+  trigger = x.mask.0;
+  observed = active;
+  source = Some (record { pid = x.pid; value = x.value; object = k });
+}
+
+-- ---- places at ports
+
+-- how many waits of the object give their packets to the port k
+abbrev pub waits_for : ℕ → Object → ℕ
+waits_for k o = count_by (is_at_port k) o.signals.waits
+
+-- how many waits give their packets to the port k
+abbrev pub waits_at : Map Object → ℕ → ℕ
+waits_at m k = sum_by (λ (e : ℕ × Object). waits_for k e.1) m
+
+-- one, where it is the port of the wait that was found
+abbrev pub one_for : ℕ → Option Watch → ℕ
+one_for k None = 0
+one_for k (Some x) = cond (x.port == k) 1 0
+
+-- the koid of an object that has gone
+abbrev pub has_gone : Map Object → ℕ → ℕ → Bool
+has_gone m next_koid k = nat_lt k next_koid && not (has_key m k)
+
+-- for all waits that give their packets to one port, and for this one, places are reserved there, until it has gone;
+-- they give them to no other object
+abbrev pub HavePlacesWith : Option Watch → Map Object → ℕ → Type 0
+HavePlacesWith x m next_koid =
+    (k : ℕ) → has_gone m next_koid k ≡ false → waits_at m k + one_for k x ≤ reserved_in (get m k)
+
+-- for all waits that give their packets to one port places are reserved there
+abbrev pub HavePlaces : Map Object → ℕ → Type 0
+HavePlaces m next_koid = HavePlacesWith None m next_koid
+
+-- ---- changes
+
 -- the object with one wait more, behind all others
 abbrev pub watched : Watch → Object → Object
 watched x o = record o { signals = with_wait o.signals x }
@@ -24,10 +69,24 @@ watched x o = record o { signals = with_wait o.signals x }
 abbrev pub unwatched : (Watch → Bool) → Object → Object
 unwatched test o = record o { signals = without_wait o.signals test }
 
--- the objects, where the wait was registered at the object k
+-- the objects, where the wait was registered at the object k, with a place for its packet at its port
 abbrev pub watching : Objects → ℕ → Watch → Objects
-watching r k x = record r { objects = update r.objects k (watched x) }
+watching r k x = record r { objects = update (update r.objects x.port (at_port with_place)) k (watched x) }
 
--- the objects, where the earliest wait at the object k that passes the test has gone
+-- the objects, where the port of the wait that was found is as f leaves it
+abbrev pub at_port_of : Option Watch → (Watch → Port → Port) → Map Object → Map Object
+at_port_of None f m = m
+at_port_of (Some x) f m = update m x.port (at_port (f x))
+
+-- the objects, where the earliest wait at the object k that passes the test has gone, and its place was given back
 abbrev pub unwatching : Objects → ℕ → (Watch → Bool) → Objects
-unwatching r k test = record r { objects = update r.objects k (unwatched test) }
+unwatching r k test = record r {
+  objects = at_port_of (find test (waits_in (get r.objects k))) (λ x. without_place) (update r.objects k (unwatched test));
+}
+
+-- the objects, where the earliest wait at the object k that holds has gone, and its packet stands in its place
+abbrev pub firing : Objects → ℕ → ℕ → Objects
+firing r k active = record r {
+  objects = at_port_of (find (holds active) (waits_in (get r.objects k)))
+      (λ x port. with_packet (without_place port) (packet_of k active x)) (update r.objects k (unwatched (holds active)));
+}

@@ -1,13 +1,15 @@
 //! The objects of a running lab by koid, each with its count of handles.
 //!
-//! It stands on `zl_rights` and `zl_channel`; of `zl_table` just proofs cite lemmas on maps. It
-//! promises the exact change of each operation, that `release` leaves the largest held set and
-//! nothing else in every world that the objects fit, and that nothing but making an object and
-//! sending takes memory. Where a method names no source, that of its type is meant.
+//! It stands on `zl_rights`, `zl_channel`, `zl_signals` and `zl_port`; of `zl_table` just proofs
+//! cite lemmas on maps. It promises the exact change of each operation, that `release` leaves the
+//! largest held set and nothing else in every world that the objects fit, and that nothing but
+//! making an object, sending, registering a wait and queueing a packet of a call takes memory. Where
+//! a method names no source, that of its type is meant.
 #![tactic(auto)]
 
 mod object;
 mod objects;
+mod ports;
 mod releasing;
 mod signals;
 mod waits;

@@ -7,6 +7,7 @@ ghost use Rattle.zl_channel.specs.Queue.{is_too_large, refused_message, front_si
 
 use crate::objects::Objects;
 use zl_channel::{ChannelEnd, Message, PushFault};
+use zl_port::Port;
 use zl_rights::{Entry, Kind, Koid, Signals};
 use zl_signals::SignalState;
 
@@ -19,9 +20,12 @@ pub enum Body {
     RootJob,
     /// A process of a job, living or ended.
     Process { job: Koid, lives: bool },
+    /// An event, of which signals are all there is.
     Event,
     /// One end of a channel, with what is to be read at it.
     ChannelEnd { peer: Koid, queue: ChannelEnd },
+    /// A port, with its packets and the number of places reserved for waits.
+    Port(Port),
 }
 
 /// An object, with the signals that calls set and clear, the waits that are registered there, and the
@@ -109,6 +113,7 @@ impl Body {
             Body::Process { .. } => Kind::Process,
             Body::Event => Kind::Event,
             Body::ChannelEnd { .. } => Kind::Channel,
+            Body::Port(_) => Kind::Port,
         }
     }
 

@@ -2,6 +2,7 @@ ghost use Rattle.std.specs.Prelude.{[], Err, Some, false, ◌≡◌, ◌↔◌, 
 ghost use Rattle.zl_rights.specs.Map.{get, has_key};
 ghost use Rattle.zl_objects.specs.Objects.{changing, has_koids, has_place, holding, is_end_at, is_end_body, is_job_at, job_in, kind_at, new_object, next_of, peer_at, queue_in, receiving, root_alone, sending, stopping, with_channel, with_new, without_newest};
 ghost use Rattle.zl_channel.specs.Queue.{front_entry, front_sizes, is_too_large, refused_message};
+ghost use Rattle.zl_objects.specs.Ports.{reserved_in, reserved_of};
 ghost use Rattle.zl_objects.specs.Release.{Ends, Releases};
 ghost use Rattle.zl_objects.specs.Seen.{LeavesLargest};
 
@@ -27,7 +28,7 @@ pub struct Objects {
 }
 
 impl Model for Objects {
-    ghost use Rattle.std.specs.Prelude.{vec_capacity};
+    ghost use Rattle.std.specs.Prelude.{None, vec_capacity};
     ghost use Rattle.zl_objects.specs.Objects.{Objects as ObjectsValue};
     ghost use Rattle.zl_objects.specs.Dying.{IsWhole};
 
@@ -36,7 +37,7 @@ impl Model for Objects {
     ghost view = { λ o. record { objects = o.by_koid.entries; next_koid = o.next_koid } };
 
     ghost invariant = { λ o.
-        IsWhole o.by_koid.entries o.next_koid o.dying.items (vec_capacity o.dying) };
+        IsWhole None o.by_koid.entries o.next_koid o.dying.items (vec_capacity o.dying) };
 }
 
 #[tactic(auto, using(crate::proofs::ByKoid::by_koid, crate::proofs::Whole::whole))]
@@ -85,11 +86,12 @@ impl Objects {
         self.next_koid
     }
 
-    /// Makes an object that so many handles name, and gives its koid. A koid has to be left, and
-    /// an end of a channel is made by `create_channel`.
+    /// Makes an object that so many handles name, and gives its koid. A koid has to be left, an end
+    /// of a channel is made by `create_channel`, and at a port no place may be reserved.
     pub fn create(&mut self, body: Body, handles: u64) -> Result<Koid, AllocError>
         requires koid { IsTrue (has_koids self.old.next_koid 1) }
         requires alone { is_end_body body ≡ false }
+        requires unreserved { reserved_of body ≡ 0 }
         ensures koid { IfOk result (λ koid. koid ≡ self.old.next_koid) }
         ensures created { OnOk result (self.new ≡ with_new self.old body handles) }
         ensures there { IfOk result
@@ -142,15 +144,21 @@ impl Objects {
     }
 
     /// Takes the newest object back, with its koid, as if it had not been made. The koid has to be
-    /// the one given last, and that of no end of a channel.
+    /// the one given last, and that of no end of a channel; at a port no place may be reserved.
     pub fn take_back(&mut self, koid: Koid)
         requires newest { self.old.next_koid ≡ koid + 1 }
         requires there { IsTrue (has_key self.old.objects koid) }
         requires alone { is_end_at self.old.objects koid ≡ false }
+        requires unreserved { reserved_in (get self.old.objects koid) ≡ 0 }
         ensures { self.new ≡ without_newest self.old koid }
     {
         self.by_koid.pop_last();
         self.next_koid = koid;
+    }
+
+    /// What new objects take their memory from.
+    pub(crate) fn alloc(&self) -> Global {
+        *self.dying.allocator()
     }
 
     /// All objects are gone. It takes no memory.

@@ -79,7 +79,7 @@ fn is_kept(by_koid: &BTreeMap<Koid, Object>, koid: Koid, object: &Object) -> boo
     match &object.body {
         Body::RootJob => has_living_child(by_koid, koid),
         Body::Process { lives, .. } => *lives,
-        Body::Event | Body::ChannelEnd { .. } => false,
+        Body::Event | Body::ChannelEnd { .. } | Body::Port(_) => false,
     }
 }
 

@@ -49,7 +49,7 @@ impl Objects {
                     Signals::TERMINATED
                 }
             }
-            Body::Event => Signals::empty(),
+            Body::Event | Body::Port(_) => Signals::empty(),
             Body::ChannelEnd { peer, queue } => {
                 let readable = if queue.is_empty() {
                     Signals::empty()

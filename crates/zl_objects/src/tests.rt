@@ -3,6 +3,7 @@ use bitflags::Flags;
 use std::alloc::{AllocError, Global};
 use std::test::Fail;
 use zl_channel::{Handles, Message};
+use zl_port::{Packet, Source};
 use zl_rights::{Entry, Kind, Koid, Rights, Signals};
 use zl_signals::Watch;
 
@@ -89,12 +90,20 @@ fn a_job_goes_with_its_last_process(rt: HostRuntime) -> Result<(), Fail> {
     Ok(())
 }
 
-/// A wait of process 2 by its handle 1 for the signals, which gives a packet with the key to port 7.
-fn wait_for(mask: Signals, key: u64, order: u64) -> Watch {
+/// A port with one handle.
+fn new_port(objects: &mut Objects) -> Result<Koid, AllocError> {
+    if !objects.has_koids(1) {
+        return Err(AllocError);
+    }
+    objects.create_port(1)
+}
+
+/// A wait of process 2 by its handle 1 for the signals, which gives a packet with the key.
+fn wait_for(port: Koid, mask: Signals, key: u64, order: u64) -> Watch {
     Watch {
         pid: 2,
         value: 1,
-        port: 7,
+        port,
         key,
         mask,
         order,
@@ -103,7 +112,7 @@ fn wait_for(mask: Signals, key: u64, order: u64) -> Watch {
 
 /// Registers the wait, and once more where there was no memory for it.
 fn watch(objects: &mut Objects, koid: Koid, wait: Watch) -> Result<(), AllocError> {
-    if objects.kind_of(koid).is_none() {
+    if objects.kind_of(koid).is_none() || !objects.is_port(wait.port) {
         return Err(AllocError);
     }
     match objects.watch(koid, wait) {
@@ -117,14 +126,49 @@ fn key(taken: Option<Watch>) -> Option<u64> {
     Some(taken?.key)
 }
 
+/// Queues a packet of a call at the port, and once more where there was no memory for it.
+fn queue(objects: &mut Objects, port: Koid, key: u64, value: u64) -> bool {
+    if !objects.is_port(port) {
+        return false;
+    }
+    match objects.queue_user(port, key, value) {
+        Ok(()) => true,
+        Err(_) => objects.queue_user(port, key, value).is_ok(),
+    }
+}
+
+/// The numbers of a packet, as a process gets them.
+fn numbers(packet: Option<Packet>) -> Option<[u64; 4]> {
+    let packet = packet?;
+    Some([
+        packet.key,
+        packet.kind.number(),
+        packet.trigger,
+        packet.observed,
+    ])
+}
+
 #[test]
 fn waits_fire_in_the_order_of_their_registration(rt: HostRuntime) -> Result<(), Fail> {
     let mut objects = Objects::new(rt.alloc())?;
     let (first, second) = new_channel(&mut objects)?;
-    watch(&mut objects, first, wait_for(Signals::USER_0, 5, 10))?;
-    watch(&mut objects, first, wait_for(Signals::WRITABLE, 6, 20))?;
-    watch(&mut objects, second, wait_for(Signals::WRITABLE, 7, 30))?;
-    watch(&mut objects, first, wait_for(Signals::WRITABLE, 8, 40))?;
+    let port = new_port(&mut objects)?;
+    watch(&mut objects, first, wait_for(port, Signals::USER_0, 5, 10))?;
+    watch(
+        &mut objects,
+        first,
+        wait_for(port, Signals::WRITABLE, 6, 20),
+    )?;
+    watch(
+        &mut objects,
+        second,
+        wait_for(port, Signals::WRITABLE, 7, 30),
+    )?;
+    watch(
+        &mut objects,
+        first,
+        wait_for(port, Signals::WRITABLE, 8, 40),
+    )?;
     let active = objects.signals_of(first);
     assert_eq!(rt; objects.next_order(first, active), Some(20));
     assert_eq!(rt; key(objects.fire(first, active)), Some(6));
@@ -137,22 +181,30 @@ fn waits_fire_in_the_order_of_their_registration(rt: HostRuntime) -> Result<(), 
         Some(5)
     );
     assert_eq!(rt; objects.next_order(second, active), Some(30));
+    assert_eq!(rt; numbers(objects.pop(port)), Some([6, 1, 2, 2]));
+    assert_eq!(rt; numbers(objects.pop(port)), Some([8, 1, 2, 2]));
+    assert_eq!(rt;
+        numbers(objects.pop(port)),
+        Some([5, 1, 0x0100_0000, 0x0100_0002])
+    );
+    assert!(rt; objects.pop(port).is_none());
     Ok(())
 }
 
 #[test]
 fn only_the_waits_that_are_named_end(rt: HostRuntime) -> Result<(), Fail> {
     let mut objects = Objects::new(rt.alloc())?;
+    let port = new_port(&mut objects)?;
     for n in 0..4 {
         watch(
             &mut objects,
             Objects::ROOT_JOB,
-            wait_for(Signals::NO_JOBS, n, n),
+            wait_for(port, Signals::NO_JOBS, n, n),
         )?;
     }
     assert!(rt; objects.unwatch_key(Objects::ROOT_JOB, 2, 1, 8, 2).is_none());
     assert_eq!(rt;
-        key(objects.unwatch_key(Objects::ROOT_JOB, 2, 1, 7, 2)),
+        key(objects.unwatch_key(Objects::ROOT_JOB, 2, 1, port, 2)),
         Some(2)
     );
     assert!(rt; objects.unwatch_handle(Objects::ROOT_JOB, 3, 1).is_none());
@@ -160,9 +212,35 @@ fn only_the_waits_that_are_named_end(rt: HostRuntime) -> Result<(), Fail> {
         key(objects.unwatch_handle(Objects::ROOT_JOB, 2, 1)),
         Some(0)
     );
-    assert!(rt; objects.unwatch_port(5, 7).is_none());
-    assert_eq!(rt; key(objects.unwatch_port(Objects::ROOT_JOB, 7)), Some(1));
-    assert_eq!(rt; key(objects.unwatch_port(Objects::ROOT_JOB, 7)), Some(3));
-    assert!(rt; objects.unwatch_port(Objects::ROOT_JOB, 7).is_none());
+    assert!(rt; objects.unwatch_port(5, port).is_none());
+    assert_eq!(rt; key(objects.unwatch_port(Objects::ROOT_JOB, port)), Some(1));
+    assert_eq!(rt; key(objects.unwatch_port(Objects::ROOT_JOB, port)), Some(3));
+    assert!(rt; objects.unwatch_port(Objects::ROOT_JOB, port).is_none());
+    assert!(rt; objects.pop(port).is_none());
+    Ok(())
+}
+
+#[test]
+fn packets_are_queued_and_cancelled(rt: HostRuntime) -> Result<(), Fail> {
+    let mut objects = Objects::new(rt.alloc())?;
+    let port = new_port(&mut objects)?;
+    assert_eq!(rt; objects.kind_of(port), Some(Kind::Port));
+    assert!(rt; !objects.is_port(Objects::ROOT_JOB));
+    assert!(rt; queue(&mut objects, port, 5, 6));
+    watch(
+        &mut objects,
+        Objects::ROOT_JOB,
+        wait_for(port, Signals::NO_JOBS, 7, 0),
+    )?;
+    assert!(rt; objects.fire(Objects::ROOT_JOB, Signals::NO_JOBS).is_some());
+    let source = Source {
+        pid: 2,
+        value: 1,
+        object: Objects::ROOT_JOB,
+    };
+    assert_eq!(rt; objects.cancel(port, source, 5), 0);
+    assert_eq!(rt; objects.cancel(port, source, 7), 1);
+    assert_eq!(rt; numbers(objects.pop(port)), Some([5, 0, 6, 0]));
+    assert!(rt; objects.pop(port).is_none());
     Ok(())
 }

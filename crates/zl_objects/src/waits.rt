@@ -1,14 +1,19 @@
-//! The waits that are registered at the objects.
+//! The waits that are registered at the objects. Each has a place for its packet at its port.
 
 ghost use Rattle.std.specs.Prelude.{◌≡◌, IsTrue, IfErr, IfNone, OnErr, OnOk};
 ghost use Rattle.std.specs.List.{find};
-ghost use Rattle.zl_rights.specs.Map.{get, has_key};
+ghost use Rattle.zl_rights.specs.Map.{get, has_key, update};
+ghost use Rattle.zl_port.specs.Packets.{with_packet, with_place, without_place};
 ghost use Rattle.zl_signals.specs.Waits.{holds, is_at_port, is_by_handle, is_keyed};
-ghost use Rattle.zl_objects.specs.Waits.{next_in, unwatched, unwatching, waits_in, watched, watching};
+ghost use Rattle.zl_objects.specs.Ports.{at_port, has_place_in, is_port_at};
+ghost use Rattle.zl_objects.specs.Waits.{firing, next_in, packet_of, unwatched, unwatching, waits_in, watched, watching};
 
 use crate::object::Object;
 use crate::objects::Objects;
-use std::alloc::AllocFailed;
+use bitflags::Flags;
+use std::alloc::{AllocError, AllocFailed};
+use std::collections::BTreeMap;
+use zl_port::{Packet, PacketKind, Source};
 use zl_rights::{HValue, Koid, Pid, Signals};
 use zl_signals::Watch;
 
@@ -68,24 +73,32 @@ impl Object {
 
 #[tactic(auto, using(crate::proofs::ByKoid::by_koid, crate::proofs::Whole::whole))]
 impl Objects {
-    /// Registers the wait behind all others at the object, which has to be there.
+    /// Registers the wait behind all others at the object, and reserves a place for its packet at
+    /// its port. Both have to be there.
     ///
     /// Only memory can be refused; then nothing changes, and the wait comes back.
-    /// Source: the page "zx_object_wait_async" of the Fuchsia documentation.
+    /// Source: the page "zx_object_wait_async" of the Fuchsia documentation; reserved places are own
+    /// profile.
     pub fn watch(&mut self, koid: Koid, watch: Watch) -> Result<(), AllocFailed<Watch>>
-        requires { IsTrue (has_key self.old.objects koid) }
+        requires there { IsTrue (has_key self.old.objects koid) }
+        requires port { IsTrue (is_port_at self.old.objects watch.port) }
         ensures ok { OnOk result (self.new ≡ watching self.old koid watch) }
         ensures unchanged { OnErr result (self.new ≡ self.old) }
         ensures handed_back { IfErr result (λ refused. refused.value ≡ watch) }
     {
-        let Some(object) = self.by_koid.get_mut(&koid) else {
-            return Ok(());
-        };
-        object.watch(watch)
+        let port = watch.port;
+        if reserve_wait(&mut self.by_koid, port).is_err() {
+            return Err(AllocFailed { value: watch });
+        }
+        let registered = register(&mut self.by_koid, koid, watch);
+        if registered.is_err() {
+            give_back(&mut self.by_koid, port);
+        }
+        registered
     }
 
     /// Takes out the earliest wait at the object that the process made by its handle of this value,
-    /// or nothing where there is none. It takes no memory.
+    /// or nothing where there is none. Its place at its port is given back. It takes no memory.
     ///
     /// Source: the page "zx_object_wait_async" of the Fuchsia documentation: a wait ends with its
     /// handle.
@@ -93,22 +106,27 @@ impl Objects {
         ensures earliest { result ≡ find (is_by_handle pid value) (waits_in (get self.old.objects koid)) }
         ensures rest { self.new ≡ unwatching self.old koid (is_by_handle pid value) }
     {
-        self.by_koid.get_mut(&koid)?.unwatch_handle(pid, value)
+        let wait = take_handle(&mut self.by_koid, koid, pid, value)?;
+        give_back(&mut self.by_koid, wait.port);
+        Some(wait)
     }
 
     /// Takes out the earliest wait at the object that gives its packet to the port, or nothing where
-    /// there is none. It takes no memory.
+    /// there is none. Its place at the port is given back. It takes no memory.
     ///
     /// Source: own profile.
     pub fn unwatch_port(&mut self, koid: Koid, port: Koid) -> Option<Watch>
         ensures earliest { result ≡ find (is_at_port port) (waits_in (get self.old.objects koid)) }
         ensures rest { self.new ≡ unwatching self.old koid (is_at_port port) }
     {
-        self.by_koid.get_mut(&koid)?.unwatch_port(port)
+        let wait = take_port(&mut self.by_koid, koid, port)?;
+        give_back(&mut self.by_koid, wait.port);
+        Some(wait)
     }
 
     /// Takes out the earliest wait at the object that the process made by its handle of this value
-    /// for a packet with the key to the port, or nothing where there is none. It takes no memory.
+    /// for a packet with the key to the port, or nothing where there is none. Its place at the port
+    /// is given back. It takes no memory.
     ///
     /// Source: the page "zx_port_cancel" of the Fuchsia documentation.
     pub fn unwatch_key(
@@ -122,9 +140,9 @@ impl Objects {
         ensures earliest { result ≡ find (is_keyed pid value port key) (waits_in (get self.old.objects koid)) }
         ensures rest { self.new ≡ unwatching self.old koid (is_keyed pid value port key) }
     {
-        self.by_koid
-            .get_mut(&koid)?
-            .unwatch_key(pid, value, port, key)
+        let wait = take_key(&mut self.by_koid, koid, pid, value, port, key)?;
+        give_back(&mut self.by_koid, wait.port);
+        Some(wait)
     }
 
     /// The order of the wait that `fire` would take out at the object, if one holds. It takes no
@@ -138,14 +156,141 @@ impl Objects {
     }
 
     /// Takes out the earliest wait at the object that holds, as a signal of its mask is among the
-    /// active ones, or nothing where none does. It takes no memory.
+    /// active ones, or nothing where none does. Its packet goes last into the queue of its port,
+    /// in the place that was reserved for it. It takes no memory.
     ///
     /// Source: the page "zx_object_wait_async" of the Fuchsia documentation; the order is own
     /// profile.
     pub fn fire(&mut self, koid: Koid, active: Signals) -> Option<Watch>
         ensures earliest { result ≡ find (holds active.0) (waits_in (get self.old.objects koid)) }
-        ensures rest { self.new ≡ unwatching self.old koid (holds active.0) }
+        ensures rest { self.new ≡ firing self.old koid active.0 }
     {
-        self.by_koid.get_mut(&koid)?.fire(active)
+        let wait = take_holding(&mut self.by_koid, koid, active)?;
+        queue_signal(&mut self.by_koid, wait.port, packet_of(koid, active, &wait));
+        Some(wait)
     }
+}
+
+/// Reserves a place at the port.
+#[tactic(auto, using(crate::proofs::ByKoid::by_koid))]
+fn reserve_wait(by_koid: &mut BTreeMap<Koid, Object>, port: Koid) -> Result<(), AllocError>
+    ensures ok { OnOk result
+        (by_koid.new.entries ≡ update by_koid.old.entries port (at_port with_place)) }
+    ensures unchanged { OnErr result (by_koid.new.entries ≡ by_koid.old.entries) }
+{
+    let Some(object) = by_koid.get_mut(&port) else {
+        return Ok(());
+    };
+    object.reserve_wait()
+}
+
+/// Registers the wait at the object.
+#[tactic(auto, using(crate::proofs::ByKoid::by_koid))]
+fn register(
+    by_koid: &mut BTreeMap<Koid, Object>,
+    koid: Koid,
+    watch: Watch,
+) -> Result<(), AllocFailed<Watch>>
+    ensures ok { OnOk result
+        (by_koid.new.entries ≡ update by_koid.old.entries koid (watched watch)) }
+    ensures unchanged { OnErr result (by_koid.new.entries ≡ by_koid.old.entries) }
+    ensures handed_back { IfErr result (λ refused. refused.value ≡ watch) }
+{
+    let Some(object) = by_koid.get_mut(&koid) else {
+        return Ok(());
+    };
+    object.watch(watch)
+}
+
+/// Gives a reserved place back at the port, if one is reserved.
+#[tactic(auto, using(crate::proofs::ByKoid::by_koid))]
+fn give_back(by_koid: &mut BTreeMap<Koid, Object>, port: Koid)
+    ensures { by_koid.new.entries ≡ update by_koid.old.entries port (at_port without_place) }
+{
+    let Some(object) = by_koid.get_mut(&port) else {
+        return;
+    };
+    object.give_back();
+}
+
+/// Puts the packet of a wait behind all others at the port, in a reserved place.
+#[tactic(auto, using(crate::proofs::ByKoid::by_koid))]
+fn queue_signal(by_koid: &mut BTreeMap<Koid, Object>, port: Koid, packet: Packet)
+    requires { IsTrue (has_place_in (get by_koid.old.entries port)) }
+    ensures { by_koid.new.entries ≡ update by_koid.old.entries port
+        (at_port (λ p. with_packet (without_place p) packet)) }
+{
+    let Some(object) = by_koid.get_mut(&port) else {
+        return;
+    };
+    object.queue_signal(packet);
+}
+
+/// The packet of a wait that was registered at the object.
+fn packet_of(koid: Koid, active: Signals, wait: &Watch) -> Packet
+    ensures { result ≡ packet_of koid active.0 wait.now }
+{
+    Packet {
+        kind: PacketKind::Signal,
+        key: wait.key,
+        trigger: u64::from(wait.mask.bits()),
+        observed: u64::from(active.bits()),
+        source: Some(Source {
+            pid: wait.pid,
+            value: wait.value,
+            object: koid,
+        }),
+    }
+}
+
+/// Takes out the earliest such wait at the object; its place stays.
+#[tactic(auto, using(crate::proofs::ByKoid::by_koid))]
+fn take_handle(
+    by_koid: &mut BTreeMap<Koid, Object>,
+    koid: Koid,
+    pid: Pid,
+    value: HValue,
+) -> Option<Watch>
+    ensures earliest { result ≡ find (is_by_handle pid value) (waits_in (get by_koid.old.entries koid)) }
+    ensures rest { by_koid.new.entries
+        ≡ update by_koid.old.entries koid (unwatched (is_by_handle pid value)) }
+{
+    by_koid.get_mut(&koid)?.unwatch_handle(pid, value)
+}
+
+/// Takes out the earliest such wait at the object; its place stays.
+#[tactic(auto, using(crate::proofs::ByKoid::by_koid))]
+fn take_port(by_koid: &mut BTreeMap<Koid, Object>, koid: Koid, port: Koid) -> Option<Watch>
+    ensures earliest { result ≡ find (is_at_port port) (waits_in (get by_koid.old.entries koid)) }
+    ensures rest { by_koid.new.entries
+        ≡ update by_koid.old.entries koid (unwatched (is_at_port port)) }
+{
+    by_koid.get_mut(&koid)?.unwatch_port(port)
+}
+
+/// Takes out the earliest such wait at the object; its place stays.
+#[tactic(auto, using(crate::proofs::ByKoid::by_koid))]
+fn take_key(
+    by_koid: &mut BTreeMap<Koid, Object>,
+    koid: Koid,
+    pid: Pid,
+    value: HValue,
+    port: Koid,
+    key: u64,
+) -> Option<Watch>
+    ensures earliest { result ≡ find (is_keyed pid value port key) (waits_in (get by_koid.old.entries koid)) }
+    ensures rest { by_koid.new.entries
+        ≡ update by_koid.old.entries koid (unwatched (is_keyed pid value port key)) }
+{
+    by_koid.get_mut(&koid)?.unwatch_key(pid, value, port, key)
+}
+
+/// Takes out the earliest wait at the object that holds; its place stays.
+#[tactic(auto, using(crate::proofs::ByKoid::by_koid))]
+fn take_holding(by_koid: &mut BTreeMap<Koid, Object>, koid: Koid, active: Signals) -> Option<Watch>
+    ensures earliest { result ≡ find (holds active.0) (waits_in (get by_koid.old.entries koid)) }
+    ensures rest { by_koid.new.entries
+        ≡ update by_koid.old.entries koid (unwatched (holds active.0)) }
+{
+    by_koid.get_mut(&koid)?.fire(active)
 }

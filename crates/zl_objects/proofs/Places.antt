@@ -1,0 +1,243 @@
+-- The places that are reserved for the packets of waits, after each change of the objects.
+use Rattle.zl_rights.proofs.Common.{◌≡◌, ◌+◌, ◌<◌, ◌≤◌, ◌⊎◌, ℕ, suc, take, drop, Bool, true, false, not, ◌&&◌, ◌==◌, List, [], ◌∷◌, ◌++◌, refl, sym, ap, ◌∙◌, subst, cond, Option, Some, None, inl, inr, IsTrue, arith, eq-eqb, nat_lt, if◌then◌else◌, count_by, sum_by-cons, option_map, find, cases_Bool, eqb-true, false≢true, and_parts, and_from, nat_tests, Map, get, has_key, put, update}
+use Rattle.std.specs.Prelude.{◌-◌}
+use Rattle.std.specs.List.{position_or_len}
+use Rattle.std.proofs.lemmas.List.Sums.{sum_by-append}
+use Rattle.zl_rights.proofs.MapLaws.{get-put, get-update}
+use Rattle.zl_table.proofs.MapEdits.{has_key-update, update_missing}
+use Rattle.zl_signals.specs.declared.watch.Watch.{Watch}
+use Rattle.zl_signals.specs.Waits.{is_at_port, without_first}
+use Rattle.zl_port.specs.Packets.{Port, with_place, without_place}
+use Rattle.zl_objects.specs.declared.object.Body.{Body}
+use Rattle.zl_objects.specs.declared.object.Body.TheVariants as body
+use Rattle.zl_objects.specs.declared.object.Object.{Object}
+use Rattle.zl_objects.specs.Ports.{at_port, changed_port, has_place_in, is_port_at, is_port_in, reserved_in, reserved_of}
+use Rattle.zl_objects.specs.Waits.{HavePlaces, HavePlacesWith, has_gone, one_for, unwatched, waits_at, waits_for, waits_in, watched}
+use Rattle.zl_objects.proofs.ByKoid.{put_last}
+use Rattle.zl_objects.proofs.Sums.{sum_no_more, sum_updated}
+
+-- ---- one object is written
+
+-- what is seen of each object, where the change keeps it
+pub seen_updated : {X : Type 0} (g : Option Object → X) (f : Object → Object) → ((o : Object) → g (Some (f o)) ≡ g (Some o)) → (m : Map Object) (k j : ℕ) → g (get (update m k f) j) ≡ g (get m j)
+seen_updated g f same m k j = ap g (get-update m k f j) ∙ elim (cases_Bool (k == j)) as (λ _. g (if k == j then option_map f (get m j) else get m j) ≡ g (get m j)) [
+  | inl here ↦ rw here (by_object (get m j))
+  | inr apart ↦ rw apart refl
+]
+  where
+    by_object : (o : Option Object) → g (option_map f o) ≡ g o
+    by_object None = refl
+    by_object (Some o) = same o
+
+gone_updated : (m : Map Object) (next k j : ℕ) (f : Object → Object) → has_gone (update m k f) next j ≡ has_gone m next j
+gone_updated m next k j f = ap (λ b. nat_lt j next && not b) (has_key-update m k f j)
+
+-- no wait more, and as many places
+pub places_updated : (f : Object → Object) → ((j : ℕ) (o : Object) → waits_for j (f o) ≤ waits_for j o) → ((o : Object) → reserved_of (f o).body ≡ reserved_of o.body)
+    → (x : Option Watch) (m : Map Object) (next k : ℕ) → HavePlacesWith x m next → HavePlacesWith x (update m k f) next
+places_updated f fewer same x m next k have j left =
+    let reserved : reserved_in (get (update m k f) j) ≡ reserved_in (get m j) = seen_updated reserved_in f same m k j in
+    omega (arith, have j (sym (gone_updated m next k j f) ∙ left), sum_no_more (λ (e : ℕ × Object). waits_for j e.1) m k f (fewer j), reserved)
+
+-- ---- the first wait that passes is taken out
+
+cut_later : {X : Type 0} (n : ℕ) (x : X) (xs : List X) → take (1 + n) (x ∷ xs) ++ drop (1 + n + 1) (x ∷ xs) ≡ x ∷ (take n xs ++ drop (n + 1) xs)
+cut_later n x xs =
+    let one : ◌≡◌ {A = ℕ} (1 + n) (suc n) = omega arith in
+    let two : ◌≡◌ {A = ℕ} (1 + n + 1) (suc (n + 1)) = omega arith in
+    λ i. take (one i) (x ∷ xs) ++ drop (two i) (x ∷ xs)
+
+first_out : {X : Type 0} (test : X → Bool) (x : X) (xs : List X) → without_first test (x ∷ xs) ≡ cond (test x) xs (x ∷ without_first test xs)
+first_out test x xs = elim (cases_Bool (test x)) as (λ _. without_first test (x ∷ xs) ≡ cond (test x) xs (x ∷ without_first test xs)) [
+  | inl here ↦ rw here refl
+  | inr apart ↦ rw apart (cut_later (position_or_len test xs) x xs)
+]
+
+counted_out : (j : ℕ) (test : Watch → Bool) (xs : List Watch) → count_by (is_at_port j) xs ≡ count_by (is_at_port j) (without_first test xs) + one_for j (find test xs)
+counted_out j test [] = refl
+counted_out j test (x ∷ xs) = elim (cases_Bool (test x)) as (λ _. count_by (is_at_port j) (x ∷ xs) ≡ count_by (is_at_port j) (without_first test (x ∷ xs)) + one_for j (find test (x ∷ xs))) [
+  | inl here ↦ rw (first_out test x xs, here) (omega (arith, sum_by-cons (λ (y : Watch). cond (is_at_port j y) 1 0) x xs))
+  | inr apart ↦ rw (first_out test x xs, apart) (omega (arith, sum_by-cons (λ (y : Watch). cond (is_at_port j y) 1 0) x xs, sum_by-cons (λ (y : Watch). cond (is_at_port j y) 1 0) x (without_first test xs), counted_out j test xs))
+]
+
+-- the place of what was taken out is left
+pub places_unwatched : (test : Watch → Bool) (m : Map Object) (next k : ℕ) → HavePlaces m next → HavePlacesWith (find test (waits_in (get m k))) (update m k (unwatched test)) next
+places_unwatched test m next k have = by_object (get m k) refl
+  where
+    by_object : (q : Option Object) → get m k ≡ q → HavePlacesWith (find test (waits_in q)) (update m k (unwatched test)) next
+    by_object None is j left = rw (update_missing m k (unwatched test) is) (have j (rw (update_missing m k (unwatched test) is) at left))
+    by_object (Some o) is j left =
+        let reserved : reserved_in (get (update m k (unwatched test)) j) ≡ reserved_in (get m j) = seen_updated reserved_in (unwatched test) (λ q. refl) m k j in
+        omega (arith, have j (sym (gone_updated m next k j (unwatched test)) ∙ left), sum_updated (λ (e : ℕ × Object). waits_for j e.1) m k o (unwatched test) is, counted_out j test o.signals.waits, reserved)
+
+-- ---- the port of one wait
+
+reserved_at_port : (f : Port → Port) (m : Map Object) (p j : ℕ) → reserved_in (get (update m p (at_port f)) j) ≡ (if p == j then reserved_in (option_map (at_port f) (get m j)) else reserved_in (get m j))
+reserved_at_port f m p j = ap reserved_in (get-update m p (at_port f) j) ∙ elim (p == j) as (λ b. reserved_in (if b then option_map (at_port f) (get m j) else get m j) ≡ (if b then reserved_in (option_map (at_port f) (get m j)) else reserved_in (get m j))) [ true ↦ refl | false ↦ refl ]
+
+waits_at_port : (f : Port → Port) (m : Map Object) (p j : ℕ) → waits_at (update m p (at_port f)) j ≤ waits_at m j
+waits_at_port f m p j = sum_no_more (λ (e : ℕ × Object). waits_for j e.1) m p (at_port f) (λ o. omega arith)
+
+-- its place is no longer reserved
+pub places_used : (f : Port → Port) → ((p : Port) → (f p).reserved ≡ p.reserved - 1) → (x : Watch) (m : Map Object) (next : ℕ) → HavePlacesWith (Some x) m next → HavePlaces (update m x.port (at_port f)) next
+places_used f less x m next have j left = elim (cases_Bool (x.port == j)) as (λ _. waits_at (update m x.port (at_port f)) j + 0 ≤ reserved_in (get (update m x.port (at_port f)) j)) [
+  | inl here ↦
+      let one : ◌≡◌ {A = ℕ} (cond (x.port == j) 1 0) 1 = rw here refl in
+      let reserved : reserved_in (get (update m x.port (at_port f)) j) ≡ reserved_in (get m j) - 1 = reserved_at_port f m x.port j ∙ rw here (by_object (get m j)) in
+      omega (arith, have j before, waits_at_port f m x.port j, one, reserved)
+  | inr apart ↦
+      let reserved : reserved_in (get (update m x.port (at_port f)) j) ≡ reserved_in (get m j) = reserved_at_port f m x.port j ∙ rw apart refl in
+      omega (arith, have j before, waits_at_port f m x.port j, reserved)
+]
+  where
+    before : has_gone m next j ≡ false
+    before = sym (gone_updated m next x.port j (at_port f)) ∙ left
+
+    by_body : (b : Body) → reserved_of (changed_port f b) ≡ reserved_of b - 1
+    by_body body.RootJob = refl
+    by_body (body.Process job lives) = refl
+    by_body body.Event = refl
+    by_body (body.ChannelEnd peer queue) = refl
+    by_body (body.Port port) = less port
+
+    by_object : (o : Option Object) → reserved_in (option_map (at_port f) o) ≡ reserved_in o - 1
+    by_object None = refl
+    by_object (Some o) = by_body o.body
+
+-- a place is reserved for it
+pub places_made : (x : Watch) (m : Map Object) (next : ℕ) → IsTrue (is_port_at m x.port) → HavePlaces m next → HavePlacesWith (Some x) (update m x.port (at_port with_place)) next
+places_made x m next port have j left = elim (cases_Bool (x.port == j)) as (λ _. waits_at (update m x.port (at_port with_place)) j + cond (x.port == j) 1 0 ≤ reserved_in (get (update m x.port (at_port with_place)) j)) [
+  | inl here ↦
+      let one : ◌≡◌ {A = ℕ} (cond (x.port == j) 1 0) 1 = rw here refl in
+      let reserved : reserved_in (get (update m x.port (at_port with_place)) j) ≡ reserved_in (get m j) + 1 = reserved_at_port with_place m x.port j ∙ rw here (by_object (get m j) (subst (λ (i : ℕ). IsTrue (is_port_at m i)) (eqb-true x.port j here) port)) in
+      omega (arith, have j before, waits_at_port with_place m x.port j, one, reserved)
+  | inr apart ↦
+      let none : ◌≡◌ {A = ℕ} (cond (x.port == j) 1 0) 0 = rw apart refl in
+      let reserved : reserved_in (get (update m x.port (at_port with_place)) j) ≡ reserved_in (get m j) = reserved_at_port with_place m x.port j ∙ rw apart refl in
+      omega (arith, have j before, waits_at_port with_place m x.port j, none, reserved)
+]
+  where
+    before : has_gone m next j ≡ false
+    before = sym (gone_updated m next x.port j (at_port with_place)) ∙ left
+
+    by_object : (o : Option Object) → IsTrue (is_port_in o) → reserved_in (option_map (at_port with_place) o) ≡ reserved_in o + 1
+    by_object None h = absurd (false≢true h)
+    by_object (Some o) h = by_body o.body h
+      where
+        by_body : (b : Body) → IsTrue (is_port_in (Some (record o { body = b }))) → reserved_of (changed_port with_place b) ≡ reserved_of b + 1
+        by_body body.RootJob no_port = absurd (false≢true no_port)
+        by_body (body.Process job lives) no_port = absurd (false≢true no_port)
+        by_body body.Event no_port = absurd (false≢true no_port)
+        by_body (body.ChannelEnd peer queue) no_port = absurd (false≢true no_port)
+        by_body (body.Port p) is_port = refl
+
+-- it is registered, in its place
+pub places_taken : (x : Watch) (m : Map Object) (next k : ℕ) → HavePlacesWith (Some x) m next → HavePlaces (update m k (watched x)) next
+places_taken x m next k have = by_object (get m k) refl
+  where
+    by_object : (q : Option Object) → get m k ≡ q → HavePlaces (update m k (watched x)) next
+    by_object None is j left = rw (update_missing m k (watched x) is) (omega (arith, have j (rw (update_missing m k (watched x) is) at left)))
+    by_object (Some o) is j left =
+        let reserved : reserved_in (get (update m k (watched x)) j) ≡ reserved_in (get m j) = seen_updated reserved_in (watched x) (λ q. refl) m k j in
+        omega (
+          arith,
+          have j (sym (gone_updated m next k j (watched x)) ∙ left),
+          sum_updated (λ (e : ℕ × Object). waits_for j e.1) m k o (watched x) is,
+          sum_by-append (λ (y : Watch). cond (is_at_port j y) 1 0) o.signals.waits (x ∷ []),
+          sum_by-cons (λ (y : Watch). cond (is_at_port j y) 1 0) x [],
+          reserved,
+        )
+
+-- a place is there
+pub place_there : (x : Watch) (m : Map Object) (next : ℕ) → HavePlacesWith (Some x) m next → IsTrue (has_place_in (get m x.port))
+place_there x m next have = by_object (get m x.port) refl
+  where
+    by_object : (q : Option Object) → get m x.port ≡ q → IsTrue (has_place_in q)
+    by_object None is = refl
+    by_object (Some o) is = by_body o.body refl
+      where
+        here : (x.port == x.port) ≡ true
+        here = eq-eqb x.port x.port refl
+
+        and_no : (b : Bool) → (b && false) ≡ false
+        and_no true = refl
+        and_no false = refl
+
+        by_body : (b : Body) → o.body ≡ b → IsTrue (has_place_in (Some (record o { body = b })))
+        by_body body.RootJob same = refl
+        by_body (body.Process job lives) same = refl
+        by_body body.Event same = refl
+        by_body (body.ChannelEnd peer queue) same = refl
+        by_body (body.Port p) same =
+            let one : ◌≡◌ {A = ℕ} (cond (x.port == x.port) 1 0) 1 = rw here refl in
+            let reserved : reserved_in (get m x.port) ≡ p.reserved = ap reserved_in is ∙ ap reserved_of same in
+            let some : 0 < p.reserved = omega (arith, have x.port (rw is (and_no (nat_lt x.port next))), one, reserved) in
+            grind (arith, nat_tests, some)
+
+-- the place is given back, as there was no memory for the wait
+pub place_back : (m : Map Object) (p : ℕ) → update (update m p (at_port with_place)) p (at_port without_place) ≡ m
+unfolding update
+place_back [] p = refl
+place_back (e ∷ m) p = elim (cases_Bool (e.0 == p)) as (λ _. update (update (e ∷ m) p (at_port with_place)) p (at_port without_place) ≡ e ∷ m) [
+  | inl here ↦ rw (here, eq-eqb p p refl) (λ i. (sym (eqb-true e.0 p here) i, same_object e.1 i) ∷ m)
+  | inr apart ↦ rw (apart, apart) (ap (λ (n : Map Object). e ∷ n) (place_back m p))
+]
+  where
+    same_body : (b : Body) → changed_port without_place (changed_port with_place b) ≡ b
+    same_body body.RootJob = refl
+    same_body (body.Process job lives) = refl
+    same_body body.Event = refl
+    same_body (body.ChannelEnd peer queue) = refl
+    same_body (body.Port q) =
+        let reserved : ◌≡◌ {A = ℕ} (q.reserved + 1 - 1) q.reserved = omega arith in
+        ap (λ (n : ℕ). body.Port (record q { reserved = n })) reserved
+
+    same_object : (o : Object) → at_port without_place (at_port with_place o) ≡ o
+    same_object o = ap (λ (b : Body). record o { body = b }) (same_body o.body)
+
+-- ---- one object more
+
+pub places_put : (m : Map Object) (next : ℕ) (o : Object) → ((j : ℕ) → IsTrue (has_key m j) → j < next) → o.signals.waits ≡ [] → HavePlaces m next → HavePlaces (put m next o) (next + 1)
+places_put m next o below none have j left = by_key (cases_Bool (next == j))
+  where
+    no_waits : ◌≡◌ {A = ℕ} (waits_for j o) 0
+    no_waits = rw none refl
+
+    waits : waits_at (put m next o) j ≡ waits_at m j
+    waits = rw (put_last m next o below) (omega (arith, sum_by-append (λ (e : ℕ × Object). waits_for j e.1) m ((next, o) ∷ []), sum_by-cons (λ (e : ℕ × Object). waits_for j e.1) (next, o) [], no_waits))
+
+    reserved : reserved_in (get (put m next o) j) ≡ reserved_in (if next == j then Some o else get m j)
+    reserved = ap reserved_in (get-put m next o j)
+
+    -- no object has the new koid yet
+    fresh : (q : Option Object) → get m next ≡ q → ◌≡◌ {A = ℕ} (reserved_in q) 0
+    fresh None is = refl
+    fresh (Some q) is = absurd (omega (arith, below next (rw is refl)))
+
+    not_gone : has_gone m next next ≡ false
+    not_gone =
+        let out : nat_lt next next ≡ false = grind (arith, nat_tests) in
+        rw out refl
+
+    still : (next == j) ≡ false → has_gone m next j ≡ false
+    still apart = elim (cases_Bool (has_gone m next j)) as (λ _. has_gone m next j ≡ false) [
+      | inr there ↦ there
+      | inl gone ↦
+          let both = and_parts (nat_lt j next) (not (has_key m j)) gone in
+          let lower : IsTrue (nat_lt j (next + 1)) = later both.0 in
+          absurd (false≢true (sym left ∙ and_from (nat_lt j (next + 1)) (not (has_key (put m next o) j)) lower (rw (get-put m next o j, apart) both.1)))
+    ]
+      where
+        later : IsTrue (nat_lt j next) → IsTrue (nat_lt j (next + 1))
+        later h = grind (arith, nat_tests, h)
+
+    by_key : IsTrue (next == j) ⊎ ((next == j) ≡ false) → waits_at (put m next o) j + 0 ≤ reserved_in (get (put m next o) j)
+    by_key (inl here) =
+        let same : next ≡ j = eqb-true next j here in
+        let before : waits_at m next + 0 ≤ reserved_in (get m next) = have next not_gone in
+        let nothing : ◌≡◌ {A = ℕ} (waits_at m next) 0 = omega (arith, before, fresh (get m next) refl) in
+        let moved : waits_at m next ≡ waits_at m j = ap (waits_at m) same in
+        omega (arith, waits, moved, nothing)
+    by_key (inr apart) =
+        let old : reserved_in (get (put m next o) j) ≡ reserved_in (get m j) = reserved ∙ rw apart refl in
+        omega (arith, waits, old, have j (still apart))

@@ -52,6 +52,11 @@ request_of name.ChanWrite (c ∷ address ∷ size ∷ []) number bytes hs = Some
 request_of name.ChanReadEtc (c ∷ address ∷ room ∷ []) number bytes hs = Some (chan_read_etc c address room number)
 request_of name.EventCreate [] number bytes hs = Some event_create
 request_of name.Signal (h ∷ clear ∷ set ∷ []) number bytes hs = Some (signal h clear set)
+request_of name.SignalPeer (h ∷ clear ∷ set ∷ []) number bytes hs = Some (signal_peer h clear set)
+request_of name.WaitPoll (h ∷ mask ∷ []) number bytes hs = Some (wait_poll h mask)
+request_of name.PortCreate [] number bytes hs = Some port_create
+request_of name.PortQueue (port ∷ key ∷ value ∷ []) number bytes hs = Some (port_queue port key value)
+request_of name.PortPoll (port ∷ []) number bytes hs = Some (port_poll port)
 request_of name.ProcessExit (code ∷ []) number bytes hs = Some (process_exit code)
 request_of _ operands number bytes hs = None
 

@@ -191,6 +191,11 @@ fired-same w none = λ i. record w {
     unchanged : (k : ℕ) (o : Object) → record o { body = body_with_packets (packets_for w k) o.body } ≡ o
     unchanged k o = λ i. record o { body = (ap (λ xs. body_with_packets (map (packet_of w) xs) o.body) (filter_none _ w.waits (list_any-and (holds w) (λ x. x.port == k) w.waits none)) ∙ no_packets o.body) i }
 
+-- where no wait holds, waking is the turns of the blocked processes, one after another
+pub wakes_turns : (w : World) → list_any (holds w) w.waits ≡ false → wakes w ≡ fold woken w w.blocked
+unfolding wakes
+wakes_turns w none = ap (λ v. fold woken v w.blocked) (fired-same w none)
+
 pub wakes-again : (w : World) → wakes (wakes w) ≡ wakes w
 unfolding wakes fired
 wakes-again w =

@@ -1,5 +1,5 @@
 -- No call but wait_async and port_cancel looks at registered waits or at blocked processes: it does the same whatever waits beside it.
-use Rattle.zl_code.proofs.Common.{◌≡◌, ℕ, ℤ, Bool, true, false, not, ◌==◌, ◌&&◌, List, [], ◌∷◌, ◌++◌, filter, refl, ap, sym, subst, ◌∙◌, IsTrue, Option, Some, None, true≢false, World, Process, Ready, Library, Site, Request, chan_read_etc, close, replace, effect, new_handles, gives_ok, gives_refused, taken_handles, may_choose, replied, taken, with_effect, ok_outcome, after_ok, after_refusal, CallBy, Choice, Refused, WantsMemory, Values, Calls, handles_to, listed, refusal, examined, operand, has_room, has_koids, creates, by_policy, Operand, operand_after, seen_after, handle_operands, first_some, on_process, on_object, with_object, insert_all, remove_all, process_with, process_without, ended, gets_all, is_process, active, has_child_job, has_child_process, get, is_empty, copy_of, entry_at, answer_if, operand_of, by_look_up, faults, ends_if_kill, action_of, parent_of, unless_allowed, contains, bits, within, takes, if◌then◌else◌, Ok, Err, Blocked, Koids, Settles, IsLargestHeld, is_held, in_table, in_queue, has_living_child, without_others, is_made_by_handle, row_of, none-some, next_for, Acts, Next, Moves, AtCall, IsStuck, Step, wakes}
+use Rattle.zl_code.proofs.Common.{◌≡◌, ℕ, ℤ, Bool, true, false, not, ◌==◌, ◌&&◌, List, [], ◌∷◌, filter, refl, ap, sym, ◌∙◌, Option, Some, None, true≢false, World, Library, Site, Request, chan_read_etc, close, replace, effect, new_handles, gives_ok, gives_refused, taken_handles, may_choose, replied, taken, with_effect, ok_outcome, after_ok, after_refusal, CallBy, Choice, Refused, WantsMemory, Values, Calls, handles_to, listed, refusal, examined, operand, has_room, has_koids, creates, by_policy, Operand, operand_after, seen_after, handle_operands, first_some, on_process, on_object, with_object, insert_all, remove_all, process_with, process_without, ended, gets_all, is_process, active, has_child_job, has_child_process, get, is_empty, copy_of, entry_at, answer_if, operand_of, by_look_up, faults, ends_if_kill, action_of, parent_of, unless_allowed, contains, bits, within, takes, if◌then◌else◌, Ok, Err}
 use Rattle.zl_rights.specs.declared.entry.Entry.{Entry}
 use Rattle.zl_rights.specs.declared.kind.Kind.{Kind}
 use Rattle.zl_rights.specs.declared.policy.Action.{Action}
@@ -8,14 +8,11 @@ use Rattle.zl_rights.specs.declared.policy.Condition.{Condition}
 use Rattle.zl_rights.specs.declared.policy.Condition.TheVariants as condition
 use Rattle.zl_rights.specs.declared.status.Status.{Status}
 use Rattle.zl_rights.specs.declared.status.Status.TheVariants as status
-use Rattle.zl_rights.specs.World.{Awaited, Wait}
-use Rattle.zl_code.specs.declared.history.CallName.{CallName}
+use Rattle.zl_rights.specs.World.{Wait}
 use Rattle.zl_code.specs.declared.history.Outcome.{Outcome}
 use Rattle.zl_code.specs.declared.history.Outcome.TheVariants as outcome
-use Rattle.zl_code.specs.declared.history.TraceItem.{TraceItem}
-use Rattle.zl_code.specs.declared.history.TraceItem.TheVariants as item
-use Rattle.zl_code.specs.CallTable.{awaited_by, choosing, entering_at, outcome_of, stored_by, wait_async, wait_one, wait_poll, port_wait, port_cancel}
-use Rattle.zl_code.specs.Effects.{storing, waiting}
+use Rattle.zl_code.specs.CallTable.{awaited_by, choosing, entering_at, outcome_of, stored_by, wait_async, wait_one, wait_poll, port_cancel}
+use Rattle.zl_code.specs.Effects.{storing}
 use Rattle.zl_code.specs.Refusals.{condition_of}
 
 -- the world in which these waits are registered, so many ever were, and these processes are blocked
@@ -95,31 +92,37 @@ waits_left (replace h rights) p ws = filter (λ x. not ((x.pid == p) && (x.value
 waits_left _ p ws = ws
 
 module _ (p : ℕ) (ws : List Wait) (n : ℕ) (b : List ℕ) where
+  -- handles enter a table alike
   pub insert_among : (w : World) (es : List Entry) (vs : List ℕ) → insert_all (with_waiters w ws n b) p es vs ≡ with_waiters (insert_all w p es vs) ws n b
   unfolding insert_all on_process
   insert_among w [] vs = refl
   insert_among w (e ∷ es) [] = refl
   insert_among w (e ∷ es) (v ∷ vs) = insert_among (on_process w p (process_with v e)) es vs
 
+  -- handles leave it alike
   pub remove_among : (w : World) (hs : List ℕ) → remove_all (with_waiters w ws n b) p hs ≡ with_waiters (remove_all w p hs) ws n b
   unfolding remove_all on_process
   remove_among w [] = refl
   remove_among w (h ∷ hs) = remove_among (on_process w p (process_without h)) hs
 
+  -- bytes are stored alike
   pub storing_among : (w : World) (at : ℕ × List ℕ) → storing (with_waiters w ws n b) p at ≡ with_waiters (storing w p at) ws n b
   unfolding on_process
   storing_among w (address, []) = refl
   storing_among w (address, x ∷ bytes) = refl
 
+  -- a caller is answered alike
   pub replied_among : (w : World) (s : Site) (answer : Status) (values : List ℕ) → replied (with_waiters w ws n b) p s answer values ≡ with_waiters (replied w p s answer values) ws n b
   unfolding replied on_process
   replied_among w s answer values = refl
 
+  -- a process ends alike, and is no longer blocked
   pub ended_among : (w : World) (code : ℤ) → ended (with_waiters w ws n b) p code ≡ with_waiters (ended w p code) ws n (filter (λ q. not (q == p)) b)
   unfolding ended on_process
   ended_among w code = refl
 
 module _ (lib : Library) (w : World) (p : ℕ) (ws : List Wait) (n : ℕ) (b : List ℕ) where
+  -- the effect is the same; of the waits, just replace ends some
   pub effect_among : (u : World) (r : Request) → looks_at_waits r ≡ false → effect lib (with_waiters w ws n b) (with_waiters u ws n b) p r ≡ with_waiters (effect lib w u p r) (waits_left r p ws) n b
   unfolding effect on_object with_object
   effect_among u (wait_async h port key mask) looks = absurd (true≢false looks)
@@ -127,6 +130,7 @@ module _ (lib : Library) (w : World) (p : ℕ) (ws : List Wait) (n : ℕ) (b : L
   effect_among u (replace h rights) looks = refl
   effect_among u _ looks = refl
 
+  -- so is all that it does but for the answer
   pub with_effect_among : (u : World) (r : Request) (vs : List ℕ) → looks_at_waits r ≡ false
       → with_effect lib (with_waiters w ws n b) (with_waiters u ws n b) p r vs ≡ with_waiters (with_effect lib w u p r vs) (waits_left r p ws) n b
   with_effect_among u r vs looks =
@@ -240,7 +244,8 @@ module _ (lib : Library) (w : World) (p : ℕ) where
     ok_among vs (outcome.Ended code) goes = λ i. ended (done_among vs i) p code
     ok_among vs outcome.Blocked goes = absurd (true≢false goes)
 
-    chosen_among : (vs : List ℕ) → may_choose w (taken w p s) p s.request vs ≡ may_choose (with_waiters w ws n b) (taken (with_waiters w ws n b) p s) p s.request vs
+    -- the same values may be chosen
+    pub chosen_among : (vs : List ℕ) → may_choose w (taken w p s) p s.request vs ≡ may_choose (with_waiters w ws n b) (taken (with_waiters w ws n b) p s) p s.request vs
     unfolding may_choose
     chosen_among vs = λ i. gets_all (get (sym taken_among i).processes p) (sym (choosing_same lib w p ws n b s.request) i) vs
 
@@ -279,146 +284,6 @@ module _ (lib : Library) (w : World) (p : ℕ) where
         → CallBy lib (with_waiters w ws n b) p s choice (refusal lib (with_waiters w ws n b) p s.request) o (with_waiters w2 (waits_after s.request o p ws) n (blocked_after o p b))
     call_among choice o w2 goes c = rw (refusal_same lib w p ws n b s.request looks) (by_among choice (refusal lib w p s.request) o w2 refl goes c)
 
+    -- the same of the relation of calls
     pub calls_among : (o : Outcome) (w2 : World) → is_blocking o ≡ false → Calls lib w p s o w2 → Calls lib (with_waiters w ws n b) p s o (with_waiters w2 (waits_after s.request o p ws) n (blocked_after o p b))
     calls_among o w2 goes c = (c.0, call_among c.0 o w2 goes c.1)
-
--- ---- what a process does
-
--- what stands next is a call that looks at waits
-abbrev pub next_looks : Next → Bool
-next_looks (AtCall call s) = looks_at_waits s.request
-next_looks _ = false
-
--- the item tells of a call that blocks
-abbrev pub tells_blocking : TraceItem → Bool
-tells_blocking (item.Call pid call o) = is_blocking o
-tells_blocking _ = false
-
--- what is left of the waits, where the process does so
-abbrev pub waits_by : Next → TraceItem → List Wait → List Wait
-waits_by (AtCall call s) (item.Call pid name o) ws = waits_after s.request o pid ws
-waits_by next x ws = ws
-
--- what is left of the blocked processes, where the item tells of the step
-abbrev pub blocked_by : TraceItem → List ℕ → List ℕ
-blocked_by (item.Run pid count) b = b
-blocked_by (item.Call pid call o) b = blocked_after o pid b
-blocked_by (item.Stuck pid) b = filter (λ q. not (q == pid)) b
-
--- a process does the same, unless it blocks, and leaves the waits and the blocked as they were but for its own
-pub acts_among : (lib : Library) (w : World) (p : ℕ) (ws : List Wait) (n : ℕ) (b : List ℕ) (next : Next) (x : TraceItem) (w2 : World) → next_looks next ≡ false → tells_blocking x ≡ false
-    → Acts lib w p next x w2 → Acts lib (with_waiters w ws n b) p next x (with_waiters w2 (waits_by next x ws) n (blocked_by x b))
-unfolding on_process ended
-acts_among lib w p ws n b (Moves c) x w2 looks goes acts = (acts.0, λ i. with_waiters (acts.1 i) ws n (blocked_by (acts.0 i) b))
-acts_among lib w p ws n b (AtCall call s) x w2 looks goes (o, is, calls) = (
-  o,
-  is,
-  subst (λ y. Calls lib (with_waiters w ws n b) p s o (with_waiters w2 (waits_by (AtCall call s) y ws) n (blocked_by y b))) (sym is)
-      (calls_among lib w p ws n b s looks o w2 (sym (ap tells_blocking is) ∙ goes) calls),
-)
-acts_among lib w p ws n b IsStuck x w2 looks goes acts = (acts.0, λ i. with_waiters (acts.1 i) ws n (blocked_by (acts.0 i) b))
-
--- ---- what isn't held goes
-
--- the waits that stay where the objects of K alone do
-abbrev pub waits_kept : World → Koids → List Wait → List Wait
-waits_kept w K ws = filter (λ x. is_made_by_handle w x && K x.port) ws
-
-module _ (w w2 : World) (n : ℕ) (b : List ℕ) where
-  -- the same is held
-  largest_among : (ws : List Wait) (K : Koids) → IsLargestHeld w K → IsLargestHeld (with_waiters w ws n b) K
-  unfolding is_held in_table in_queue is_process has_living_child
-  largest_among ws K largest = record { held = largest.held; largest = largest.largest }
-
-  pub settles_among : (ws : List Wait) (settles : Settles w w2) → Settles (with_waiters w ws n b) (with_waiters w2 (waits_kept w settles.0 ws) n b)
-  unfolding without_others is_made_by_handle
-  settles_among ws (K, largest, is) = (K, largest_among ws K largest, ap (λ u. with_waiters u (waits_kept w K ws) n b) is)
-
-  -- where no wait is registered, it settles alike beside blocked processes
-  pub settles_beside : Settles w w2 → Settles (with_waiters w [] n b) (with_waiters w2 [] n b)
-  settles_beside settles = settles_among [] settles
-
--- ---- a call that blocks
-
--- the process p of the world waits for this
-abbrev pub blocked_in : World → (p : ℕ) → Awaited → (destinations : List ℕ) → World
-blocked_in w p awaited destinations = on_process w p (λ x. record x { state = Blocked awaited destinations })
-
-module _ (lib : Library) (w : World) (p : ℕ) (q : Process) (there : get w.processes p ≡ Some q) where
-  -- no value is to be chosen
-  may_block : (r : Request) (awaited : Awaited) → awaited_by w p r ≡ Some awaited → IsTrue (may_choose w (remove_all w p (taken_handles r)) p r [])
-  unfolding may_choose new_handles remove_all taken_handles handle_operands row_of
-  may_block (wait_one h mask) awaited is = rw there refl
-  may_block (port_wait port) awaited is = rw there refl
-  may_block _ awaited is = absurd (none-some awaited is)
-
-  looks_at_none : (r : Request) (awaited : Awaited) → awaited_by w p r ≡ Some awaited → looks_at_waits r ≡ false
-  looks_at_none (wait_async h port key mask) awaited is = absurd (none-some awaited is)
-  looks_at_none (port_cancel port source key) awaited is = absurd (none-some awaited is)
-  looks_at_none _ awaited is = refl
-
-  -- a call blocks where it isn't refused and there is something to wait for; its process is then the last of the blocked
-  pub blocks_among : (ws : List Wait) (n : ℕ) (b : List ℕ) (s : Site) (awaited : Awaited) → refusal lib w p s.request ≡ None → awaited_by w p s.request ≡ Some awaited
-      → Calls lib (with_waiters w ws n b) p s outcome.Blocked (with_waiters (blocked_in w p awaited s.destinations) ws n (b ++ (p ∷ [])))
-  unfolding on_process
-  blocks_among ws n b s awaited passes waits =
-      let alike : awaited_by (with_waiters w ws n b) p s.request ≡ Some awaited = awaited_same lib w p ws n b s.request ∙ waits in (
-        Values [],
-        rw (refusal_same lib w p ws n b s.request (looks_at_none s.request awaited waits), passes, alike)
-            (sym (chosen_among lib w p ws n b s (looks_at_none s.request awaited waits) []) ∙ may_block s.request awaited waits, refl, ap (waiting (with_waiters w ws n b) p s.destinations) (sym alike)),
-      )
-
--- ---- a step
-
--- p acts in w, and what isn't held goes: a step but for what wakes
-pub record ActsAndSettles (lib : Library) (w : World) (p : ℕ) (x : TraceItem) (w2 : World) : Type 0 where
-  pub process : Process
-  pub is_there : get w.processes p ≡ Some process
-  pub is_ready : process.state ≡ Ready
-  pub acted : World
-  pub acts : Acts lib w p (next_for lib process) x acted
-  pub settles : Settles acted w2
-
-none_by : (next : Next) (x : TraceItem) → waits_by next x [] ≡ []
-none_by (AtCall call s) (item.Call pid name o) = by_request s.request o
-  where
-    by_request : (r : Request) (o : Outcome) → waits_after r o pid [] ≡ []
-    by_request (replace h rights) (outcome.Answered status.Ok) = refl
-    by_request (replace h rights) (outcome.Answered s) = refl
-    by_request (replace h rights) o = refl
-    by_request (close h) o = refl
-    by_request r o = refl
-none_by (AtCall call s) _ = refl
-none_by (Moves c) x = refl
-none_by IsStuck x = refl
-
--- it is a step beside blocked processes, which wake behind it, where it neither looks at waits nor blocks
-pub step_among : (lib : Library) (w : World) (p : ℕ) (x : TraceItem) (w2 : World) (steps : ActsAndSettles lib w p x w2) → next_looks (next_for lib steps.process) ≡ false → tells_blocking x ≡ false
-    → (n : ℕ) (b : List ℕ) → Step lib (with_waiters w [] n b) p x (wakes (with_waiters w2 [] n (blocked_by x b)))
-step_among lib w p x w2 steps looks goes n b =
-    let next = next_for lib steps.process in
-    record {
-      process = steps.process;
-      is_there = steps.is_there;
-      is_ready = steps.is_ready;
-      acted = with_waiters steps.acted [] n (blocked_by x b);
-      acts = subst (λ ws. Acts lib (with_waiters w [] n b) p next x (with_waiters steps.acted ws n (blocked_by x b))) (none_by next x) (acts_among lib w p [] n b next x steps.acted looks goes steps.acts);
-      settled = with_waiters w2 [] n (blocked_by x b);
-      settles = settles_beside steps.acted w2 n (blocked_by x b) steps.settles;
-      ends_awake = refl;
-    }
-
--- a call that blocks is a step beside blocked processes: its process is the last of those, and they wake behind it
-pub step_blocks : (lib : Library) (w : World) (p : ℕ) (q : Process) (there : get w.processes p ≡ Some q) → q.state ≡ Ready → (call : CallName) (s : Site) → next_for lib q ≡ AtCall call s
-    → (awaited : Awaited) → refusal lib w p s.request ≡ None → awaited_by w p s.request ≡ Some awaited → (w2 : World) → Settles (blocked_in w p awaited s.destinations) w2
-    → (n : ℕ) (b : List ℕ) → Step lib (with_waiters w [] n b) p (item.Call p call outcome.Blocked) (wakes (with_waiters w2 [] n (b ++ (p ∷ []))))
-step_blocks lib w p q there ready call s next awaited passes waits w2 settles n b = record {
-  process = q;
-  is_there = there;
-  is_ready = ready;
-  acted = with_waiters (blocked_in w p awaited s.destinations) [] n (b ++ (p ∷ []));
-  acts = rw next (outcome.Blocked, refl, blocks_among lib w p q there [] n b s awaited passes waits);
-  settled = with_waiters w2 [] n (b ++ (p ∷ []));
-  settles = settles_beside (blocked_in w p awaited s.destinations) w2 n (b ++ (p ∷ [])) settles;
-  ends_awake = refl;
-}

@@ -16,6 +16,7 @@ use Rattle.zl_calls.specs.declared.process.State.{State as OwnState}
 use Rattle.zl_calls.specs.declared.process.State.TheVariants as state
 use Rattle.zl_calls.specs.declared.booting.Made.{Made}
 use Rattle.zl_calls.proofs.BootFaults.{job_seen}
+use Rattle.zl_rights.specs.Signals.{has_ended}
 use Rattle.zl_rights.specs.World.{Message}
 use Rattle.zl_objects.specs.Objects.{queue_of}
 use Rattle.zl_objects.proofs.ByKoid.{put_last}
@@ -147,6 +148,14 @@ module _ (ps : List Process) (p : Process) (r : Objects) (making : IsMaking ps p
       alive state.Ready h = refl
       alive (state.Ended code) h = absurd (false≢true h)
 
+  going_on : is_process (world_value after grown) has_ended n ≡ false
+  unfolding is_process
+  going_on = rw (get_process n, eq-eqb n n refl) (not_over p.state ready)
+    where
+      not_over : (s : OwnState) → runs (state_value s) ≡ true → has_ended (state_value s) ≡ false
+      not_over state.Ready h = refl
+      not_over (state.Ended code) h = absurd (false≢true h)
+
   others_as_before : (j : ℕ) → (n == j) ≡ false → (test : StateValue → Bool) → is_process (world_value after grown) test j ≡ is_process (world_value ps r) test j
   unfolding is_process
   others_as_before j apart test = rw (get_process j, apart) refl
@@ -176,7 +185,7 @@ module _ (ps : List Process) (p : Process) (r : Objects) (making : IsMaking ps p
         (λ here is. let same : n ≡ j = eqb-true n j here in omega (arith, ap (λ (x : Object). x.handles) is, subst (λ (i : ℕ). ◌≡◌ {A = ℕ} (handles_to (world_value after grown) i) 0) same none_to_new))
         (λ apart old. omega (arith, sound.counted j q old, counts j));
     agrees = λ j q at. found_object (Agrees (world_value after grown) j q.body) j q at
-        (λ here is. subst (λ (i : ℕ). Agrees (world_value after grown) i q.body) (eqb-true n j here) (subst (λ (x : Object). Agrees (world_value after grown) n x.body) is (record { running = sym runs_new; living = sym lives_new })))
+        (λ here is. subst (λ (i : ℕ). Agrees (world_value after grown) i q.body) (eqb-true n j here) (subst (λ (x : Object). Agrees (world_value after grown) n x.body) is (record { running = sym runs_new; living = sym lives_new; over = sym going_on })))
         (λ apart old. still_agrees (world_value ps r) (world_value after grown) j q.body (others_as_before j apart) (sound.agrees j q old));
     in_jobs = λ j q at. found_object (IsTrue (is_in_job grown.objects q.body)) j q at
         (λ here is. subst (λ (x : Object). IsTrue (is_in_job grown.objects x.body)) is (job_grown job in_job))

@@ -2,6 +2,7 @@
 use Rattle.zl_calls.proofs.Common.{◌≡◌, ℕ, Bool, false, ◌==◌, List, refl, sym, ◌∙◌, subst, Option, Some, None, inl, inr, IsTrue, if◌then◌else◌, option_map, cases_Bool, none-some, same_Some, Map, get, update, get-update, false≢true, [], nat_cmp, is_sorted, is_kept, AreKeptBut, is_process, runs, lives, Agrees, AreNamed, IsNamed, World}
 use Rattle.zl_code.proofs.Common.{State as StateValue, slice_index_or}
 use Rattle.zl_rights.specs.declared.entry.Entry.{Entry}
+use Rattle.zl_rights.specs.Signals.{has_ended}
 use Rattle.zl_rights.specs.World.{Message}
 use Rattle.zl_objects.specs.declared.object.Body.{Body}
 use Rattle.zl_objects.specs.declared.object.Body.TheVariants as body
@@ -29,7 +30,7 @@ kept_each m in_order each = record { in_order = in_order; noted = λ k o at unke
 -- an object says the same of its process where that passes the same tests
 pub still_agrees : (w w2 : World) (k : ℕ) (b : Body) → ((test : StateValue → Bool) → is_process w2 test k ≡ is_process w test k) → Agrees w k b → Agrees w2 k b
 still_agrees w w2 k body.RootJob same agrees = same runs ∙ agrees
-still_agrees w w2 k (body.Process job alive) same agrees = record { running = agrees.running ∙ sym (same runs); living = agrees.living ∙ sym (same lives) }
+still_agrees w w2 k (body.Process job alive) same agrees = record { running = agrees.running ∙ sym (same runs); living = agrees.living ∙ sym (same lives); over = agrees.over ∙ sym (same has_ended) }
 still_agrees w w2 k body.Event same agrees = same runs ∙ agrees
 still_agrees w w2 k (body.Port port) same agrees = same runs ∙ agrees
 still_agrees w w2 k (body.ChannelEnd peer queue) same agrees = same runs ∙ agrees

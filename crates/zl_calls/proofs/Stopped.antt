@@ -1,6 +1,7 @@
 -- A process loses handles, or ends: the invariant but for what keeps the objects, and what nothing may keep then.
 use Rattle.zl_calls.proofs.Common.{◌≡◌, ℤ, ◌+◌, ◌<◌, ℕ, Bool, true, false, ◌==◌, List, [], ◌∷◌, map, object_entry, none-some, update, runs, lives, sum_by, queued_to, job_in, job_of, AreKeptBut, Releases, Agrees, AreNamed, refl, sym, ap, ◌∙◌, subst, Option, Some, None, inl, inr, IsTrue, eq-eqb, if◌then◌else◌, count_by, option_map, cases_Bool, eqb-true, Map, get, has_key, kind_of, is_process, handles_to, get-update, IsTable, is_sorted-update, has_key-update, Objects, stopped, stopped_body, stopping, is_job_at, is_job_in, process_entry, process_value, object_value, body_value, world_value, IsConsistent, IsNamed, is_in_job, is_job_body, IsSound}
 use Rattle.zl_code.proofs.Common.{Process as ProcessValue, Object as ObjectValue, State as StateValue, Ended}
+use Rattle.zl_rights.specs.Signals.{has_ended}
 use Rattle.zl_rights.specs.declared.entry.Entry.{Entry}
 use Rattle.zl_objects.specs.declared.object.Body.{Body}
 use Rattle.zl_objects.specs.declared.object.Body.TheVariants as body
@@ -107,9 +108,9 @@ module _ (before after : List Process) (p p2 : Process) (write : IsWrite before 
   in_job_stopped (body.ChannelEnd peer queue) h = refl
 
   module _ (code : ℤ) (over : p2.state ≡ state.Ended code) where
-    not_now : (test : StateValue → Bool) → test (Ended code) ≡ false → is_process (world_value after ended) test p.pid ≡ false
+    now : (test : StateValue → Bool) → is_process (world_value after ended) test p.pid ≡ test (Ended code)
     unfolding is_process
-    not_now test fails = rw (get_after before after p p2 write p.pid, same p.pid, over) fails
+    now test = rw (get_after before after p p2 write p.pid, same p.pid, over) refl
       where
         same : (j : ℕ) → (j == j) ≡ true
         same j = eq-eqb j j refl
@@ -119,11 +120,11 @@ module _ (before after : List Process) (p p2 : Process) (write : IsWrite before 
     others_now j apart test = rw (get_after before after p p2 write j, apart) refl
 
     stopped_agrees : (b : Body) → Agrees (world_value after ended) p.pid (stopped_body b)
-    stopped_agrees body.RootJob = not_now runs refl
-    stopped_agrees (body.Process job alive) = record { running = sym (not_now runs refl); living = sym (not_now lives refl) }
-    stopped_agrees body.Event = not_now runs refl
-    stopped_agrees (body.Port port) = not_now runs refl
-    stopped_agrees (body.ChannelEnd peer queue) = not_now runs refl
+    stopped_agrees body.RootJob = now runs
+    stopped_agrees (body.Process job alive) = record { running = sym (now runs); living = sym (now lives); over = sym (now has_ended) }
+    stopped_agrees body.Event = now runs
+    stopped_agrees (body.Port port) = now runs
+    stopped_agrees (body.ChannelEnd peer queue) = now runs
 
     same_queue : (b : Body) → queue_of (stopped_body b) ≡ queue_of b
     same_queue body.RootJob = refl

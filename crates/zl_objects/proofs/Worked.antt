@@ -59,7 +59,7 @@ worked = record {
   no_zero = λ k there. positive k there (cases_Bool (0 == k));
   counted = each_at (λ k o. o.handles ≡ handles_to (with_objects world objects) k + count_by (λ j. j == k) (3 ∷ [])) objects (refl, (refl, (refl, (refl, tt))));
   named = λ k some. named k some (cases_Bool (3 == k)) (cases_Bool (4 == k)) (cases_Bool (5 == k));
-  agrees = each_at (λ k o. Agrees world k o.body) objects (refl, (refl, (refl, (record { running = refl; living = refl }, tt))));
+  agrees = each_at (λ k o. Agrees world k o.body) objects (refl, (refl, (refl, (record { running = refl; living = refl; over = refl }, tt))));
   in_jobs = each_at (λ k o. IsTrue (is_in_job objects o.body)) objects (refl, (refl, (refl, (refl, tt))));
 }
   where

@@ -6,7 +6,7 @@ use Rattle.std.specs.FinMap.Entries.{is_sorted}
 use Rattle.zl_rights.specs.Counts.{handles_to}
 use Rattle.zl_rights.specs.Map.{Map, get, has_key}
 use Rattle.zl_rights.specs.World.{World, Object as ObjectValue, Body as BodyValue, ChannelEnd, EventBody, PortBody, JobBody, ProcessBody}
-use Rattle.zl_rights.specs.Signals.{is_process, lives, runs}
+use Rattle.zl_rights.specs.Signals.{has_ended, is_process, lives, runs}
 use Rattle.zl_rights.specs.Settle.{Settles, without_others}
 use Rattle.zl_objects.specs.declared.object.Body.{Body}
 use Rattle.zl_objects.specs.declared.object.Body.TheVariants as body
@@ -42,10 +42,11 @@ with_all w m = without_others (with_objects w m) (has_key (map object_entry m))
 
 -- ---- worlds that the objects fit
 
--- the object of a process says whether the process runs, and it lives only where it runs; nothing else runs
+-- the object of a process says whether the process runs, which lives only where it runs and else has ended; nothing else runs
 pub record AgreesOn (w : World) (k : ℕ) (lives_on : Bool) : Type 0 where
   pub running : lives_on ≡ is_process w runs k
   pub living : lives_on ≡ is_process w lives k
+  pub over : not lives_on ≡ is_process w has_ended k
 
 abbrev pub Agrees : World → ℕ → Body → Type 0
 Agrees w k (body.Process job lives_on) = AgreesOn w k lives_on

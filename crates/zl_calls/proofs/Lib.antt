@@ -18,6 +18,7 @@ pub mod Counted
 pub mod SameBodies
 pub mod Settled
 pub mod Labs
+pub mod Active
 pub mod Written
 pub mod Stopped
 pub mod Done

@@ -46,7 +46,7 @@ module _ (lib : Library) (before after : List Process) (r r2 : Objects) (p p2 : 
     by_answer (Ok x) does replies = done x does.ok replies
     by_answer (Err answer) does replies = record {
       calls = refused_calls lib w p.pid s wants o answer (world_value after r2) nothing refused may_want does.err
-          (same_world before after p p2 write r r2 s answer does.same_table does.same_objects replies ∙ ap (λ (v : World). replied v p.pid s answer []) (sym takes_none));
+          (same_world before after p p2 write r r2 s answer [] does.same_table does.same_objects replies ∙ ap (λ (v : World). replied v p.pid s answer []) (sym takes_none));
       keeps = subst (IsConsistent after) (sym does.same_objects) (refusal_keeps before after p p2 write r lab does.same_table (ap (λ (q : Process). q.state) replies));
     }
 

@@ -30,6 +30,7 @@ pub mod EventCalls
 pub mod ChannelCalls
 pub mod WriteCalls
 pub mod ReadCalls
+pub mod WaitCalls
 pub mod ProcessCalls
 pub mod Performed
 pub mod Performing

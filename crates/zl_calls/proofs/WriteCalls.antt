@@ -123,7 +123,7 @@ module _ (r : Objects) (no_zero : (k : ℕ) → IsTrue (has_key r.objects k) →
       by_object (Some o) = by_body o.body
 
   -- which it is
-  peer_is : (k n : ℕ) → peer_at r.objects k ≡ Some n → peer_seen (body_in (get (map object_entry r.objects) k)) ≡ n
+  pub peer_is : (k n : ℕ) → peer_at r.objects k ≡ Some n → peer_seen (body_in (get (map object_entry r.objects) k)) ≡ n
   peer_is k n at = rw (get_seen r.objects k) (by_object (get r.objects k) at)
     where
       by_key : (b : Bool) (peer : ℕ) → (if b then Some peer else None) ≡ Some n → peer ≡ n

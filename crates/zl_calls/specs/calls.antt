@@ -5,3 +5,4 @@ pub mod Event
 pub mod Process
 pub mod Channel
 pub mod Reading
+pub mod Wait

@@ -1,12 +1,17 @@
 ghost use Rattle.std.specs.Prelude.{◌≡◌, ◌<◌, ◌^◌, [], ◌∷◌, None};
 ghost use Rattle.zl_rights.specs.Signals.{is_ready};
 ghost use Rattle.zl_calls.specs.World.{state_value, seen_in};
+ghost use Rattle.zl_code.specs.Common.{answered};
+ghost use Rattle.zl_rights.specs.Numbers.{status_magnitude};
 ghost use Rattle.zl_calls.specs.calls.Answer.{status_of, no_value, one_value, two_values, answered_in};
+ghost use Rattle.zl_calls.specs.calls.Wait.{polled_status, polled_values};
 
+use crate::calls::wait::PollFault;
 use crate::cpu::Cpu;
+use bitflags::Flags;
 use std::alloc::Global;
 use zl_code::{Outcome, ProcState, Register};
-use zl_rights::{HValue, Pid, Status};
+use zl_rights::{HValue, Pid, Signals, Status};
 use zl_table::Table;
 
 /// What a process is in. Those that are made at boot are ready at once, and none blocks yet.
@@ -108,6 +113,33 @@ impl Process {
         self.cpu.set(status, u64::from(answer.magnitude()));
         self.cpu.set(first, made.0);
         self.cpu.set(second, made.1);
+        self.cpu.advance();
+        Outcome::Answered(answer)
+    }
+
+    /// The call that looks at signals is answered: after the status its register gets the active
+    /// signals, also where it timed out, or 0 where it was refused.
+    #[tactic(auto, unfolding(zl_rights::specs::World::answered))]
+    pub fn answer_polled(
+        &mut self,
+        status: Register,
+        destination: Register,
+        answer: Result<Signals, PollFault>,
+    ) -> Outcome
+        requires { self.old.cpu.counter < 2 ^ 32 }
+        ensures ends { result ≡ Outcome.Answered (polled_status answer) }
+        ensures process { self.new ≡ record self.old {
+          cpu = answered self.old.cpu (status ∷ destination ∷ [])
+              (status_magnitude (polled_status answer) ∷ polled_values answer);
+        } }
+    {
+        let (answer, active) = match answer {
+            Ok(active) => (Status::Ok, active),
+            Err(PollFault::TimedOut(active)) => (Status::TimedOut, active),
+            Err(PollFault::Refused(refused)) => (refused, Signals::empty()),
+        };
+        self.cpu.set(status, u64::from(answer.magnitude()));
+        self.cpu.set(destination, u64::from(active.bits()));
         self.cpu.advance();
         Outcome::Answered(answer)
     }

@@ -1,19 +1,21 @@
--- What calls on events do: event_create and signal. No public clause cites this module.
+-- What event_create does, and the calls that change signals: signal and signal_peer. No public clause cites this module.
 use Rattle.std.specs.Bool.{then_some}
 use Rattle.std.specs.Option.{option_or}
 use Rattle.zl_code.specs.Common.{bits, within, SIGNAL, SIGNALED, Map, get}
-use Rattle.std.specs.Prelude.{ℕ, ◌≡◌, ◌<◌, ◌+◌, ◌^◌, Bool, true, false, ◌&&◌, not, nat_le, length, Option, Some, None, Result, ⊤, if◌then◌else◌, bit_or}
+use Rattle.std.specs.Prelude.{ℕ, ◌≡◌, ◌<◌, ◌+◌, ◌^◌, Bool, true, false, ◌&&◌, not, nat_le, List, [], ◌∷◌, length, Option, Some, None, Result, Ok, Err, ⊤, if◌then◌else◌, is_some, bit_or}
 use Rattle.zl_rights.specs.declared.kind.Kind.{Kind}
 use Rattle.zl_rights.specs.declared.kind.Kind.TheVariants as kind
 use Rattle.zl_rights.specs.declared.status.Status.{Status}
 use Rattle.zl_rights.specs.declared.status.Status.TheVariants as status
 use Rattle.zl_rights.specs.declared.entry.Entry.{Entry}
 use Rattle.zl_rights.specs.declared.signals.Signals.{Signals}
-use Rattle.zl_rights.specs.Numbers.{USER_SIGNALS}
+use Rattle.zl_rights.specs.LookUp.{looked_up}
+use Rattle.zl_rights.specs.Numbers.{SIGNAL_PEER, USER_SIGNALS}
 use Rattle.zl_code.specs.Effects.{new_entry}
 use Rattle.zl_table.specs.Table.{Handles, Inserts}
 use Rattle.zl_objects.specs.declared.object.Body.TheVariants as body
-use Rattle.zl_objects.specs.Objects.{Objects, with_new, changing}
+use Rattle.zl_objects.specs.declared.object.Object.{Object}
+use Rattle.zl_objects.specs.Objects.{Objects, with_new, changing, peer_at}
 use Rattle.zl_calls.specs.calls.Answer.{Does, has_room_in}
 
 -- ---- event_create
@@ -71,3 +73,32 @@ pub record SignalsObject (t : Handles) (r : Objects) (value clear set : ℕ) (t2
 -- signal by the handle at the value, with these masks; it never wants memory
 abbrev pub SignalDoes : (value clear set : ℕ) → Handles → Objects → Result ⊤ Status → Handles → Objects → Type 0
 SignalDoes value clear set t r = Does (λ _. SignalsObject t r value clear set) false (signal_refusal t.entries value clear set) t r
+
+-- ---- signal_peer
+
+-- why no signal of the peer changes, where this look-up found the end: masks come before the peer
+abbrev pub peer_signal_refusal_of : Map Object → ℕ → ℕ → Result Entry Status → Option Status
+peer_signal_refusal_of objects clear set (Err s) = Some s
+peer_signal_refusal_of objects clear set (Ok end) =
+    option_or (then_some (not (may_change_at end.kind clear set)) status.InvalidArgs)
+    (then_some (not (is_some (peer_at objects end.koid))) status.PeerClosed)
+
+-- the answer of signal_peer other than OK
+abbrev pub peer_signal_refusal : Map Entry → Map Object → ℕ → ℕ → ℕ → Option Status
+peer_signal_refusal entries objects value clear set =
+    peer_signal_refusal_of objects clear set (looked_up entries value (kind.Channel ∷ []) SIGNAL_PEER)
+
+-- the signals of the peer of the end change, and no handle does
+pub record SignalsPeer (t : Handles) (r : Objects) (value clear set : ℕ) (t2 : Handles) (r2 : Objects) : Type 0 where
+  pub unrefused : peer_signal_refusal t.entries r.objects value clear set ≡ None
+  pub end : Entry
+  pub is_end : looked_up t.entries value (kind.Channel ∷ []) SIGNAL_PEER ≡ Ok end
+  pub peer : ℕ
+  pub is_peer : peer_at r.objects end.koid ≡ Some peer
+  pub table : t2 ≡ t
+  pub objects : r2 ≡ changing r peer clear set
+
+-- signal_peer by the end at the value, with these masks; it never wants memory
+abbrev pub SignalPeerDoes : (value clear set : ℕ) → Handles → Objects → Result ⊤ Status → Handles → Objects → Type 0
+SignalPeerDoes value clear set t r =
+    Does (λ _. SignalsPeer t r value clear set) false (peer_signal_refusal t.entries r.objects value clear set) t r

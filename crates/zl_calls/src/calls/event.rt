@@ -1,8 +1,8 @@
-//! Calls on events.
+//! Calls on events, and calls that change signals.
 
 ghost use Rattle.std.specs.Prelude.{◌≡◌};
 ghost use Rattle.zl_rights.specs.Numbers.{within};
-ghost use Rattle.zl_calls.specs.calls.Event.{EventCreateDoes, SignalDoes, settable_at, signals_if};
+ghost use Rattle.zl_calls.specs.calls.Event.{EventCreateDoes, SignalDoes, SignalPeerDoes, settable_at, signals_if};
 
 use crate::calls::{insert, look_up};
 use bitflags::Flags;
@@ -59,6 +59,36 @@ pub fn signal(
         return Err(Status::InvalidArgs);
     };
     objects.change(entry.koid, clear, set);
+    Ok(())
+}
+
+/// Takes the signals `clear` from the other end of the channel, and then gives it the signals `set`.
+///
+/// `BadHandle`, `WrongType` for what is no channel, `AccessDenied` without the right to signal the
+/// peer, `InvalidArgs` for a bit that calls may not change at an end, `PeerClosed` where the other
+/// end has gone.
+/// Source: the page "zx_object_signal" of the Fuchsia documentation; that what has no peer is of the
+/// wrong type is own profile.
+pub fn signal_peer(
+    table: &Table,
+    objects: &mut Objects,
+    value: u64,
+    clear: u64,
+    set: u64,
+) -> Result<(), Status>
+    ensures { SignalPeerDoes value clear set table.now objects.old result table.now objects.new }
+{
+    let end = look_up(table, value, &[Kind::Channel], Rights::SIGNAL_PEER)?;
+    let (Some(clear), Some(set)) = (
+        signals_within(clear, end.kind),
+        signals_within(set, end.kind),
+    ) else {
+        return Err(Status::InvalidArgs);
+    };
+    let Some(peer) = objects.peer(end.koid) else {
+        return Err(Status::PeerClosed);
+    };
+    objects.change(peer, clear, set);
     Ok(())
 }
 

@@ -4,7 +4,7 @@ ghost use Rattle.std.specs.Prelude.{◌≡◌, ◌↔◌, ◌≤◌, Err, IfOk, 
 ghost use Rattle.zl_rights.specs.Map.{get};
 ghost use Rattle.zl_port.specs.Packets.{MOST_USER_PACKETS, is_from, user_count, user_packet, with_packet, with_place, without_front, without_packets, without_place};
 ghost use Rattle.zl_objects.specs.Objects.{has_koids, new_object, with_new};
-ghost use Rattle.zl_objects.specs.Ports.{at_port, changing_port, has_place_body, is_port_at, is_port_body, new_port, packets_in, packets_of};
+ghost use Rattle.zl_objects.specs.Ports.{at_port, changing_port, has_place_body, is_port_at, new_port, packets_in, packets_of};
 
 use crate::object::{Body, Object};
 use crate::objects::Objects;
@@ -15,7 +15,6 @@ use zl_rights::Koid;
 impl Object {
     /// Puts the packet of a call behind all others at a port.
     pub(crate) fn queue_user(&mut self, key: u64, value: u64) -> Result<(), QueueFault>
-        requires { IsTrue (is_port_body self.old.body) }
         ensures ok { OnOk result
             (self.new ≡ at_port (λ p. with_packet p (user_packet key value)) self.old) }
         ensures unchanged { OnErr result (self.new ≡ self.old) }
@@ -110,13 +109,12 @@ impl Objects {
     }
 
     /// Puts the packet of a call behind all others at the port: type 0, with the key and the word.
-    /// The koid has to be that of a port.
+    /// Where the koid isn't that of a port, nothing changes.
     ///
     /// `ShouldWait` where the port holds `Port::MOST_USER_PACKETS` such packets, else `NoMemory`
     /// where there is no memory for one more.
     /// Source: the page "zx_port_queue" of the Fuchsia documentation; the limit is own profile.
     pub fn queue_user(&mut self, koid: Koid, key: u64, value: u64) -> Result<(), QueueFault>
-        requires { IsTrue (is_port_at self.old.objects koid) }
         ensures ok { OnOk result
             (self.new ≡ changing_port self.old koid (λ p. with_packet p (user_packet key value))) }
         ensures unchanged { OnErr result (self.new ≡ self.old) }

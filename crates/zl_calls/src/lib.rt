@@ -9,6 +9,7 @@
 mod booting;
 mod calls;
 mod cpu;
+mod packets;
 mod process;
 mod program;
 mod reading;

@@ -24,6 +24,7 @@ pub mod Stopped
 pub mod Done
 pub mod Grown
 pub mod TakenCalls
+pub mod Rebodied
 pub mod Queued
 pub mod HandleCalls
 pub mod EventCalls

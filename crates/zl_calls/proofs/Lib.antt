@@ -26,6 +26,7 @@ pub mod Grown
 pub mod TakenCalls
 pub mod Rebodied
 pub mod Queued
+pub mod Polled
 pub mod HandleCalls
 pub mod EventCalls
 pub mod ChannelCalls
@@ -33,6 +34,8 @@ pub mod WriteCalls
 pub mod ReadCalls
 pub mod WaitCalls
 pub mod ProcessCalls
+pub mod Repacked
+pub mod PortCalls
 pub mod Performed
 pub mod Performing
 pub mod Turns

@@ -6,3 +6,4 @@ pub mod Process
 pub mod Channel
 pub mod Reading
 pub mod Wait
+pub mod Port

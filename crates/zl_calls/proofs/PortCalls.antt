@@ -1,0 +1,189 @@
+-- The calls on ports, port_create, port_queue and port_poll, each from its table and objects to a step.
+use Rattle.zl_calls.proofs.Common.{◌≡◌, ◌+◌, ◌^◌, ℕ, Bool, true, false, not, ◌&&◌, ◌==◌, List, [], ◌∷◌, map, refl, ap, ◌∙◌, cond, Some, None, IsTrue, nat_le, arith, count_by, sum_by-cons, none-some, slice_get, then_some, first_some, same_Some, ◌++◌, is_empty, Map, get, Ready, PortBody, Library, Site, site, examined, has_room, has_koids, handles_to, table_of, answer_if, row_of, refusal, handle_operands, listed, may_choose, new_handles, insert_all, remove_all, taken_handles, effect, with_effect, with_object, gives_ok, gives_refused, AtCall, next_for, Values, replied, taken, ⊤, body_of, operand, new_entry, Objects, new_object, with_new, IsAnswered, told_by, no_value, one_value, Replies, has_room_in, process_entry, process_value, state_value, world_value, IsConsistent, IsNamed, runs, World}
+use Rattle.zl_code.proofs.Common.{Object as ObjectValue}
+use Rattle.std.specs.Prelude.{drop}
+use Rattle.zl_rights.specs.declared.kind.Kind.TheVariants as kind
+use Rattle.zl_rights.specs.declared.status.Status.TheVariants as status
+use Rattle.zl_rights.specs.declared.entry.Entry.{Entry}
+use Rattle.zl_rights.specs.declared.policy.Condition.TheVariants as condition
+use Rattle.zl_rights.specs.Numbers.{READ, WRITE}
+use Rattle.zl_rights.specs.Wakes.{packet_values}
+use Rattle.zl_rights.specs.World.{Packet}
+use Rattle.zl_port.specs.Packets.{Port, user_packet, with_packet, without_front}
+use Rattle.zl_code.specs.declared.history.CallName.{CallName}
+use Rattle.zl_code.specs.declared.history.Outcome.{Outcome}
+use Rattle.zl_code.specs.declared.history.Outcome.TheVariants as outcome
+use Rattle.zl_code.specs.CallTable.{port_create, port_poll, port_queue}
+use Rattle.zl_code.specs.Tests.{object_at}
+use Rattle.zl_code.specs.Waiting.{first_values, is_full, packets_at, packets_in as packets_seen}
+use Rattle.zl_objects.specs.Ports.{new_port, packets_in}
+use Rattle.zl_calls.specs.declared.process.Process.{Process}
+use Rattle.zl_calls.specs.calls.Port.{CreatesPort, PortCreateDoes, PortPollDoes, PortQueueDoes, QueuesPacket, TakesPacket, poll_refusal, port_refusal, queue_refusal}
+use Rattle.zl_calls.proofs.Answered.{IsWrite, table_is, may_get_inserted, replied_inserted}
+use Rattle.zl_calls.proofs.Done.{IsDone, IsCalled, answered_done}
+use Rattle.zl_calls.proofs.Grown.{IsGrowing, entered_next, grown_named, grown_one, grown_seen, growing_none, there_grown}
+use Rattle.zl_calls.proofs.Labs.{no_policy}
+use Rattle.zl_calls.proofs.Refused.{NoPolicy, answers, may_create}
+use Rattle.zl_calls.proofs.WriteCalls.{is_found}
+use Rattle.zl_calls.proofs.Written.{IsNext, inserted_counts, keeps_inserted}
+use Rattle.zl_calls.proofs.Repacked.{packets_there, port_ends, port_kept, port_refused}
+
+-- ---- the answer of port_create
+
+create_refused : (lib : Library) (w : World) → NoPolicy w → (p : ℕ) → refusal lib w p port_create ≡ answers (port_refusal (table_of w p) w.next_koid)
+unfolding refusal handle_operands row_of examined listed has_room has_koids
+create_refused lib w free p = rw (may_create w free p condition.NewPort) (by_test (has_room_in (table_of w p) && nat_le (w.next_koid + 1) (2 ^ 62)))
+  where
+    by_test : (b : Bool) → first_some (None ∷ None ∷ answer_if (not b) status.NoResources ∷ []) ≡ answers (then_some (not b) status.NoResources)
+    by_test true = refl
+    by_test false = refl
+
+-- ---- the answers of port_queue and port_poll
+
+module _ (lib : Library) (before : List Process) (r : Objects) (lab : IsConsistent before r) (p : ℕ) where
+  abbrev old_world : World
+  old_world = world_value before r
+
+  queue_refused : (port key value : ℕ) → refusal lib old_world p (port_queue port key value) ≡ answers (queue_refusal (table_of old_world p) r.objects port)
+  unfolding refusal handle_operands row_of examined operand listed
+  queue_refused port key value = port_refused before r lab p is_full status.ShouldWait WRITE (get (table_of old_world p) port)
+
+  poll_refused : (port : ℕ) → refusal lib old_world p (port_poll port) ≡ answers (poll_refusal (table_of old_world p) r.objects port)
+  unfolding refusal handle_operands row_of examined operand listed
+  poll_refused port = port_refused before r lab p is_empty status.TimedOut READ (get (table_of old_world p) port)
+
+-- a process of a lab, before and after its call
+module _ (lib : Library) (before after : List Process) (r r2 : Objects) (p p2 : Process) (lab : IsConsistent before r) (write : IsWrite before after p p2) where
+  abbrev w : World
+  w = world_value before r
+
+  -- ---- port_create
+
+  module _ (consumed destinations : List ℕ) where
+    abbrev create_site : Site
+    create_site = site port_create consumed destinations
+
+    refused_create : refusal lib w p.pid port_create ≡ answers (port_refusal p.table.entries r.next_koid)
+    refused_create = create_refused lib w (no_policy before r lab) p.pid ∙ rw (table_is before after p p2 write r) refl
+
+    module _ (made : ℕ) (creates : CreatesPort p.table r made p2.table r2) (replies : Replies create_site status.Ok (made ∷ []) p p2) where
+      abbrev n : ℕ
+      n = r.next_koid
+
+      abbrev entry : Entry
+      entry = new_entry n kind.Port
+
+      abbrev grown : Objects
+      grown = with_new r new_port 1
+
+      -- ---- the relation of calls
+
+      abbrev with_port_more : World
+      with_port_more = with_object w (PortBody [])
+
+      create_rest : (record with_port_more { processes = map process_entry after }) ≡ world_value after r2
+      unfolding with_object
+      create_rest = rw creates.objects (ap (λ (os : Map ObjectValue). record w { processes = map process_entry after; objects = os; next_koid = n + 1 }) (grown_seen r new_port 1 lab.given_objects))
+
+      create_chosen : IsTrue (may_choose w (taken w p.pid create_site) p.pid port_create (made ∷ []))
+      unfolding taken_handles handle_operands row_of remove_all may_choose new_handles
+      create_chosen = rw (write.there, may_get_inserted p p2 entry made creates.inserts) refl
+
+      create_ends : world_value after r2 ≡ replied (with_effect lib w (taken w p.pid create_site) p.pid port_create (made ∷ [])) p.pid create_site status.Ok (made ∷ [])
+      unfolding taken_handles handle_operands row_of remove_all new_handles effect insert_all with_object
+      create_ends = replied_inserted before after p p2 write r2 create_site made entry with_port_more refl create_rest creates.inserts replies
+
+      -- ---- the invariant
+
+      create_counts : (j : ℕ) → handles_to (world_value after grown) j ≡ handles_to (world_value before grown) j + count_by (λ (h : ℕ × Entry). h.1.koid == j) ((made, entry) ∷ [])
+      create_counts j = omega (arith, inserted_counts before after p p2 write entry made creates.inserts grown grown j refl, sum_by-cons (λ (h : ℕ × Entry). cond (h.1.koid == j) 1 0) (made, entry) [])
+
+      growing : IsGrowing before ((made, entry) ∷ []) grown
+      growing = grown_one before [] r (growing_none before r lab) new_port (λ j. refl) (λ not. not runs) refl refl creates.koid refl (made, entry) refl
+
+      create_next : IsNext before after r grown
+      create_next = entered_next before after ((made, entry) ∷ []) r grown growing (omega arith) (grown_named before [] r (growing_none before r lab) new_port) create_counts
+
+      entry_named : IsNamed grown.objects entry
+      entry_named = record { object = new_object new_port 1; there = there_grown before [] r (growing_none before r lab) new_port; kind = refl; rights = refl }
+
+      create_called : IsCalled lib before after r r2 p.pid create_site (outcome.Answered status.Ok)
+      unfolding gives_ok
+      create_called = record {
+        calls = (Values (made ∷ []), rw (refused_create, creates.unrefused) (create_chosen, refl, create_ends));
+        keeps = rw creates.objects (keeps_inserted before after p p2 write entry made creates.inserts r grown lab (ap (λ (q : Process). q.state) replies) creates.room entry_named create_next);
+      }
+
+    -- ---- the step
+
+    pub port_create_done : state_value p.state ≡ Ready → (call : CallName) → next_for lib (process_value p) ≡ AtCall call create_site → (o : Outcome) → IsAnswered (told_by one_value) PortCreateDoes create_site p r o p2 r2 → IsDone lib before after r r2 p.pid call o
+    unfolding row_of taken_handles handle_operands remove_all gives_refused
+    port_create_done ready call next o acts = answered_done lib before after r r2 p p2 lab write ready call create_site next one_value (CreatesPort p.table r) true (port_refusal p.table.entries r.next_koid)
+        refused_create refl refl (λ answer. refl) create_called o acts.answer acts.acts acts.replied acts.ends
+
+  -- ---- port_queue
+
+  module _ (port key value : ℕ) (consumed destinations : List ℕ) where
+    abbrev queue_site : Site
+    queue_site = site (port_queue port key value) consumed destinations
+
+    refused_queue : refusal lib w p.pid (port_queue port key value) ≡ answers (queue_refusal p.table.entries r.objects port)
+    refused_queue = queue_refused lib before r lab p.pid port key value ∙ rw (table_is before after p p2 write r) refl
+
+    queue_chosen : IsTrue (may_choose w (taken w p.pid queue_site) p.pid (port_queue port key value) [])
+    unfolding may_choose new_handles remove_all taken_handles handle_operands row_of
+    queue_chosen = rw write.there refl
+
+    queue_called : (done : ⊤) → QueuesPacket p.table r port key value p2.table r2 → Replies queue_site status.Ok [] p p2 → IsCalled lib before after r r2 p.pid queue_site (outcome.Answered status.Ok)
+    unfolding effect gives_ok new_handles insert_all remove_all taken_handles handle_operands row_of
+    queue_called done queued replies =
+        let there : get p.table.entries port ≡ Some queued.port = is_found (get p.table.entries port) (kind.Port ∷ []) WRITE queued.port queued.is_port in
+        let more : (x : Port) → (with_packet x (user_packet key value)).packets ≡ x.packets ++ user_packet key value ∷ [] = λ x. refl in
+        record {
+          calls = (Values [], rw (refused_queue, queued.unrefused) (queue_chosen, refl, port_ends before after r r2 p p2 lab write queued.port.koid (λ x. with_packet x (user_packet key value)) (λ xs. xs ++ user_packet key value ∷ []) more queued.objects queued.table queue_site [] replies ∙ rw (table_is before after p p2 write r, there) refl));
+          keeps = port_kept before after r r2 p p2 lab write queued.port.koid (λ x. with_packet x (user_packet key value)) (λ xs. xs ++ user_packet key value ∷ []) more queued.objects queued.table queue_site [] replies;
+        }
+
+    pub port_queue_done : state_value p.state ≡ Ready → (call : CallName) → next_for lib (process_value p) ≡ AtCall call queue_site → (o : Outcome) → IsAnswered (told_by no_value) (PortQueueDoes port key value) queue_site p r o p2 r2 → IsDone lib before after r r2 p.pid call o
+    unfolding row_of taken_handles handle_operands remove_all gives_refused
+    port_queue_done ready call next o acts = answered_done lib before after r r2 p p2 lab write ready call queue_site next no_value (λ _. QueuesPacket p.table r port key value) true (queue_refusal p.table.entries r.objects port)
+        refused_queue refl refl (λ answer. refl) queue_called o acts.answer acts.acts acts.replied acts.ends
+
+  -- ---- port_poll
+
+  module _ (port : ℕ) (consumed destinations : List ℕ) where
+    abbrev poll_site : Site
+    poll_site = site (port_poll port) consumed destinations
+
+    refused_poll : refusal lib w p.pid (port_poll port) ≡ answers (poll_refusal p.table.entries r.objects port)
+    refused_poll = poll_refused lib before r lab p.pid port ∙ rw (table_is before after p p2 write r) refl
+
+    poll_chosen : IsTrue (may_choose w (taken w p.pid poll_site) p.pid (port_poll port) [])
+    unfolding may_choose new_handles remove_all taken_handles handle_operands row_of
+    poll_chosen = rw write.there refl
+
+    module _ (packet : Packet) (takes_one : TakesPacket p.table r port packet p2.table r2) (replies : Replies poll_site status.Ok (packet_values packet) p p2) where
+      abbrev k : ℕ
+      k = takes_one.port.koid
+
+      koid_same : object_at w p.pid port ≡ k
+      koid_same = rw (table_is before after p p2 write r, is_found (get p.table.entries port) (kind.Port ∷ []) READ takes_one.port takes_one.is_port) refl
+
+      first_told : first_values (packets_at w p.pid port) ≡ packet_values packet
+      first_told = ap (λ (j : ℕ). first_values (packets_seen (body_of w j))) koid_same ∙ (ap first_values (packets_there r.objects k) ∙ by_packets (packets_in (get r.objects k)) takes_one.first)
+        where
+          by_packets : (xs : List Packet) → slice_get xs 0 ≡ Some packet → first_values xs ≡ packet_values packet
+          by_packets [] is = absurd (none-some packet is)
+          by_packets (x ∷ xs) is = ap packet_values (same_Some x packet is)
+
+      poll_called : IsCalled lib before after r r2 p.pid poll_site (outcome.Answered status.Ok)
+      unfolding effect gives_ok new_handles insert_all remove_all taken_handles handle_operands row_of
+      poll_called = record {
+        calls = (Values [], rw (refused_poll, takes_one.unrefused) (poll_chosen, refl, rw (first_told, koid_same) (port_ends before after r r2 p p2 lab write k without_front (drop 1) (λ x. refl) takes_one.objects takes_one.table poll_site (packet_values packet) replies)));
+        keeps = port_kept before after r r2 p p2 lab write k without_front (drop 1) (λ x. refl) takes_one.objects takes_one.table poll_site (packet_values packet) replies;
+      }
+
+    pub port_poll_done : state_value p.state ≡ Ready → (call : CallName) → next_for lib (process_value p) ≡ AtCall call poll_site → (o : Outcome) → IsAnswered (told_by packet_values) (PortPollDoes port) poll_site p r o p2 r2 → IsDone lib before after r r2 p.pid call o
+    unfolding row_of taken_handles handle_operands remove_all gives_refused
+    port_poll_done ready call next o acts = answered_done lib before after r r2 p p2 lab write ready call poll_site next packet_values (TakesPacket p.table r port) false (poll_refusal p.table.entries r.objects port)
+        refused_poll refl refl (λ answer. refl) poll_called o acts.answer acts.acts acts.replied acts.ends

@@ -1,11 +1,11 @@
 //! The processes and objects that the statements of a boot make.
 
-ghost use Rattle.std.specs.Prelude.{ℕ, ◌≡◌, ◌≢◌, ◌≤◌, ◌<◌, false, [], length, is_some, Some, slice_get, IfOk, OnOk, IfErr, IsTrue};
+ghost use Rattle.std.specs.Prelude.{ℕ, ◌+◌, ◌≡◌, ◌≢◌, ◌≤◌, ◌<◌, nat_lt, false, [], length, is_some, Some, slice_get, IfOk, OnOk, IfErr, IsTrue};
 ghost use Rattle.std.specs.List.{list_all};
 ghost use Rattle.std.specs.Result.{result_err};
 ghost use Rattle.zl_rights.specs.Numbers.{within, default_rights_of};
 ghost use Rattle.zl_rights.specs.Settle.{Settles};
-ghost use Rattle.zl_code.specs.Boot.{IsBoot, FirstFault, MOST_ITEMS, MOST_GRANTS, MOST_PROCESSES, boot_fault, rights_given};
+ghost use Rattle.zl_code.specs.Boot.{IsBoot, FirstFault, MOST_ITEMS, MOST_GRANTS, MOST_PROCESSES, MOST_KOIDS, boot_fault, rights_given};
 ghost use Rattle.zl_calls.specs.Consistent.{IsConsistent};
 ghost use Rattle.zl_objects.specs.Objects.{kind_at, root_alone};
 ghost use Rattle.zl_calls.specs.Making.{IsMaking};
@@ -87,6 +87,9 @@ impl Made {
             (IsCauseOf (boot_fault library.now (seen self.old) statement.now)) }
     {
         match statement {
+            Statement::Event => self.make_event(),
+            Statement::Port => self.make_port(),
+            Statement::Channel => self.make_channel(),
             Statement::Process {
                 job,
                 program,
@@ -97,6 +100,65 @@ impl Made {
                 self.make_process(alloc, library, *job, *program, *word, handles)
             }
         }
+    }
+
+    /// Makes an event.
+    fn make_event(&mut self) -> Result<(), BootCause>
+        requires { IsMaking self.old.processes.items [] self.old.objects }
+        ensures ok { OnOk result ((lib : Library)
+            → Makes lib Statement.Event self.old self.new) }
+        ensures err { IfErr result (λ cause. (lib : Library)
+            → IsCauseOf (boot_fault lib (seen self.old) Statement.Event) cause) }
+    {
+        if self.lacks_koids(1) {
+            return Err(BootCause::Limit);
+        }
+        match self.objects.create(Body::Event, 0) {
+            Ok(_) => Ok(()),
+            Err(_) => Err(BootCause::NoMemory),
+        }
+    }
+
+    /// Makes a port.
+    fn make_port(&mut self) -> Result<(), BootCause>
+        requires { IsMaking self.old.processes.items [] self.old.objects }
+        ensures ok { OnOk result ((lib : Library)
+            → Makes lib Statement.Port self.old self.new) }
+        ensures err { IfErr result (λ cause. (lib : Library)
+            → IsCauseOf (boot_fault lib (seen self.old) Statement.Port) cause) }
+    {
+        if self.lacks_koids(1) {
+            return Err(BootCause::Limit);
+        }
+        match self.objects.create_port(0) {
+            Ok(_) => Ok(()),
+            Err(_) => Err(BootCause::NoMemory),
+        }
+    }
+
+    /// Makes the two ends of a channel.
+    fn make_channel(&mut self) -> Result<(), BootCause>
+        requires { IsMaking self.old.processes.items [] self.old.objects }
+        ensures ok { OnOk result ((lib : Library)
+            → Makes lib Statement.Channel self.old self.new) }
+        ensures err { IfErr result (λ cause. (lib : Library)
+            → IsCauseOf (boot_fault lib (seen self.old) Statement.Channel) cause) }
+    {
+        if self.lacks_koids(2) {
+            return Err(BootCause::Limit);
+        }
+        match self.objects.create_channel(0) {
+            Ok(_) => Ok(()),
+            Err(_) => Err(BootCause::NoMemory),
+        }
+    }
+
+    /// Whether fewer than so many koids are left; a statement takes at most 2.
+    fn lacks_koids(&self, count: u64) -> bool
+        requires { count ≤ 2 }
+        ensures { result ≡ nat_lt (MOST_KOIDS + 1) (self.now.objects.next_koid + count) }
+    {
+        self.objects.end_of_koids() > MOST_KOIDS + 1 - count
     }
 
     fn make_process(
@@ -159,7 +221,7 @@ impl Made {
         if handles.len() > Grants::MOST || !self.may_give(handles) {
             return Err(BootCause::BadHandleList);
         }
-        if self.processes.len() >= MOST_PROCESSES || self.objects.end_of_koids() > MOST_KOIDS {
+        if self.processes.len() >= MOST_PROCESSES || self.lacks_koids(1) {
             return Err(BootCause::Limit);
         }
         Ok(listed.image())

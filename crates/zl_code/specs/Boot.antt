@@ -1,9 +1,9 @@
 -- The world that a list of statements makes, or the first fault.
-use Rattle.std.specs.Prelude.{ℕ, ◌≡◌, ◌<◌, ◌≤◌, Bool, true, false, ◌&&◌, ◌||◌, not, nat_lt, nat_le, List, [], ◌∷◌, ◌++◌, length, take, Option, Some, None, is_some, slice_get, IsTrue}
+use Rattle.std.specs.Prelude.{ℕ, ◌+◌, ◌≡◌, ◌<◌, ◌≤◌, Bool, true, false, ◌&&◌, ◌||◌, not, nat_lt, nat_le, List, [], ◌∷◌, ◌++◌, length, take, Option, Some, None, is_some, slice_get, IsTrue}
 use Rattle.std.specs.Bool.{then_some}
 use Rattle.std.specs.List.{list_all}
 use Rattle.std.specs.Option.{option_to_list}
-use Rattle.zl_rights.specs.Common.{rights_of, default_rights_of, Map, get, put, has_key, World, Process, Object, Body, JobBody, ProcessBody, kind_of, is_empty, Settles}
+use Rattle.zl_rights.specs.Common.{rights_of, default_rights_of, Map, get, put, has_key, World, Process, Object, Body, JobBody, ProcessBody, ChannelEnd, EventBody, PortBody, kind_of, is_empty, Settles}
 use Rattle.zl_rights.specs.declared.kind.Kind.{Kind}
 use Rattle.zl_code.specs.First.{first_some}
 use Rattle.zl_rights.specs.declared.entry.Entry.{Entry}
@@ -72,18 +72,35 @@ is_job_body _ = false
 abbrev pub is_job : World → ℕ → Bool
 is_job w k = is_job_body (body_of w k)
 
+-- how many koids the statement takes: one for each object that it makes
+abbrev pub koids_of : Statement → ℕ
+koids_of (statement.Process job program word handles) = 1
+koids_of statement.Event = 1
+koids_of statement.Port = 1
+koids_of statement.Channel = 2
+
+-- fewer koids are left than the statement takes
+abbrev pub lacks_koids : World → Statement → Bool
+lacks_koids w s = nat_lt (MOST_KOIDS + 1) (w.next_koid + koids_of s)
+
 -- why the statement can't be done: no such job, program or object; no handles to start with;
--- one process too many, or no koid is left
+-- one process too many, or too few koids are left
 unfoldable pub boot_fault : Library → World → Statement → Option BootCause
 boot_fault lib w (statement.Process job program word handles) = first_some (
     then_some (not (is_job w job && (is_some (slice_get lib program) && all_known w.objects handles))) cause.Unknown
     ∷ then_some (not (may_start_with handles (handles_given w.objects handles))) cause.BadHandleList
-    ∷ then_some (nat_le MOST_PROCESSES (length w.processes) || nat_lt MOST_KOIDS w.next_koid) cause.Limit
+    ∷ then_some (nat_le MOST_PROCESSES (length w.processes) || lacks_koids w (statement.Process job program word handles)) cause.Limit
     ∷ [])
+boot_fault lib w statement.Event = then_some (lacks_koids w statement.Event) cause.Limit
+boot_fault lib w statement.Port = then_some (lacks_koids w statement.Port) cause.Limit
+boot_fault lib w statement.Channel = then_some (lacks_koids w statement.Channel) cause.Limit
 
 -- these values may be given to the handles of the statement, one after another
 abbrev pub may_boot : Library → World → Statement → List ℕ → Bool
 may_boot lib w (statement.Process job program word handles) vs = may_get_all (created_process lib program) (handles_given w.objects handles) vs
+may_boot lib w statement.Event vs = is_empty vs
+may_boot lib w statement.Port vs = is_empty vs
+may_boot lib w statement.Channel vs = is_empty vs
 
 -- the process with the handles, each at its value
 abbrev pub process_with_all : List Entry → List ℕ → Process → Process
@@ -103,6 +120,10 @@ with_process w k process = record w { processes = put w.processes k process }
 unfoldable pub boot_effect : Library → World → Statement → List ℕ → World
 boot_effect lib w (statement.Process job program word handles) vs =
     with_process (with_object w (ProcessBody job)) w.next_koid (started_process lib program (handles_given w.objects handles) vs word)
+boot_effect lib w statement.Event vs = with_object w EventBody
+boot_effect lib w statement.Port vs = with_object w (PortBody [])
+boot_effect lib w statement.Channel vs =
+    with_object (with_object w (ChannelEnd (w.next_koid + 1) [])) (ChannelEnd w.next_koid [])
 
 -- ---- all statements
 
@@ -131,6 +152,9 @@ values_given lib w (s ∷ ss) w2 (vs, fine, may, rest) = vs ∷ values_given lib
 -- the statement gives no handle
 abbrev pub gives_no_handle : Statement → Bool
 gives_no_handle (statement.Process job program word handles) = is_empty handles
+gives_no_handle statement.Event = true
+gives_no_handle statement.Port = true
+gives_no_handle statement.Channel = true
 
 -- w is a boot world of the statements
 pub record IsBoot (lib : Library) (statements : List Statement) (w : World) : Type 0 where

@@ -18,9 +18,16 @@ impl Boot {
     pub const MOST_ITEMS: u64 = 1_000_000;
 }
 
-/// One statement; the object that it makes gets the next koid. Own profile.
+/// One statement. Each object that it makes gets the next koid; what no handle names is gone after
+/// the boot, but for a process, which is started, and the root job. Own profile.
 #[derive(Drop)]
 pub enum Statement {
+    /// An event.
+    Event,
+    /// A port without packets.
+    Port,
+    /// The two ends of a channel; the first has the lower koid, and no message waits at either.
+    Channel,
     /// A process of the job, running the program of that number from 0. It is started with the first
     /// of its handles in register 0, the word in register 1 and the other handles from register 2 on.
     Process {
@@ -105,8 +112,8 @@ pub enum BootCause {
     /// The program was checked, and the policy of the job forbids it to make what it needs. Not
     /// yet: a boot doesn't look at needs.
     NeedDenied,
-    /// Too many processes or koids, or too high a limit of the trace; not yet too many levels of
-    /// jobs, as no statement makes a job.
+    /// Too many processes, too few koids left for what the statement makes, or too high a limit of
+    /// the trace; not yet too many levels of jobs, as no statement makes a job.
     Limit,
     /// Memory was refused.
     NoMemory,

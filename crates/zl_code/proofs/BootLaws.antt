@@ -1,5 +1,5 @@
 -- A boot makes a world or comes to a first fault, never both, whichever values new handles get.
-use Rattle.zl_code.proofs.Common.{◌≡◌, ◌<◌, ◌≤◌, ◌+◌, ◌⊎◌, ◌==◌, ℕ, zero, suc, true, false, cond, List, [], ◌∷◌, take, length, refl, sym, ap, ◌∙◌, Option, Some, None, inl, inr, IsTrue, arith, slice_get, nat_lt, cases_lt, length-map, none-some, same_Some, Map, put, World, ProcessBody, Library, with_object, boot_fault, boot_effect, may_boot, Boots, IsBoot, FirstFault, at_statement, at_limit, MOST_ITEMS, origin, map, and_from, and_parts, nat_tests, subst, false≢true, cases_Bool, eqb-true, get, has_key, Process, may_get, process_with, get-put, settled_in, keys_of, Settles-exists, Settles-unique, may_get_all, IsBooted, handles_given, values_given, gives_no_handle, created_process, list_all}
+use Rattle.zl_code.proofs.Common.{◌≡◌, ◌<◌, ◌≤◌, ◌+◌, ◌⊎◌, ◌==◌, ℕ, zero, suc, true, false, cond, List, [], ◌∷◌, take, length, refl, sym, ap, ◌∙◌, Option, Some, None, inl, inr, IsTrue, arith, slice_get, nat_lt, cases_lt, length-map, none-some, same_Some, Map, put, World, Body, ChannelEnd, EventBody, PortBody, ProcessBody, Library, with_object, boot_fault, boot_effect, may_boot, Boots, IsBoot, FirstFault, at_statement, at_limit, MOST_ITEMS, origin, map, and_from, and_parts, nat_tests, subst, false≢true, cases_Bool, eqb-true, get, has_key, Process, may_get, process_with, get-put, settled_in, keys_of, Settles-exists, Settles-unique, may_get_all, IsBooted, handles_given, values_given, gives_no_handle, created_process, list_all}
 use Rattle.zl_rights.specs.declared.entry.Entry.{Entry}
 use Rattle.zl_code.specs.declared.boot.Statement.{Statement}
 use Rattle.zl_code.specs.declared.boot.Statement.TheVariants as statement
@@ -41,6 +41,18 @@ module _ (lib : Library) where
     where
       count : length u.processes ≡ length v.processes
       count = sym (length-keys u.processes) ∙ ap length a.pids ∙ length-keys v.processes
+  same_fault u v a statement.Event = rw a.next refl
+  same_fault u v a statement.Port = rw a.next refl
+  same_fault u v a statement.Channel = rw a.next refl
+
+  -- a new object beside the others
+  alike_with : (u v : World) → IsAlike u v → (b c : Body) → b ≡ c → IsAlike (with_object u b) (with_object v c)
+  unfolding with_object
+  alike_with u v a b c e = record {
+    objects = λ i. put (a.objects i) (a.next i) (record { body = e i; raised = 0 });
+    next = ap (λ (k : ℕ). k + 1) a.next;
+    pids = a.pids;
+  }
 
   -- whichever values the handles of the statement get
   alike_after : (u v : World) → IsAlike u v → (s : Statement) (vs xs : List ℕ) → IsAlike (boot_effect lib u s vs) (boot_effect lib v s xs)
@@ -50,6 +62,11 @@ module _ (lib : Library) where
     next = ap (λ (k : ℕ). k + 1) a.next;
     pids = keys_of-put u.processes u.next_koid _ ∙ (λ i. keys_with (a.pids i) (a.next i)) ∙ sym (keys_of-put v.processes v.next_koid _);
   }
+  alike_after u v a statement.Event vs xs = alike_with u v a EventBody EventBody refl
+  alike_after u v a statement.Port vs xs = alike_with u v a (PortBody []) (PortBody []) refl
+  alike_after u v a statement.Channel vs xs =
+      alike_with (with_object u (ChannelEnd (u.next_koid + 1) [])) (with_object v (ChannelEnd (v.next_koid + 1) []))
+      (alike_with u v a _ _ (λ i. ChannelEnd (a.next i + 1) [])) _ _ (λ i. ChannelEnd (a.next i) [])
 
   -- ---- statements one after another
 
@@ -131,12 +148,14 @@ module _ (lib : Library) where
   -- values for the handles of each statement
   abbrev first_values : World → Statement → List ℕ
   first_values w (statement.Process job program word handles) = values_from 1 (handles_given w.objects handles)
+  first_values w _ = []
 
   chosen : (w : World) (s : Statement) → boot_fault lib w s ≡ None → IsTrue (may_boot lib w s (first_values w s))
   unfolding get
   chosen w (statement.Process job program word handles) fine =
       may_get_from (created_process lib program) 1 (handles_given w.objects handles) (omega arith)
       (omega (arith, (can_start lib w job program word handles fine).few, handles_at_most w.objects handles)) refl (λ k there. absurd (false≢true there))
+  chosen w _ fine = refl
 
   abbrev Ends : World → List Statement → Type 0
   Ends w ss = ((made : World) × Boots lib w ss made) ⊎ ((n : ℕ) × (c : BootCause) × FaultAt w ss n c)
@@ -215,9 +234,10 @@ one_boot_world lib ss u v x y same = Settles-unique x.made u v x.settles (rw (on
 -- ---- where no handle is given, none gets a value
 
 no_choice : (lib : Library) (w : World) (s : Statement) (vs : List ℕ) → IsTrue (gives_no_handle s) → IsTrue (may_boot lib w s vs) → vs ≡ []
-no_choice lib w (statement.Process job program word []) [] none may = refl
+no_choice lib w s [] none may = refl
 no_choice lib w (statement.Process job program word []) (v ∷ vs) none may = absurd cc
-no_choice lib w (statement.Process job program word (g ∷ gs)) vs none may = absurd (false≢true none)
+no_choice lib w (statement.Process job program word (g ∷ gs)) (v ∷ vs) none may = absurd (false≢true none)
+no_choice lib w _ (v ∷ vs) none may = absurd (false≢true may)
 
 no_values : (lib : Library) (w : World) (ss : List Statement) (u : World) → IsTrue (list_all gives_no_handle ss) → (x : Boots lib w ss u) → values_given lib w ss u x ≡ map (λ s. []) ss
 no_values lib w [] u none x = refl

@@ -1,6 +1,7 @@
 -- What is known of the process of a statement that has no fault, and how it gets its handles.
-use Rattle.zl_code.proofs.Common.{◌≡◌, ◌<◌, ◌≤◌, ◌&&◌, ◌||◌, ℕ, Bool, true, false, not, List, [], ◌∷◌, ◌++◌, length, refl, sym, arith, nat_tests, nat_le, nat_lt, Option, Some, None, IsTrue, is_some, then_some, slice_get, and_parts, none-some, first_some, Map, get, Object, World, Library, Process, body_in, boot_fault, has_default_rights, may_get, process_with, not-false, or_parts, may_get_all, MOST_GRANTS, MOST_PROCESSES, MOST_KOIDS, process_with_all, is_job, all_known, handle_given, handles_given, may_start_with, started_with, list_all}
+use Rattle.zl_code.proofs.Common.{◌+◌, ◌≡◌, ◌<◌, ◌≤◌, ◌&&◌, ◌||◌, ℕ, Bool, true, false, not, List, [], ◌∷◌, ◌++◌, length, refl, sym, arith, nat_tests, nat_le, nat_lt, Option, Some, None, IsTrue, is_some, then_some, slice_get, and_parts, none-some, first_some, Map, get, Object, World, Library, Process, body_in, boot_fault, has_default_rights, may_get, process_with, not-false, or_parts, may_get_all, MOST_GRANTS, MOST_PROCESSES, MOST_KOIDS, process_with_all, is_job, all_known, handle_given, handles_given, may_start_with, started_with, list_all}
 use Rattle.std.specs.Option.{option_to_list}
+use Rattle.zl_code.specs.Boot.{lacks_koids}
 use Rattle.zl_rights.specs.declared.entry.Entry.{Entry}
 use Rattle.zl_code.specs.declared.boot.Grant.{Grant}
 use Rattle.zl_code.specs.declared.boot.Statement.TheVariants as statement
@@ -25,8 +26,9 @@ unfolding boot_fault
 can_start lib w job program word handles fine =
     let first = none_first (not (is_job w job && (is_some (slice_get lib program) && all_known w.objects handles))) cause.Unknown _ fine in
     let second = none_first (not (may_start_with handles (handles_given w.objects handles))) cause.BadHandleList _ first.1 in
-    let third = none_first (nat_le MOST_PROCESSES (length w.processes) || nat_lt MOST_KOIDS w.next_koid) cause.Limit _ second.1 in
+    let third = none_first (nat_le MOST_PROCESSES (length w.processes) || lacks_koids w (statement.Process job program word handles)) cause.Limit _ second.1 in
     let left = or_parts (nat_le MOST_PROCESSES (length w.processes)) _ third.0 in
+    let enough : nat_lt (MOST_KOIDS + 1) (w.next_koid + 1) ≡ false = left.1 in
     let there = and_parts (is_job w job) _ (not-false _ first.0) in
     let start = and_parts (nat_le (length handles) MOST_GRANTS) _ (not-false _ second.0) in
     record {
@@ -35,7 +37,7 @@ can_start lib w job program word handles fine =
       few = grind (arith, nat_tests, start.0);
       rights = start.1;
       place = grind (arith, nat_tests, left.0);
-      koid = grind (arith, nat_tests, left.1);
+      koid = grind (arith, nat_tests, enough);
     }
 
 pub handles_at_most : (objects : Map Object) (gs : List Grant) → length (handles_given objects gs) ≤ length gs

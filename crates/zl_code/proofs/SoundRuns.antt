@@ -61,6 +61,9 @@ step_sound lib w p x after s step = wholly_sound after live (nearly_kept w after
 no_wait_booted : (lib : Library) (w : World) (s : Statement) (vs : List ℕ) → (boot_effect lib w s vs).waits ≡ w.waits
 unfolding boot_effect with_object
 no_wait_booted lib w (statement.Process job program word handles) vs = refl
+no_wait_booted lib w statement.Event vs = refl
+no_wait_booted lib w statement.Port vs = refl
+no_wait_booted lib w statement.Channel vs = refl
 
 boots_sound : (lib : Library) (w : World) (statements : List Statement) (after : World) → IsSound w → w.waits ≡ [] → Boots lib w statements after → IsSound after
 boots_sound lib w [] after s none e = rw e s

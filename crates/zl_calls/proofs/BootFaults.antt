@@ -1,5 +1,5 @@
 -- Which fault a statement of a boot has, from what the code tests.
-use Rattle.zl_calls.proofs.Common.{◌≡◌, ◌<◌, ◌≤◌, ◌&&◌, ◌||◌, ◌⊎◌, ℕ, Bool, true, false, not, List, [], ◌∷◌, ◌++◌, length, map, refl, sym, ap, ◌∙◌, false≢true, Option, Some, None, inl, inr, IsTrue, arith, or_left, or_right, and_parts, is_some, slice_get, nat_lt, nat_le, option_map, nat_tests, then_some, first_some, Map, get, has_key, Library, Program, body_in, boot_fault, has_default_rights, within, default_rights_of, rights_of, kind_of, ◌^◌, bit_and, cases_Bool, eqb-true, list_all, Objects, body_value, object_entry, object_value, world_value, kind_in, kind_at, allowed, if_default, rights_if, World, and_le_l, rights_given, is_job, all_known, may_start_with, handle_given, handles_given, MOST_PROCESSES, MOST_KOIDS, MOST_GRANTS}
+use Rattle.zl_calls.proofs.Common.{◌+◌, ◌≡◌, ◌<◌, ◌≤◌, ◌&&◌, ◌||◌, ◌⊎◌, ℕ, Bool, true, false, not, List, [], ◌∷◌, ◌++◌, length, map, refl, sym, ap, ◌∙◌, false≢true, Option, Some, None, inl, inr, IsTrue, arith, or_left, or_right, and_parts, is_some, slice_get, nat_lt, nat_le, option_map, nat_tests, then_some, first_some, Map, get, has_key, Library, Program, body_in, boot_fault, has_default_rights, within, default_rights_of, rights_of, kind_of, ◌^◌, bit_and, cases_Bool, eqb-true, list_all, Objects, body_value, object_entry, object_value, world_value, kind_in, kind_at, allowed, if_default, rights_if, World, and_le_l, rights_given, is_job, all_known, may_start_with, handle_given, handles_given, MOST_PROCESSES, MOST_KOIDS, MOST_GRANTS}
 use Rattle.zl_code.proofs.Common.{Object as ObjectValue, is_job_body}
 use Rattle.std.specs.Option.{option_to_list}
 use Rattle.std.proofs.lemmas.Option.{slice_get_past}
@@ -114,8 +114,12 @@ module _ (lib : Library) (w : World) (job program word : ℕ) (gs : List Grant) 
   abbrev fault : Option BootCause
   fault = boot_fault lib w (statement.Process job program word gs)
 
+  -- no koid is left
+  abbrev lacks : Bool
+  lacks = nat_lt (MOST_KOIDS + 1) (w.next_koid + 1)
+
   abbrev full : Bool
-  full = nat_le MOST_PROCESSES (length w.processes) || nat_lt MOST_KOIDS w.next_koid
+  full = nat_le MOST_PROCESSES (length w.processes) || lacks
 
   by_tests : (known may filled : Bool) → (is_job w job && (is_some (slice_get lib program) && all_known w.objects gs)) ≡ known → may_start_with gs (handles_given w.objects gs) ≡ may → full ≡ filled
       → fault ≡ first_some (then_some (not known) cause.Unknown ∷ then_some (not may) cause.BadHandleList ∷ then_some filled cause.Limit ∷ [])
@@ -158,14 +162,13 @@ module _ (lib : Library) (w : World) (job program word : ℕ) (gs : List Grant) 
       fine : may_start_with gs (handles_given w.objects gs) ≡ true
       fine = let little : nat_le (length gs) MOST_GRANTS ≡ true = grind (arith, nat_tests, few) in starts ∙ rw (little, all_may) refl
 
-      pub fault_limit : (MOST_PROCESSES ≤ length w.processes) ⊎ (MOST_KOIDS < w.next_koid) → fault ≡ Some cause.Limit
+      pub fault_limit : (MOST_PROCESSES ≤ length w.processes) ⊎ (lacks ≡ true) → fault ≡ Some cause.Limit
       fault_limit past = by_tests true true true all_there fine (elim past as (λ _. full ≡ true) [
-        | inl many ↦ or_left (nat_le MOST_PROCESSES (length w.processes)) (nat_lt MOST_KOIDS w.next_koid) (grind (arith, nat_tests, many))
-        | inr given ↦ or_right (nat_le MOST_PROCESSES (length w.processes)) (nat_lt MOST_KOIDS w.next_koid) (grind (arith, nat_tests, given))
+        | inl many ↦ or_left (nat_le MOST_PROCESSES (length w.processes)) lacks (grind (arith, nat_tests, many))
+        | inr given ↦ or_right (nat_le MOST_PROCESSES (length w.processes)) lacks given
       ])
 
-      pub no_fault : length w.processes < MOST_PROCESSES → w.next_koid ≤ MOST_KOIDS → fault ≡ None
+      pub no_fault : length w.processes < MOST_PROCESSES → lacks ≡ false → fault ≡ None
       no_fault place left =
           let room : nat_le MOST_PROCESSES (length w.processes) ≡ false = grind (arith, nat_tests, place) in
-          let koid : nat_lt MOST_KOIDS w.next_koid ≡ false = grind (arith, nat_tests, left) in
-          by_tests true true false all_there fine (rw (room, koid) refl)
+          by_tests true true false all_there fine (rw (room, left) refl)

@@ -42,5 +42,6 @@ pub mod Turns
 pub mod BootGiving
 pub mod BootFaults
 pub mod BootMaking
+pub mod BootObjects
 pub mod BootLab
 pub mod BootRun

@@ -102,7 +102,7 @@ impl Made {
         }
     }
 
-    /// Makes an event.
+    /// Makes an event. No handle names it yet.
     fn make_event(&mut self) -> Result<(), BootCause>
         requires { IsMaking self.old.processes.items [] self.old.objects }
         ensures ok { OnOk result ((lib : Library)
@@ -119,7 +119,7 @@ impl Made {
         }
     }
 
-    /// Makes a port.
+    /// Makes a port. No handle names it yet.
     fn make_port(&mut self) -> Result<(), BootCause>
         requires { IsMaking self.old.processes.items [] self.old.objects }
         ensures ok { OnOk result ((lib : Library)
@@ -136,7 +136,7 @@ impl Made {
         }
     }
 
-    /// Makes the two ends of a channel.
+    /// Makes the two ends of a channel. No handle names them yet.
     fn make_channel(&mut self) -> Result<(), BootCause>
         requires { IsMaking self.old.processes.items [] self.old.objects }
         ensures ok { OnOk result ((lib : Library)
@@ -153,7 +153,7 @@ impl Made {
         }
     }
 
-    /// Whether fewer than so many koids are left; a statement takes at most 2.
+    /// Whether fewer koids are left than so many, which are two at most.
     fn lacks_koids(&self, count: u64) -> bool
         requires { count ≤ 2 }
         ensures { result ≡ nat_lt (MOST_KOIDS + 1) (self.now.objects.next_koid + count) }

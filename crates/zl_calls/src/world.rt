@@ -65,10 +65,11 @@ impl World {
     ///
     /// The fault names the first statement that can't be done: `Unknown` where it names no job, no
     /// program or, for a handle, no object; else `BadHandleList` for an eighth handle or rights that a
-    /// new object of the kind doesn't give; else `Limit` for the 65th process or where no koid up to
-    /// 1,024 is left. A limit of the trace above `Boot::MOST_ITEMS` is `Limit` of a statement one past
-    /// the last. `NoMemory` may come at any statement, and for the root job, which is made before all,
-    /// as of statement 0, which need not be there.
+    /// new object of the kind doesn't give; else `Limit` for the 65th process, or where fewer koids up
+    /// to 1,024 are left than the statement takes, two for a channel and one for any other. A limit of
+    /// the trace above `Boot::MOST_ITEMS` is `Limit` of a statement one past the last. `NoMemory` may
+    /// come at any statement, and for the root job, which is made before all, as of statement 0, which
+    /// need not be there.
     pub fn boot(alloc: Global, library: Library, boot: &Boot) -> Result<World, BootFault>
         ensures ok { IfOk result (λ world. IsBoot library boot.now.statements.items world.world) }
         ensures programs { IfOk result (λ world. world.programs ≡ library) }

@@ -5,6 +5,8 @@
 #![tactic(auto)]
 
 #[cfg(test)]
+mod boot_object_tests;
+#[cfg(test)]
 mod boot_tests;
 #[cfg(test)]
 mod image_tests;

@@ -1,7 +1,7 @@
 use Rattle.zl_calls.proofs.Common.{◌≡◌, ◌∙◌, inl, inr, sym, arith, length-map, length, seen, process_entry, program_value}
 use Rattle.zl_calls.proofs.BootFaults.{job_seen, known_seen, fault_no_program, fault_unknown, fault_handles, fault_limit, no_fault}
 use Rattle.zl_calls.proofs.booting.Made.image_for.Goals as goal
-use Rattle.zl_calls.proofs.booting.Made.image_for.Goals.{then-not-is_job-via-then-not-is_job, then-not-is_job-via-else-not-is_job+then-not-knows, then-handles-gt-MOST-via-then-handles-gt-MOST, then-handles-gt-MOST-via-else-handles-gt-MOST+then-not-may_give, then-len-ge-MOST_PROCESSES-via-then-len-ge-MOST_PROCESSES, then-len-ge-MOST_PROCESSES-via-else-len-ge-MOST_PROCESSES+then-end_of_koids-gt-MOST_KOIDS}
+use Rattle.zl_calls.proofs.booting.Made.image_for.Goals.{then-not-is_job-via-then-not-is_job, then-not-is_job-via-else-not-is_job+then-not-knows, then-handles-gt-MOST-via-then-handles-gt-MOST, then-handles-gt-MOST-via-else-handles-gt-MOST+then-not-may_give, then-len-ge-MOST_PROCESSES-via-then-len-ge-MOST_PROCESSES, then-len-ge-MOST_PROCESSES-via-else-len-ge-MOST_PROCESSES+then-lacks_koids}
 
 pub returns-in_default-clause-fault : goal.returns-in_default-clause-fault
 returns-in_default-clause-fault c = λ word. fault_no_program c.args.library.now (seen c.args.self.now) c.args.job c.args.program word c.args.handles.now (c.in_default.ensures {u = tt}).missing
@@ -33,7 +33,7 @@ returns-then-len-ge-MOST_PROCESSES-clause-fault c = λ word.
     let count : length (seen c.args.self.now).processes ≡ length c.args.self.now.processes.items = length-map c.args.self.now.processes.items process_entry in
     elim c.then-len-ge-MOST_PROCESSES.branch [
       | then-len-ge-MOST_PROCESSES-via-then-len-ge-MOST_PROCESSES w ↦ limit (inl (omega (arith, count, c.len.ensures, w.if-len-ge-MOST_PROCESSES.true, c.args.self.now.processes.ok.0)))
-      | then-len-ge-MOST_PROCESSES-via-else-len-ge-MOST_PROCESSES+then-end_of_koids-gt-MOST_KOIDS w ↦ limit (inr (omega (arith, w.end_of_koids.ensures, w.if-end_of_koids-gt-MOST_KOIDS.true)))
+      | then-len-ge-MOST_PROCESSES-via-else-len-ge-MOST_PROCESSES+then-lacks_koids w ↦ limit (inr (sym w.lacks_koids.ensures ∙ w.if-lacks_koids.true))
     ]
 
 pub returns-clause-fault : goal.returns-clause-fault
@@ -42,4 +42,4 @@ returns-clause-fault c = λ word.
     let known = known_seen c.args.self.now.objects.objects c.args.handles.now ∙ (sym c.knows.ensures ∙ c.if-not-knows.false) in
     let count : length (seen c.args.self.now).processes ≡ length c.args.self.now.processes.items = length-map c.args.self.now.processes.items process_entry in
     no_fault c.args.library.now (seen c.args.self.now) c.args.job c.args.program word c.args.handles.now (program_value c.in-Some.listed.now) (c.in-Some.ensures {u = tt}).found in_job known c.if-handles-gt-MOST.false (sym c.may_give.ensures ∙ c.if-not-may_give.false)
-    (omega (arith, count, c.len.ensures, c.if-len-ge-MOST_PROCESSES.false, c.args.self.now.processes.ok.0)) (omega (arith, c.end_of_koids.ensures, c.if-end_of_koids-gt-MOST_KOIDS.false))
+    (omega (arith, count, c.len.ensures, c.if-len-ge-MOST_PROCESSES.false, c.args.self.now.processes.ok.0)) (sym c.lacks_koids.ensures ∙ c.if-lacks_koids.false)

@@ -59,7 +59,8 @@ pub fn port_queue(
     }
 }
 
-/// Takes the first packet out of the port at the value `port`. It never waits, and takes no memory.
+/// Takes the first packet out of the port at the value `port`. It never waits, and it takes no
+/// memory.
 ///
 /// `BadHandle`, `WrongType` for what is no port, `AccessDenied` without the right to read;
 /// `TimedOut` where no packet is there.

@@ -18,8 +18,8 @@ impl Boot {
     pub const MOST_ITEMS: u64 = 1_000_000;
 }
 
-/// One statement. Each object that it makes gets the next koid; what no handle names is gone after
-/// the boot, but for a process, which is started, and the root job. Own profile.
+/// One statement. Each object that it makes gets the next koid, and is gone after the boot unless a
+/// handle names it; a process stays, as it is started. Own profile.
 #[derive(Drop)]
 pub enum Statement {
     /// An event.

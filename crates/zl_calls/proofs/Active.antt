@@ -1,5 +1,5 @@
 -- What is active at an object of a lab: the objects tell it, without the processes.
-use Rattle.zl_calls.proofs.Common.{◌≡◌, ℕ, List, get, Objects, Agrees, world_value, IsConsistent, World}
+use Rattle.zl_calls.proofs.Common.{◌≡◌, ℕ, List, Objects, Agrees, world_value, IsConsistent, World}
 use Rattle.zl_rights.specs.Signals.{active}
 use Rattle.zl_objects.specs.declared.object.Body.{Body}
 use Rattle.zl_objects.specs.declared.object.Body.TheVariants as body

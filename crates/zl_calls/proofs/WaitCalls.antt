@@ -16,7 +16,6 @@ use Rattle.zl_code.specs.declared.history.Outcome.TheVariants as outcome
 use Rattle.zl_objects.specs.declared.object.Object.{Object}
 use Rattle.zl_objects.specs.Signals.{signals_at}
 use Rattle.zl_calls.specs.declared.process.Process.{Process}
-use Rattle.zl_calls.specs.declared.calls.wait.Watched.{Watched}
 use Rattle.zl_calls.specs.declared.calls.wait.PollFault.{PollFault}
 use Rattle.zl_calls.specs.declared.calls.wait.PollFault.TheVariants as fault
 use Rattle.zl_calls.specs.calls.Answer.{IsTold}
@@ -25,7 +24,7 @@ use Rattle.zl_calls.proofs.Active.{signals_active}
 use Rattle.zl_calls.proofs.Answered.{IsWrite, same_world, table_is}
 use Rattle.zl_calls.proofs.Done.{IsDone, IsCalled, called_done}
 use Rattle.zl_calls.proofs.Labs.{no_policy}
-use Rattle.zl_calls.proofs.Refused.{NoPolicy, answers, fault_answers}
+use Rattle.zl_calls.proofs.Refused.{answers, fault_answers}
 use Rattle.zl_calls.proofs.Written.{refusal_keeps}
 
 -- ---- the refusal

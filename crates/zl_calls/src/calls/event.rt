@@ -62,13 +62,13 @@ pub fn signal(
     Ok(())
 }
 
-/// Takes the signals `clear` from the other end of the channel, and then gives it the signals `set`.
+/// Takes the signals `clear` from the channel's other end, and then gives it the signals `set`.
 ///
 /// `BadHandle`, `WrongType` for what is no channel, `AccessDenied` without the right to signal the
 /// peer, `InvalidArgs` for a bit that calls may not change at an end, `PeerClosed` where the other
 /// end has gone.
-/// Source: the page "zx_object_signal" of the Fuchsia documentation; that what has no peer is of the
-/// wrong type is own profile.
+/// Source: the page "zx_object_signal" of the Fuchsia documentation; that what has no peer is of
+/// the wrong type is own profile.
 pub fn signal_peer(
     table: &Table,
     objects: &mut Objects,

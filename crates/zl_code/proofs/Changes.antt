@@ -135,14 +135,14 @@ table_kept P start after none out in_ p x y (blocks awaited ds is running) t = r
 
 -- ---- the list of the blocked
 
-times-same : (p : ℕ) (ps : List ℕ) → times p (filter (λ q. not (q == p)) ps) ≡ 0
+pub times-same : (p : ℕ) (ps : List ℕ) → times p (filter (λ q. not (q == p)) ps) ≡ 0
 times-same p [] = refl
 times-same p (q ∷ ps) = elim (cases_Bool (q == p)) as (λ _. times p (filter (λ x. not (x == p)) (q ∷ ps)) ≡ 0) [
   | inl is ↦ rw is (times-same p ps)
   | inr other ↦ rw (other, other) (times-same p ps)
 ]
 
-times-other : (p k : ℕ) → (p == k) ≡ false → (ps : List ℕ) → times k (filter (λ q. not (q == p)) ps) ≡ times k ps
+pub times-other : (p k : ℕ) → (p == k) ≡ false → (ps : List ℕ) → times k (filter (λ q. not (q == p)) ps) ≡ times k ps
 times-other p k apart [] = refl
 times-other p k apart (q ∷ ps) = elim (cases_Bool (q == p)) as (λ _. times k (filter (λ x. not (x == p)) (q ∷ ps)) ≡ times k (q ∷ ps)) [
   | inl is ↦

@@ -146,6 +146,8 @@ module _ (ps : List Process) (p : Process) (r : Objects) (making : IsMaking ps p
     where
       alive : (s : OwnState) → runs (state_value s) ≡ true → lives (state_value s) ≡ true
       alive state.Ready h = refl
+      alive (state.AwaitsSignal koid mask to) h = refl
+      alive (state.AwaitsPacket port to) h = refl
       alive (state.Ended code) h = absurd (false≢true h)
 
   going_on : is_process (world_value after grown) has_ended n ≡ false
@@ -154,6 +156,8 @@ module _ (ps : List Process) (p : Process) (r : Objects) (making : IsMaking ps p
     where
       not_over : (s : OwnState) → runs (state_value s) ≡ true → has_ended (state_value s) ≡ false
       not_over state.Ready h = refl
+      not_over (state.AwaitsSignal koid mask to) h = refl
+      not_over (state.AwaitsPacket port to) h = refl
       not_over (state.Ended code) h = absurd (false≢true h)
 
   others_as_before : (j : ℕ) → (n == j) ≡ false → (test : StateValue → Bool) → is_process (world_value after grown) test j ≡ is_process (world_value ps r) test j

@@ -10,7 +10,9 @@ pub use Rattle.zl_objects.specs.Objects.{Objects, changing, has_place, held_once
 unfoldable pub use Rattle.zl_objects.specs.Objects.{has_living_child}
 pub use Rattle.zl_objects.specs.Release.{AreKeptBut, Cascades, Releases, koids_of, none_left}
 pub use Rattle.zl_objects.specs.Seen.{Agrees, IsExact, body_value, is_in_job, object_entry, object_value}
-pub use Rattle.zl_calls.specs.World.{IsPlaceOf, call_for, call_in, is_ready_in, process_entry, process_value, state_value, world_value}
+pub use Rattle.zl_calls.specs.World.{IsPlaceOf, call_for, call_in, is_ready_in, process_entry, process_value, state_value, world_blocked, world_value}
+pub use Rattle.zl_calls.specs.Acting.{DoesNext, IsActed}
+pub use Rattle.zl_calls.specs.Blocked.{AreBlocked, IsWhole}
 pub use Rattle.zl_calls.specs.calls.Answer.{unbuilt, Action, Does, IsAnswered, IsRefusedBy, Replies, answers, exits, has_room_in, no_value, one_value, status_of, told_by, values_of}
 pub use Rattle.zl_code.specs.Effects.{may_get_all, new_entry, object_changed, signed_word}
 unfoldable pub use Rattle.zl_code.specs.Effects.{on_object}

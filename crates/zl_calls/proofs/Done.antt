@@ -1,5 +1,5 @@
--- That a call is done: it is a step, and the invariant holds afterwards.
-use Rattle.zl_calls.proofs.Common.{◌≡◌, ℕ, Bool, List, [], ap, sym, ◌∙◌, subst, Option, Result, Ok, Err, Ready, Library, Site, refusal, Step, AtCall, next_for, Calls, grows, replied, taken, Handles, Objects, Does, Replies, status_of, values_of, process_value, state_value, world_value, IsConsistent, World}
+-- That a call is done: it is a step up to where processes wake, and the invariant holds afterwards.
+use Rattle.zl_calls.proofs.Common.{◌≡◌, ℕ, Bool, List, [], ap, sym, ◌∙◌, subst, Option, Result, Ok, Err, Ready, Library, Site, refusal, AtCall, next_for, Calls, grows, replied, taken, Handles, Objects, Does, Replies, status_of, values_of, process_value, state_value, world_value, IsConsistent, World, IsActed}
 use Rattle.zl_rights.specs.declared.status.Status.{Status}
 use Rattle.zl_rights.specs.declared.status.Status.TheVariants as status
 use Rattle.zl_code.specs.declared.history.CallName.{CallName}
@@ -13,9 +13,9 @@ use Rattle.zl_calls.proofs.Refused.{TellsNothing, answers, refused_calls}
 use Rattle.zl_calls.proofs.Settled.{still_settles}
 use Rattle.zl_calls.proofs.Written.{refusal_keeps}
 
--- the call is a step, and the invariant holds afterwards
+-- the call is a step up to where processes wake, and the invariant holds afterwards
 pub record IsDone (lib : Library) (before after : List Process) (r r2 : Objects) (pid : ℕ) (call : CallName) (ends : Outcome) : Type 0 where
-  pub step : Step lib (world_value before r) pid (item.Call pid call ends) (world_value after r2)
+  pub step : IsActed lib (world_value before r) pid (item.Call pid call ends) (world_value after r2)
   pub lab : IsConsistent after r2
 
 -- the call in its world, and the invariant

@@ -21,6 +21,7 @@ pub mod Labs
 pub mod Active
 pub mod Written
 pub mod Stopped
+pub mod Packed
 pub mod Done
 pub mod Grown
 pub mod TakenCalls
@@ -37,11 +38,15 @@ pub mod ProcessCalls
 pub mod Repacked
 pub mod PortCalls
 pub mod Performed
+pub mod BlockedLists
 pub mod Performing
-pub mod Turns
+pub mod Woken
+pub mod WakeLoop
+pub mod StepItems
 pub mod BootGiving
 pub mod BootFaults
 pub mod BootMaking
 pub mod BootObjects
 pub mod BootLab
 pub mod BootRun
+pub mod BootBlocked

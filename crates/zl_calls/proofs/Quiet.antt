@@ -1,7 +1,8 @@
--- Worlds in which nothing waits: waking changes nothing, and where all objects stay, settling leaves all as it is.
-use Rattle.zl_calls.proofs.Common.{◌≡◌, ℕ, true, ◌==◌, List, [], ◌∷◌, map, refl, ap, Some, IsTrue, eq-eqb, is_some, cond, false, Map, get, has_key, where_key, each, Koids, process_settled, wakes, fired, append-nil, PortBody, Objects, process_entry, state_value, world_value, without_others, state_without, Bool}
+-- Worlds in which nothing waits: no packet comes to a port, and where all objects stay, settling leaves all as it is.
+use Rattle.zl_calls.proofs.Common.{◌≡◌, ℕ, true, ◌==◌, List, [], ◌∷◌, map, refl, ap, Some, IsTrue, eq-eqb, is_some, cond, false, Map, get, has_key, where_key, each, Koids, process_settled, wakes, fired, append-nil, PortBody, Objects, process_entry, state_value, world_blocked, world_value, without_others, state_without, Bool, World}
 use Rattle.zl_code.proofs.Common.{Body as BodyValue}
-use Rattle.zl_rights.specs.Wakes.{body_with_packets}
+use Rattle.std.specs.List.{fold}
+use Rattle.zl_rights.specs.Wakes.{body_with_packets, woken}
 use Rattle.zl_rights.proofs.MapTests.{each_same}
 use Rattle.zl_calls.specs.declared.process.State.{State}
 use Rattle.zl_calls.specs.declared.process.State.TheVariants as state
@@ -14,14 +15,22 @@ no_packets : (b : BodyValue) → body_with_packets [] b ≡ b
 no_packets (PortBody packets) = ap PortBody (append-nil packets)
 no_packets _ = refl
 
-pub wakes_nothing : (ps : List Process) (r : Objects) → wakes (world_value ps r) ≡ world_value ps r
-unfolding wakes fired
-wakes_nothing ps r = ap (λ objects. record (world_value ps r) { objects = objects }) (each_same (λ k o. record o { body = body_with_packets [] o.body }) (λ k o. ap (λ b. record o { body = b }) (no_packets o.body)) (map object_entry r.objects))
+-- no registered wait gives its packet
+pub fires_nothing : (ps : List Process) (r : Objects) (blocked : List ℕ) → fired (world_blocked ps r blocked) ≡ world_blocked ps r blocked
+unfolding fired
+fires_nothing ps r blocked = ap (λ objects. record (world_blocked ps r blocked) { objects = objects }) (each_same (λ k o. record o { body = body_with_packets [] o.body }) (λ k o. ap (λ b. record o { body = b }) (no_packets o.body)) (map object_entry r.objects))
+
+-- just the blocked processes wake, one after another
+pub wakes_each : (ps : List Process) (r : Objects) (blocked : List ℕ) → wakes (world_blocked ps r blocked) ≡ fold woken (world_blocked ps r blocked) blocked
+unfolding wakes
+wakes_each ps r blocked = ap (λ (w : World). fold woken w blocked) (fires_nothing ps r blocked)
 
 -- ---- settling
 
 kept_state : (b : Bool) (s : State) → state_without b (state_value s) ≡ state_value s
 kept_state b state.Ready = refl
+kept_state b (state.AwaitsSignal koid mask to) = refl
+kept_state b (state.AwaitsPacket port to) = refl
 kept_state b (state.Ended code) = refl
 
 all_started : (K : Koids) (ps : List Process) → each (process_settled K) (map process_entry ps) ≡ map process_entry ps

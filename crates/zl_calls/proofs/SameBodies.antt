@@ -35,6 +35,14 @@ still_agrees w w2 k body.Event same agrees = same runs ∙ agrees
 still_agrees w w2 k (body.Port port) same agrees = same runs ∙ agrees
 still_agrees w w2 k (body.ChannelEnd peer queue) same agrees = same runs ∙ agrees
 
+-- the same where it runs, lives and has ended as before
+pub alike_agrees : (w w2 : World) (k : ℕ) (b : Body) → is_process w2 runs k ≡ is_process w runs k → is_process w2 lives k ≡ is_process w lives k → is_process w2 has_ended k ≡ is_process w has_ended k → Agrees w k b → Agrees w2 k b
+alike_agrees w w2 k body.RootJob runs_on lives_on over_on agrees = runs_on ∙ agrees
+alike_agrees w w2 k (body.Process job alive) runs_on lives_on over_on agrees = record { running = agrees.running ∙ sym runs_on; living = agrees.living ∙ sym lives_on; over = agrees.over ∙ sym over_on }
+alike_agrees w w2 k body.Event runs_on lives_on over_on agrees = runs_on ∙ agrees
+alike_agrees w w2 k (body.Port port) runs_on lives_on over_on agrees = runs_on ∙ agrees
+alike_agrees w w2 k (body.ChannelEnd peer queue) runs_on lives_on over_on agrees = runs_on ∙ agrees
+
 -- what names objects before, names them after
 pub still_named : (os os2 : Map Object) → ((e : Entry) → IsNamed os e → IsNamed os2 e) → (queue : List Message) → AreNamed os queue → AreNamed os2 queue
 still_named os os2 keep queue all = λ n m within i e inside. keep (slice_index_or (slice_index_or queue n m).handles i e) (all n m within i e inside)

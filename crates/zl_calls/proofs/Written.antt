@@ -3,6 +3,7 @@ use Rattle.zl_calls.proofs.Common.{Option, None, ◌≡◌, ◌<◌, ◌≤◌, 
 use Rattle.zl_code.proofs.Common.{Process as ProcessValue, State as StateValue}
 use Rattle.std.specs.Prelude.{MatchOption}
 use Rattle.zl_rights.specs.declared.entry.Entry.{Entry}
+use Rattle.zl_objects.specs.declared.object.Body.{Body}
 use Rattle.zl_objects.specs.declared.object.Object.{Object}
 use Rattle.zl_objects.specs.Objects.{queue_of}
 use Rattle.zl_objects.proofs.Bodies.{alone_updated, in_job_updated}
@@ -95,12 +96,12 @@ module _ (before after : List Process) (p p2 : Process) (write : IsWrite before 
     | inr apart ↦ rw (get_after k, apart) refl
   ]
 
-  -- the invariant, from what is new in the table and in the objects
-  pub keeps : (r r2 : Objects) → IsConsistent before r → p2.state ≡ p.state → IsTable p2.table
+  -- the invariant, from what is new in the table and in the objects, where each object says of its process what holds
+  pub keeps_agreeing : (r r2 : Objects) → IsConsistent before r → ((k : ℕ) (b : Body) → Agrees (world_value before r) k b → Agrees (world_value after r2) k b) → IsTable p2.table
       → ((v : ℕ) (e : Entry) → get p2.table.entries v ≡ Some e → IsNamed r2.objects e)
       → IsNext before after r r2
       → IsConsistent after r2
-  keeps r r2 lab state table named next = record {
+  keeps_agreeing r r2 lab agree table named next = record {
     processes_in_order = rw (after_is, is_sorted-update (map process_entry before) p.pid (λ _. process_value p2)) lab.processes_in_order;
     given_processes = λ k there. omega (arith, next.next_koid, lab.given_processes k (sym (has_key-update (map process_entry before) p.pid (λ _. process_value p2) k) ∙ (rw after_is at there)));
     given_objects = next.given_objects;
@@ -111,10 +112,17 @@ module _ (before after : List Process) (p p2 : Process) (write : IsWrite before 
     named = λ k q v e at there. found_after (IsNamed r2.objects e) k q at (λ is. named v e (ap (λ (x : ProcessValue). get x.handles v) is ∙ there)) (λ old. next.named e (lab.named k q v e old there));
     queued = next.queued;
     counted = next.counted;
-    agrees = λ k o at. still_agrees (world_value before r) (world_value after r2) k o.body (same_states state r r2 k) (next.agrees k o at);
+    agrees = λ k o at. agree k o.body (next.agrees k o at);
     in_jobs = next.in_jobs;
     kept = next.kept;
   }
+
+  -- the same where the state stays
+  pub keeps : (r r2 : Objects) → IsConsistent before r → p2.state ≡ p.state → IsTable p2.table
+      → ((v : ℕ) (e : Entry) → get p2.table.entries v ≡ Some e → IsNamed r2.objects e)
+      → IsNext before after r r2
+      → IsConsistent after r2
+  keeps r r2 lab state = keeps_agreeing r r2 lab (λ k b. still_agrees (world_value before r) (world_value after r2) k b (same_states state r r2 k))
 
   -- the same where the table stays
   pub keeps_table : (r r2 : Objects) → IsConsistent before r → p2.state ≡ p.state → p2.table ≡ p.table → IsNext before after r r2 → IsConsistent after r2

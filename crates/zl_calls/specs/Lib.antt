@@ -4,6 +4,9 @@ pub mod World
 pub mod calls
 pub mod Acted
 pub mod Consistent
+pub mod Blocked
+pub mod Waking
+pub mod Acting
 pub mod Making
 pub mod Makes
 pub mod Steps

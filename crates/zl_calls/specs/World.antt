@@ -1,5 +1,5 @@
 -- What the definitions see of the world of this crate.
-use Rattle.std.specs.Prelude.{ℕ, ◌≡◌, ◌<◌, Bool, length, slice_get, List, [], map, Option, Some, None, if◌then◌else◌}
+use Rattle.std.specs.Prelude.{ℕ, ◌≡◌, ◌<◌, Bool, length, slice_get, List, [], ◌∷◌, map, Option, Some, None, if◌then◌else◌}
 use Rattle.std.specs.Option.{option_map}
 use Rattle.zl_code.specs.Common.{get, World as WorldValue, Process as ProcessValue, State as StateValue, Created, Ready, Blocked, Ended, Gone, is_ready, is_process, Library, local_effect, name_of, site_of, Next, AtCall, Moves, IsStuck, calls_at, next_for}
 use Rattle.zl_code.specs.declared.history.CallName.{CallName}
@@ -8,6 +8,7 @@ use Rattle.zl_code.specs.declared.history.ProcState.TheVariants as seen
 use Rattle.zl_code.specs.declared.instr.CallInstr.{CallInstr}
 use Rattle.zl_code.specs.declared.instr.LocalInstr.{LocalInstr}
 use Rattle.zl_code.specs.Steps.{moves}
+use Rattle.zl_rights.specs.World.{SignalOf, PacketAt}
 use Rattle.zl_calls.specs.declared.process.State.{State}
 use Rattle.zl_calls.specs.declared.process.State.TheVariants as state
 use Rattle.zl_calls.specs.declared.process.Process.{Process}
@@ -21,9 +22,12 @@ pub record World : Type 0 where
 
 -- ---- views
 
--- the state of a process, ready or ended; none is created or blocked yet
+-- the state of a process, ready, blocked or ended; none is created yet
 abbrev pub state_value : State → StateValue
 state_value state.Ready = Ready
+state_value (state.AwaitsSignal koid mask to) = Blocked (SignalOf koid mask) (to.status ∷ to.observed ∷ [])
+state_value (state.AwaitsPacket port to) =
+    Blocked (PacketAt port) (to.status ∷ to.key ∷ to.kind ∷ to.trigger ∷ to.observed ∷ [])
 state_value (state.Ended code) = Ended code
 
 -- a process; of its table just the live handles and the value removed last are seen
@@ -40,7 +44,7 @@ process_value p = record {
 abbrev pub process_entry : Process → ℕ × ProcessValue
 process_entry p = (p.pid, process_value p)
 
--- the world of these processes and objects; nothing blocks or waits yet
+-- the world of these processes and objects, where nothing blocks or waits
 abbrev pub world_value : List Process → Objects → WorldValue
 world_value processes objects = record {
   processes = map process_entry processes;
@@ -50,6 +54,10 @@ world_value processes objects = record {
   next_koid = objects.next_koid;
   waits_made = 0;
 }
+
+-- the same, where the processes with these koids block, the longest blocked first
+abbrev pub world_blocked : List Process → Objects → List ℕ → WorldValue
+world_blocked processes objects blocked = record (world_value processes objects) { blocked = blocked }
 
 -- ---- what is seen of a process
 

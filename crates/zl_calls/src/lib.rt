@@ -15,6 +15,7 @@ mod program;
 mod reading;
 mod running;
 mod stepping;
+mod waking;
 mod world;
 mod writing;
 

@@ -8,16 +8,37 @@ ghost use Rattle.zl_calls.specs.calls.Wait.{polled_status, polled_values};
 
 use crate::calls::wait::PollFault;
 use crate::cpu::Cpu;
+use crate::packets::PacketRegisters;
 use bitflags::Flags;
 use std::alloc::Global;
 use zl_code::{Outcome, ProcState, Register};
-use zl_rights::{HValue, Pid, Signals, Status};
+use zl_rights::{HValue, Koid, Pid, Signals, Status};
 use zl_table::Table;
 
-/// What a process is in. Those that are made at boot are ready at once, and none blocks yet.
+/// The registers that get the active signals of an object, the status first.
+#[derive(Clone, Copy)]
+pub struct SignalRegisters {
+    pub status: Register,
+    pub observed: Register,
+}
+
+/// What a process is in. Those that are made at boot are ready at once.
+///
+/// A blocked one is still at its wait, and has the registers of its answer here.
 #[derive(Clone, Copy)]
 pub enum State {
     Ready,
+    /// Blocked until a signal of the mask is active at the object.
+    AwaitsSignal {
+        koid: Koid,
+        mask: u64,
+        to: SignalRegisters,
+    },
+    /// Blocked until a packet is at the port.
+    AwaitsPacket {
+        port: Koid,
+        to: PacketRegisters,
+    },
     Ended(i32),
 }
 
@@ -38,6 +59,8 @@ impl Process {
     {
         match self.state {
             State::Ready => ProcState::Ready,
+            State::AwaitsSignal { .. } => ProcState::Blocked,
+            State::AwaitsPacket { .. } => ProcState::Blocked,
             State::Ended(code) => ProcState::Ended(code),
         }
     }

@@ -10,19 +10,16 @@ ghost use Rattle.zl_calls.specs.Makes.{IsReached};
 ghost use Rattle.zl_calls.specs.Steps.{Performs, StepsTo, TakesStep, local_item, takes_memory};
 
 use crate::booting::{Made, booted};
-use crate::calls::process::end;
 use crate::cpu::Cpu;
 use crate::process::Process;
 use crate::program::Library;
-use crate::stepping::{call_next, next_name, place_of, run_next};
+use crate::stepping::{act_for, next_name, place_of};
+use crate::waking::wake;
 use std::alloc::Global;
 use std::marker::Model;
-use zl_code::{Boot, BootFault, CallName, Image, Outcome, ProcState, TraceItem};
+use zl_code::{Boot, BootCause, BootFault, CallName, Image, Outcome, ProcState, TraceItem};
 use zl_objects::Objects;
 use zl_rights::{Pid, Status};
-
-/// The code with which a stuck process ends (own profile).
-const STUCK: i32 = -1028;
 
 /// The world of a lab: its programs, every process ever made, and the objects.
 ///
@@ -34,19 +31,27 @@ pub struct World {
     library: Library,
     processes: Vec<Process>,
     objects: Objects,
+    // The processes that are blocked, the longest blocked first. There is room for each process, so
+    // that none takes memory to block.
+    blocked: Vec<Pid>,
 }
 
 impl Model for World {
+    ghost use Rattle.std.specs.Prelude.{vec_capacity};
     ghost use Rattle.zl_calls.specs.World.{World as WorldValue};
 
     ghost Value = { WorldValue };
 
-    ghost use Rattle.zl_calls.specs.World.{world_value};
-    ghost use Rattle.zl_calls.specs.Consistent.{IsConsistent};
+    ghost use Rattle.zl_calls.specs.World.{world_blocked};
+    ghost use Rattle.zl_calls.specs.Blocked.{IsWhole};
 
-    ghost view = { λ w. record { programs = w.library; world = world_value w.processes.items w.objects } };
+    ghost view = { λ w. record {
+      programs = w.library;
+      world = world_blocked w.processes.items w.objects w.blocked.items;
+    } };
 
-    ghost invariant = { λ w. IsConsistent w.processes.items w.objects };
+    ghost invariant = { λ w.
+        IsWhole w.processes.items w.objects w.blocked.items (vec_capacity w.blocked) };
 }
 
 /// What a process did that wasn't at a call.
@@ -68,8 +73,8 @@ impl World {
     /// new object of the kind doesn't give; else `Limit` for the 65th process, or where fewer koids up
     /// to 1,024 are left than the statement takes, two for a channel and one for any other. A limit of
     /// the trace above `Boot::MOST_ITEMS` is `Limit` of a statement one past the last. `NoMemory` may
-    /// come at any statement, and for the root job, which is made before all, as of statement 0, which
-    /// need not be there.
+    /// come at any statement, and for the root job and the room for blocked processes as of statement 0,
+    /// which need not be there.
     pub fn boot(alloc: Global, library: Library, boot: &Boot) -> Result<World, BootFault>
         ensures ok { IfOk result (λ world. IsBoot library boot.now.statements.items world.world) }
         ensures programs { IfOk result (λ world. world.programs ≡ library) }
@@ -81,11 +86,18 @@ impl World {
             → IsReached library boot.now.statements.items fault.statement) }
     {
         let Made { processes, objects } = booted(alloc, &library, boot)?;
+        let Ok(blocked) = Vec::with_capacity(alloc, processes.len()) else {
+            return Err(BootFault {
+                statement: 0,
+                cause: BootCause::NoMemory,
+            });
+        };
         Ok(World {
             alloc,
             library,
             processes,
             objects,
+            blocked,
         })
     }
 
@@ -158,33 +170,22 @@ impl World {
         ensures not_ready { IfNone result (is_ready_in self.old pid ≡ false) }
         ensures unchanged { IfNone result (self.new ≡ self.old) }
     {
-        let place = place_of(&self.processes, pid)?;
-        let process = &mut self.processes[place];
-        if !process.is_ready() {
-            return None;
-        }
-        if let Some((call, outcome)) = call_next(
+        let item = act_for(
             self.alloc,
             &self.library,
-            process,
+            &mut self.processes,
             &mut self.objects,
-        ) {
-            return Some(TraceItem::Call { pid, call, outcome });
-        }
-        match run_next(&self.library, process) {
-            Some(()) => Some(TraceItem::Run { pid, count: 1 }),
-            None => {
-                end(self.alloc, process, &mut self.objects, STUCK);
-                Some(TraceItem::Stuck { pid })
-            }
-        }
+            pid,
+        )?;
+        wake(&mut self.processes, &mut self.objects, &mut self.blocked);
+        Some(item)
     }
 
     /// Does the system call at which the process is, with all that follows from it.
     ///
     /// The process has to be ready and at a call. It takes no memory at `close`, `signal`,
     /// `signal_peer`, `wait_poll`, `port_poll` and `process_exit`; a call that was refused memory is
-    /// answered `NoMemory`.
+    /// answered `NoMemory`. Processes that wake take none.
     /// Source: for each call its page of the Fuchsia documentation, as "zx_handle_close"; the order
     /// in which answers are looked for is own profile.
     pub fn perform(&mut self, pid: Pid) -> Outcome
@@ -193,15 +194,14 @@ impl World {
         ensures no_memory { result ≡ Outcome.Answered Status.NoMemory
             → IfSome (call_for self.old pid) (λ call. IsTrue (takes_memory call)) }
     {
-        let Some(place) = place_of(&self.processes, pid) else {
+        let Some(item) = self.step(pid) else {
             unreachable!()
         };
-        let process = &mut self.processes[place];
-        let Some((_, outcome)) = call_next(self.alloc, &self.library, process, &mut self.objects)
-        else {
-            unreachable!()
-        };
-        outcome
+        match item {
+            TraceItem::Call { outcome, .. } => outcome,
+            TraceItem::Run { .. } => unreachable!(),
+            TraceItem::Stuck { .. } => unreachable!(),
+        }
     }
 
     /// Does the local instruction at which the process is. Where it can't be done, the process ends
@@ -213,16 +213,13 @@ impl World {
         requires no_call { call_for self.old pid ≡ None }
         ensures { StepsTo self.old (local_item pid result) self.new }
     {
-        let Some(place) = place_of(&self.processes, pid) else {
+        let Some(item) = self.step(pid) else {
             unreachable!()
         };
-        let process = &mut self.processes[place];
-        match run_next(&self.library, process) {
-            Some(()) => Local::Ran,
-            None => {
-                end(self.alloc, process, &mut self.objects, STUCK);
-                Local::Stuck
-            }
+        match item {
+            TraceItem::Run { .. } => Local::Ran,
+            TraceItem::Stuck { .. } => Local::Stuck,
+            TraceItem::Call { .. } => unreachable!(),
         }
     }
 }

@@ -1,0 +1,93 @@
+-- The list of the blocked processes, as one process changes.
+use Rattle.zl_calls.proofs.Common.{◌≡◌, ◌<◌, ◌^◌, arith, Settles, Request, AtCall, IsStuck, Moves, next_for, close, ℕ, Bool, true, false, not, ◌==◌, List, [], ◌∷◌, length, map, refl, sym, ap, ◌∙◌, subst, if◌then◌else◌, Some, None, inl, inr, IsTrue, cases_Bool, eqb-true, false≢true, state_passes, Map, get, Library, Objects, process_entry, process_value, state_value, world_blocked, world_value, AreBlocked, IsActed}
+use Rattle.std.specs.List.{filter}
+use Rattle.zl_code.proofs.Common.{Next, Process as ProcessValue, is_blocked, pid_of, replace}
+use Rattle.zl_rights.specs.World.{Wait}
+use Rattle.zl_rights.specs.declared.status.Status.TheVariants as status
+use Rattle.zl_code.specs.declared.history.Outcome.{Outcome}
+use Rattle.zl_code.specs.declared.history.Outcome.TheVariants as outcome
+use Rattle.zl_code.specs.declared.history.TraceItem.{TraceItem}
+use Rattle.zl_code.specs.declared.history.TraceItem.TheVariants as item
+use Rattle.zl_code.proofs.Changes.{times, times-same, times-other}
+use Rattle.zl_code.proofs.Waiters.{acts_among, blocked_by, next_looks, settles_beside, tells_blocking, waits_after, waits_by, with_waiters}
+use Rattle.zl_calls.specs.declared.process.Process.{Process}
+use Rattle.zl_calls.specs.Waking.{unless_woke}
+use Rattle.zl_calls.proofs.Answered.{IsWrite}
+use Rattle.zl_calls.proofs.Written.{found_after, get_after}
+
+module _ (before after : List Process) (p p2 : Process) (write : IsWrite before after p p2) where
+  -- a process that isn't blocked before it changes, nor afterwards
+  pub still_blocked : is_blocked (state_value p.state) ≡ false → is_blocked (state_value p2.state) ≡ false → (blocked : List ℕ) → AreBlocked before blocked → AreBlocked after blocked
+  still_blocked was is blocked are = record {
+    once = λ k. are.once k ∙ ap (λ (b : Bool). if b then 1 else 0) (sym (same_there k));
+    counters = λ k q at h. found_after before after p p2 write (q.cpu.counter < 2 ^ 32) k q at
+        (λ here. absurd (false≢true (sym is ∙ (ap (λ (x : ProcessValue). is_blocked x.state) here ∙ h))))
+        (λ old. are.counters k q old h);
+  }
+    where
+      same_there : (k : ℕ) → state_passes is_blocked (get (map process_entry after) k) ≡ state_passes is_blocked (get (map process_entry before) k)
+      same_there k = elim (cases_Bool (p.pid == k)) as (λ _. state_passes is_blocked (get (map process_entry after) k) ≡ state_passes is_blocked (get (map process_entry before) k)) [
+        | inl here ↦ rw (get_after before after p p2 write k, here, ← eqb-true p.pid k here, write.there, was, is) refl
+        | inr apart ↦ rw (get_after before after p p2 write k, apart) refl
+      ]
+
+  -- a process that was blocked, and isn't any more
+  pub one_awake : is_blocked (state_value p2.state) ≡ false → (blocked : List ℕ) → AreBlocked before blocked → AreBlocked after (filter (λ q. not (q == p.pid)) blocked)
+  one_awake is blocked are = record {
+    once = λ k. elim (cases_Bool (p.pid == k)) as (λ _. times k (filter (λ q. not (q == p.pid)) blocked) ≡ (if state_passes is_blocked (get (map process_entry after) k) then 1 else 0)) [
+      | inl here ↦ rw (get_after before after p p2 write k, here, ← eqb-true p.pid k here, is) (times-same p.pid blocked)
+      | inr apart ↦ rw (get_after before after p p2 write k, apart) (times-other p.pid k apart blocked ∙ are.once k)
+    ];
+    counters = λ k q at h. found_after before after p p2 write (q.cpu.counter < 2 ^ 32) k q at
+        (λ here. absurd (false≢true (sym is ∙ (ap (λ (x : ProcessValue). is_blocked x.state) here ∙ h))))
+        (λ old. are.counters k q old h);
+  }
+
+-- ---- what a process does beside the blocked
+
+pub none_filtered : (p : ℕ) (ps : List ℕ) → ◌≡◌ {A = ℕ} (times p ps) 0 → filter (λ q. not (q == p)) ps ≡ ps
+none_filtered p [] none = refl
+none_filtered p (q ∷ ps) none = by_test (q == p) none (λ h. none_filtered p ps h)
+  where
+    by_test : (b : Bool) → ◌≡◌ {A = ℕ} (length (if b then q ∷ filter (λ x. x == p) ps else filter (λ x. x == p) ps)) 0 → (◌≡◌ {A = ℕ} (times p ps) 0 → filter (λ x. not (x == p)) ps ≡ ps)
+        → (if not b then q ∷ filter (λ x. not (x == p)) ps else filter (λ x. not (x == p)) ps) ≡ q ∷ ps
+    by_test true none rest = absurd (omega (arith, none))
+    by_test false none rest = ap (λ (xs : List ℕ). q ∷ xs) (rest none)
+
+-- a step of a process that isn't among the blocked leaves them
+same_blocked : (pid : ℕ) (x : TraceItem) (blocked : List ℕ) → pid_of x ≡ pid → ◌≡◌ {A = ℕ} (times pid blocked) 0 → blocked_by x blocked ≡ blocked
+same_blocked pid (item.Run at count) blocked same none = refl
+same_blocked pid (item.Call at call (outcome.Answered answer)) blocked same none = refl
+same_blocked pid (item.Call at call (outcome.Ended code)) blocked same none = rw same (none_filtered pid blocked none)
+same_blocked pid (item.Call at call outcome.Blocked) blocked same none = refl
+same_blocked pid (item.Stuck at) blocked same none = rw same (none_filtered pid blocked none)
+
+-- what a process does that isn't blocked is the same, whichever processes block
+pub beside_list : (lib : Library) (before after : List Process) (r r2 : Objects) (pid : ℕ) (x : TraceItem) (blocked : List ℕ) → state_passes is_blocked (get (map process_entry before) pid) ≡ false → AreBlocked before blocked
+    → pid_of x ≡ pid → tells_blocking x ≡ false → (acted : IsActed lib (world_value before r) pid x (world_value after r2)) → next_looks (next_for lib acted.process) ≡ false
+    → IsActed lib (world_blocked before r blocked) pid x (world_blocked after r2 blocked)
+beside_list lib before after r r2 pid x blocked unblocked are same goes acted looks = record {
+  process = acted.process;
+  is_there = acted.is_there;
+  is_ready = acted.is_ready;
+  acted = with_waiters acted.acted (waits_by (next_for lib acted.process) x []) 0 (blocked_by x blocked);
+  acts = acts_among lib (world_value before r) pid [] 0 blocked (next_for lib acted.process) x acted.acted looks goes acted.acts;
+  settles = subst (λ (b : List ℕ). Settles (with_waiters acted.acted (waits_by (next_for lib acted.process) x []) 0 (blocked_by x blocked)) (world_blocked after r2 b)) (same_blocked pid x blocked same none)
+      (subst (λ (ws : List Wait). Settles (with_waiters acted.acted ws 0 (blocked_by x blocked)) (world_blocked after r2 (blocked_by x blocked))) (sym (no_waits (next_for lib acted.process) x)) (settles_beside acted.acted (world_value after r2) 0 (blocked_by x blocked) acted.settles));
+}
+  where
+    none : ◌≡◌ {A = ℕ} (times pid blocked) 0
+    none = are.once pid ∙ rw unblocked refl
+
+    no_waits_after : (request : Request) (o : Outcome) (at : ℕ) → waits_after request o at [] ≡ []
+    no_waits_after (replace h rights) (outcome.Answered status.Ok) at = refl
+    no_waits_after (replace h rights) (outcome.Answered s) at = refl
+    no_waits_after (replace h rights) o at = refl
+    no_waits_after (close h) o at = refl
+    no_waits_after request o at = refl
+
+    no_waits : (next : Next) (y : TraceItem) → waits_by next y [] ≡ []
+    no_waits (AtCall call s) (item.Call at name o) = no_waits_after s.request o at
+    no_waits (AtCall call s) _ = refl
+    no_waits (Moves c) y = refl
+    no_waits IsStuck y = refl

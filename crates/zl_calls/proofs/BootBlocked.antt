@@ -1,0 +1,22 @@
+-- In a world that boots no process is blocked.
+use Rattle.zl_calls.proofs.Common.{◌≡◌, ◌<◌, ◌^◌, ℕ, List, [], map, refl, sym, ap, ◌∙◌, if◌then◌else◌, Bool, true, false, Option, Some, IsTrue, arith, subst, is_process, state_passes, get, Library, Objects, process_entry, world_value, AreBlocked}
+use Rattle.zl_code.proofs.Common.{IsBoot, IsSound, Process as ProcessValue, is_blocked}
+use Rattle.zl_code.proofs.SoundRuns.{boot_sound}
+use Rattle.zl_code.specs.declared.boot.Statement.{Statement}
+use Rattle.zl_calls.specs.declared.process.Process.{Process}
+
+pub none_blocked : (lib : Library) (statements : List Statement) (ps : List Process) (r : Objects) (blocked : List ℕ) → IsBoot lib statements (world_value ps r) → blocked ≡ [] → AreBlocked ps blocked
+unfolding is_process
+none_blocked lib statements ps r blocked boots none =
+    let sound : IsSound (world_value ps r) = boot_sound lib statements (world_value ps r) boots in
+    record {
+      once = λ k. rw none (sound.blocked k);
+      counters = λ k p at h. absurd (by_test (is_blocked p.state) h (subst (λ (o : Option ProcessValue). ◌≡◌ {A = ℕ} 0 (if state_passes is_blocked o then 1 else 0)) at (sound.blocked k)));
+    }
+  where
+    by_test : (b : Bool) → IsTrue b → ◌≡◌ {A = ℕ} 0 (if b then 1 else 0) → ⊥
+    by_test true h count = omega (arith, count)
+    by_test false h count = false_true h
+      where
+        false_true : IsTrue false → ⊥
+        false_true e = cc

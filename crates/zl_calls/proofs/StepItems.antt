@@ -1,0 +1,184 @@
+-- What the item of a step tells of the process: which call it did, that it ran, or that it was stuck.
+use Rattle.zl_calls.proofs.Common.{IsSome, ◌≡◌, ℕ, true, false, Bool, List, ap, refl, sym, ◌∙◌, subst, Option, Some, None, IsTrue, IfSome, false≢true, none-some, same_Some, get, is_ready, is_process, state_passes, call_name, Library, Row, row_of, row_named, call_parts, Image, Program, Site, site_of, name_of, Step, AtCall, IsStuck, Moves, calls_at, next_for, call_in, call_for, is_ready_in, StepsTo, TakesStep, Performs, takes_memory, map, wakes, Objects, IfNone, process_entry, world_blocked, DoesNext}
+use Rattle.zl_code.proofs.Common.{Acts, Next, Cpu, World as WorldValue, Process as ProcessValue, grows, next_at}
+use Rattle.zl_rights.specs.declared.status.Status.TheVariants as status
+use Rattle.zl_code.specs.declared.history.CallName.{CallName}
+use Rattle.zl_code.specs.declared.history.Outcome.{Outcome}
+use Rattle.zl_code.specs.declared.history.Outcome.TheVariants as outcome
+use Rattle.zl_code.specs.declared.history.TraceItem.{TraceItem}
+use Rattle.zl_code.specs.declared.history.TraceItem.TheVariants as item
+use Rattle.zl_code.specs.declared.instr.Instr.{Instr}
+use Rattle.zl_code.specs.declared.instr.Instr.TheVariants as instr
+use Rattle.zl_code.specs.declared.instr.CallInstr.{CallInstr}
+use Rattle.zl_code.specs.CallTable.{asks}
+use Rattle.zl_code.specs.Calls.{grows_in}
+use Rattle.zl_code.specs.Image.{instr_at}
+use Rattle.zl_code.specs.Local.{local_effect}
+use Rattle.zl_code.specs.Steps.{moves, next_of, next_in}
+use Rattle.zl_code.proofs.CallRows.{has, asks_or, asks_again, row_again}
+use Rattle.zl_code.proofs.Stepping.{wanting_step}
+use Rattle.std.specs.Prelude.{slice_get}
+use Rattle.zl_calls.specs.declared.process.Process.{Process}
+use Rattle.zl_calls.specs.World.{World, call_of}
+
+-- ---- the process that acts, and the item
+
+module _ (lib : Library) (w w2 : WorldValue) (pid at : ℕ) where
+  ran_no_call : (n : ℕ) (next : Next) → Acts lib w pid next (item.Run at n) w2 → call_in next ≡ None
+  ran_no_call n (Moves c) acts = refl
+  ran_no_call n (AtCall call s) (o, is, calls) = cc
+  ran_no_call n IsStuck acts = refl
+
+  ran_one : (n : ℕ) (next : Next) → Acts lib w pid next (item.Run at n) w2 → item.Run at n ≡ item.Run pid 1
+  ran_one n (Moves c) acts = acts.0
+  ran_one n (AtCall call s) (o, is, calls) = cc
+  ran_one n IsStuck (is, over) = cc
+
+  stuck_no_call : (next : Next) → Acts lib w pid next (item.Stuck at) w2 → call_in next ≡ None
+  stuck_no_call (Moves c) acts = refl
+  stuck_no_call (AtCall call s) (o, is, calls) = cc
+  stuck_no_call IsStuck acts = refl
+
+  called : (name : CallName) (o : Outcome) (next : Next) → Acts lib w pid next (item.Call at name o) w2 → call_in next ≡ Some name
+  called name o (Moves c) (is, moved) = cc
+  called name o (AtCall call s) (o2, is, calls) = cc
+  called name o IsStuck (is, over) = cc
+
+-- ---- the call that stands next, and its instruction
+
+-- the call stands at an instruction
+record IsAt (c : Cpu) (name : CallName) (s : Site) : Type 0 where
+  call : CallInstr
+  named : name_of call ≡ name
+  sited : site_of call c ≡ Some s
+
+module _ (c : Cpu) (name : CallName) (s : Site) where
+  stuck_apart : IsStuck ≡ AtCall name s → ⊥
+  stuck_apart e = cc
+
+  moves_apart : (to : Cpu) → Moves to ≡ AtCall name s → ⊥
+  moves_apart to e = cc
+
+  by_site : (i : CallInstr) (found : Option Site) → site_of i c ≡ found → calls_at (name_of i) found ≡ AtCall name s → IsAt c name s
+  by_site i None is e = absurd (stuck_apart e)
+  by_site i (Some t) is e = let same : t ≡ s = cc in record { call = i; named = cc; sited = is ∙ ap (λ (x : Site). Some x) same }
+
+  by_effect : (o : Option Cpu) → moves o ≡ AtCall name s → IsAt c name s
+  by_effect None e = absurd (stuck_apart e)
+  by_effect (Some to) e = absurd (moves_apart to e)
+
+  by_instr : (o : Option Instr) → next_of o c ≡ AtCall name s → IsAt c name s
+  by_instr None e = absurd (stuck_apart e)
+  by_instr (Some (instr.Local i)) e = by_effect (local_effect i c) e
+  by_instr (Some (instr.Call i)) e = by_site i (site_of i c) refl e
+  by_instr (Some (instr.Unknown bytes)) e = absurd (stuck_apart e)
+
+  by_program : (o : Option Program) → next_in o c ≡ AtCall name s → IsAt c name s
+  unfolding next_at
+  by_program None e = absurd (stuck_apart e)
+  by_program (Some g) e = by_instr (instr_at g.image c.counter) e
+
+-- memory is refused only to a call that takes it
+takes_where_wanting : (lib : Library) (w w2 : WorldValue) (pid : ℕ) (q : ProcessValue) (name : CallName) (s : Site) → get w.processes pid ≡ Some q → next_for lib q ≡ AtCall name s
+    → Step lib w pid (item.Call pid name (outcome.Answered status.NoMemory)) w2 → IsTrue (takes_memory name)
+takes_where_wanting lib w w2 pid q name s there next step =
+    let at : IsAt q.cpu name s = by_program q.cpu name s (slice_get lib q.program) next in
+    let opcode : (asks s.request).0 ≡ (call_parts at.call).opcode = ap (λ (x : ℕ × List ℕ). x.0) (ap (asks_or (has at.call q.cpu)) (sym at.sited) ∙ asks_again at.call q.cpu) in
+    let row : row_of (asks s.request).0 ≡ row_named (call_name name) = ap row_of opcode ∙ (sym (row_again at.call) ∙ ap (λ (x : CallName). row_named (call_name x)) at.named) in
+    subst (λ (x : Option Row). IsTrue (grows_in x)) row (wanting_step lib w pid q name s w2 there next step)
+
+-- ---- a step from one lab to another
+
+module _ (l l2 : World) (pid at : ℕ) where
+  stands : (x : TraceItem) (step : Step l.programs l.world at x l2.world) → call_for l at ≡ call_in (next_for l.programs step.process)
+  stands x step = rw (step.is_there, step.is_ready) refl
+
+  call_is : (name : CallName) (o : Outcome) → TakesStep l pid l2 (item.Call at name o) → call_for l pid ≡ Some name
+  call_is name o takes =
+      let step = takes.steps.step in
+      subst (λ (k : ℕ). call_for l k ≡ Some name) takes.pid_is (stands (item.Call at name o) step ∙ called l.programs l.world step.acted at at name o (next_for l.programs step.process) step.acts)
+
+  pub performs : (name : CallName) (o : Outcome) → TakesStep l pid l2 (item.Call at name o) → Performs l pid o l2
+  performs name o takes = record {
+    call = name;
+    at_call = call_is name o takes;
+    steps = subst (λ (k : ℕ). StepsTo l (item.Call k name o) l2) takes.pid_is takes.steps;
+  }
+
+  pub runs_no_call : (n : ℕ) → TakesStep l pid l2 (item.Run at n) → call_for l pid ≡ None
+  runs_no_call n takes =
+      let step = takes.steps.step in
+      subst (λ (k : ℕ). call_for l k ≡ None) takes.pid_is (stands (item.Run at n) step ∙ ran_no_call l.programs l.world step.acted at at n (next_for l.programs step.process) step.acts)
+
+  pub stuck_at_no_call : TakesStep l pid l2 (item.Stuck at) → call_for l pid ≡ None
+  stuck_at_no_call takes =
+      let step = takes.steps.step in
+      subst (λ (k : ℕ). call_for l k ≡ None) takes.pid_is (stands (item.Stuck at) step ∙ stuck_no_call l.programs l.world step.acted at at (next_for l.programs step.process) step.acts)
+
+  pub runs_one : (n : ℕ) → TakesStep l pid l2 (item.Run at n) → StepsTo l (item.Run pid 1) l2
+  runs_one n takes =
+      let step = takes.steps.step in
+      subst (λ (x : TraceItem). StepsTo l x l2) (ran_one l.programs l.world step.acted at at n (next_for l.programs step.process) step.acts ∙ ap (λ (k : ℕ). item.Run k 1) takes.pid_is) takes.steps
+
+  pub is_stuck : TakesStep l pid l2 (item.Stuck at) → StepsTo l (item.Stuck pid) l2
+  is_stuck takes = subst (λ (x : TraceItem). StepsTo l x l2) (ap item.Stuck takes.pid_is) takes.steps
+
+  pub wants_memory : (name : CallName) (o : Outcome) → TakesStep l pid l2 (item.Call at name o) → o ≡ outcome.Answered status.NoMemory → IfSome (call_for l pid) (λ call. IsTrue (takes_memory call))
+  wants_memory name o takes wants =
+      let step = subst (λ (x : Outcome). Step l.programs l.world at (item.Call at name x) l2.world) wants takes.steps.step in
+      rw (call_is name o takes) (by_next step (next_for l.programs step.process) refl step.acts)
+    where
+      by_next : (step : Step l.programs l.world at (item.Call at name (outcome.Answered status.NoMemory)) l2.world) (next : Next) → next_for l.programs step.process ≡ next
+          → Acts l.programs l.world at next (item.Call at name (outcome.Answered status.NoMemory)) step.acted → IsTrue (takes_memory name)
+      by_next step (Moves c) is (same, moved) = absurd (called_moves c same)
+        where
+          called_moves : (c : Cpu) → item.Call at name (outcome.Answered status.NoMemory) ≡ item.Run at 1 → ⊥
+          called_moves c e = cc
+      by_next step (AtCall call s) is (o2, same, calls) =
+          let same_name : name ≡ call = cc in
+          takes_where_wanting l.programs l.world l2.world at step.process name s step.is_there (is ∙ ap (λ (x : CallName). AtCall x s) (sym same_name)) step
+      by_next step IsStuck is (same, over) = absurd (called_stuck same)
+        where
+          called_stuck : item.Call at name (outcome.Answered status.NoMemory) ≡ item.Stuck at → ⊥
+          called_stuck e = cc
+
+-- ---- a step, once processes woke
+
+abbrev pub lab_value : Library → List Process → Objects → List ℕ → World
+lab_value lib ps r blocked = record { programs = lib; world = world_blocked ps r blocked }
+
+module _ (lib : Library) (ps : List Process) (r : Objects) (blocked : List ℕ) (pid : ℕ) where
+  pub not_ready_in : {A : Type 0} (o : Option A) → state_passes is_ready (get (map process_entry ps) pid) ≡ false → IfNone o (is_ready_in (lab_value lib ps r blocked) pid ≡ false)
+  unfolding is_process
+  not_ready_in None unready = unready
+  not_ready_in (Some x) unready = tt
+
+  pub takes_step : (ps2 ps3 : List Process) (r2 r3 : Objects) (blocked3 : List ℕ) (x : TraceItem) → DoesNext lib (world_blocked ps r blocked) pid x (world_blocked ps2 r2 blocked)
+      → world_blocked ps3 r3 blocked3 ≡ wakes (world_blocked ps2 r2 blocked) → TakesStep (lab_value lib ps r blocked) pid (lab_value lib ps3 r3 blocked3) x
+  unfolding is_process
+  takes_step ps2 ps3 r2 r3 blocked3 x does awake = record {
+    pid_is = does.pid_is;
+    ready = rw (does.acted.is_there, does.acted.is_ready) refl;
+    steps = record {
+      programs = refl;
+      step = subst (λ (k : ℕ). Step lib (world_blocked ps r blocked) k x (world_blocked ps3 r3 blocked3)) (sym does.pid_is) (record {
+        process = does.acted.process;
+        is_there = does.acted.is_there;
+        is_ready = does.acted.is_ready;
+        acted = does.acted.acted;
+        acts = does.acted.acts;
+        settled = world_blocked ps2 r2 blocked;
+        settles = does.acted.settles;
+        ends_awake = awake;
+      });
+    };
+  }
+
+-- one that isn't ready is at no call
+pub unready_no_call : (l : World) (pid : ℕ) → is_ready_in l pid ≡ false → call_for l pid ≡ None
+unfolding is_process
+unready_no_call l pid unready = by_process (get l.world.processes pid) unready
+  where
+    by_process : (o : Option ProcessValue) → state_passes is_ready o ≡ false → call_of l.programs o ≡ None
+    by_process None unready = refl
+    by_process (Some p) unready = rw unready refl

@@ -1,0 +1,65 @@
+-- How blocked processes wake. No public clause cites this module.
+use Rattle.std.specs.Prelude.{ℕ, ◌≡◌, Bool, not, ◌==◌, List, [], ◌∷◌, length, map, Option, Some, None, is_some, if◌then◌else◌, slice_get}
+use Rattle.std.specs.Bool.{then_some}
+use Rattle.std.specs.List.{filter}
+use Rattle.std.specs.Option.{option_map}
+use Rattle.zl_code.specs.Common.{answered, get}
+use Rattle.zl_rights.specs.Numbers.{meets}
+use Rattle.zl_rights.specs.Wakes.{packet_values, woken}
+use Rattle.zl_objects.specs.Objects.{Objects}
+use Rattle.zl_objects.specs.Ports.{changing_port, packets_in}
+use Rattle.zl_objects.specs.Signals.{signals_at}
+use Rattle.zl_port.specs.Packets.{without_front}
+use Rattle.zl_calls.specs.declared.process.State.{State}
+use Rattle.zl_calls.specs.declared.process.State.TheVariants as state
+use Rattle.zl_calls.specs.declared.process.Process.{Process}
+use Rattle.zl_calls.specs.World.{world_blocked}
+use Rattle.zl_calls.specs.Consistent.{IsConsistent}
+use Rattle.zl_calls.specs.Blocked.{AreBlocked}
+
+-- ---- one process
+
+-- the active signals, if one of the mask is among them
+abbrev pub seen_active : ℕ → ℕ → Option (List ℕ)
+seen_active signals mask = then_some (meets signals mask) (signals ∷ [])
+
+-- what the answer of a blocked process gives behind the status, if what it waits for is there
+abbrev pub given_awake : State → Objects → Option (List ℕ)
+given_awake (state.AwaitsSignal koid mask to) r = seen_active (signals_at r.objects koid) mask
+given_awake (state.AwaitsPacket port to) r =
+    option_map packet_values (slice_get (packets_in (get r.objects port)) 0)
+given_awake _ r = None
+
+-- the registers of its answer, the status first
+abbrev pub destinations_of : State → List ℕ
+destinations_of (state.AwaitsSignal koid mask to) = to.status ∷ to.observed ∷ []
+destinations_of (state.AwaitsPacket port to) =
+    to.status ∷ to.key ∷ to.kind ∷ to.trigger ∷ to.observed ∷ []
+destinations_of _ = []
+
+-- the process with this answer in these registers, if there is one, ready
+abbrev pub awake_in : List ℕ → Option (List ℕ) → Process → Process
+awake_in destinations None p = p
+awake_in destinations (Some values) p = record p { state = state.Ready; cpu = answered p.cpu destinations (0 ∷ values) }
+
+-- the same, in the registers of its wait
+abbrev pub awake : Option (List ℕ) → Process → Process
+awake given p = awake_in (destinations_of p.state) given p
+
+-- the objects without the packet that the process takes, if there is one
+abbrev pub without_taken : State → Objects → Objects
+without_taken (state.AwaitsPacket port to) r = changing_port r port without_front
+without_taken _ r = r
+
+-- ---- the list
+
+-- the list without the process, if that woke
+abbrev pub unless_woke : Bool → ℕ → List ℕ → List ℕ
+unless_woke woke pid blocked = if woke then filter (λ q. not (q == pid)) blocked else blocked
+
+-- the process woke, or what it waits for isn't there yet, whichever processes block beside it
+pub record WakesOne (pid : ℕ) (woke : Bool) (ps : List Process) (r : Objects) (ps2 : List Process) (r2 : Objects) : Type 0 where
+  pub world : (blocked : List ℕ) → world_blocked ps2 r2 (unless_woke woke pid blocked) ≡ woken (world_blocked ps r blocked) pid
+  pub list : (blocked : List ℕ) → AreBlocked ps blocked → AreBlocked ps2 (unless_woke woke pid blocked)
+  pub lab : IsConsistent ps2 r2
+  pub count : length ps2 ≡ length ps

@@ -1,0 +1,123 @@
+//! How blocked processes become ready: after each step, in the order in which they blocked.
+
+ghost use Rattle.std.specs.Prelude.{ℕ, ◌≡◌, ◌<◌, ◌^◌, [], ◌∷◌, Some, length, map, is_some, slice_get, vec_capacity};
+ghost use Rattle.std.specs.Option.{option_map};
+ghost use Rattle.zl_rights.specs.Map.{get};
+ghost use Rattle.zl_rights.specs.Numbers.{meets};
+ghost use Rattle.zl_rights.specs.Wakes.{packet_values, wakes};
+ghost use Rattle.zl_objects.specs.Ports.{changing_port, packets_in};
+ghost use Rattle.zl_objects.specs.Signals.{signals_at};
+ghost use Rattle.zl_port.specs.Packets.{without_front};
+ghost use Rattle.zl_calls.specs.Blocked.{AreBlocked};
+ghost use Rattle.zl_calls.specs.Consistent.{IsConsistent};
+ghost use Rattle.zl_calls.specs.Waking.{WakesOne, awake, awake_in, given_awake, seen_active, without_taken};
+ghost use Rattle.zl_rights.specs.World.{Process as ProcessValue};
+ghost use Rattle.zl_calls.specs.World.{process_entry, world_blocked};
+
+use crate::packets::PacketRegisters;
+use crate::process::{Process, SignalRegisters, State};
+use crate::stepping::place_of;
+use bitflags::Flags;
+use zl_objects::Objects;
+use zl_rights::{Koid, Pid};
+
+/// Each blocked process in turn, the longest blocked first: where what it waits for is there, it
+/// gets its answer and leaves the list. It takes no memory.
+pub fn wake(processes: &mut Vec<Process>, objects: &mut Objects, blocked: &mut Vec<Pid>)
+    requires lab { IsConsistent processes.old.items objects.old }
+    requires list { AreBlocked processes.old.items blocked.old.items }
+    ensures wakes { world_blocked processes.new.items objects.new blocked.new.items
+        ≡ wakes (world_blocked processes.old.items objects.old blocked.old.items) }
+    ensures lab { IsConsistent processes.new.items objects.new }
+    ensures list { AreBlocked processes.new.items blocked.new.items }
+    ensures count { length processes.new.items ≡ length processes.old.items }
+    ensures capacity { vec_capacity blocked.new ≡ vec_capacity blocked.old }
+{
+    let mut place = 0;
+    while place < blocked.len() {
+        if wake_one(processes, objects, blocked[place]) {
+            blocked.remove(place);
+        } else {
+            place += 1;
+        }
+    }
+}
+
+/// One process, which is blocked; whether it woke.
+fn wake_one(processes: &mut Vec<Process>, objects: &mut Objects, pid: Pid) -> bool
+    requires lab { IsConsistent processes.old.items objects.old }
+    requires counter { (p : ProcessValue) → get (map process_entry processes.old.items) pid ≡ Some p
+        → p.cpu.counter < 2 ^ 32 }
+    ensures { WakesOne pid result
+        processes.old.items objects.old processes.new.items objects.new }
+{
+    match place_of(processes, pid) {
+        Some(place) => wake_process(&mut processes[place], objects),
+        None => false,
+    }
+}
+
+/// The process becomes ready, if what it waits for is there; whether it did. A packet goes to it.
+fn wake_process(process: &mut Process, objects: &mut Objects) -> bool
+    requires { process.old.cpu.counter < 2 ^ 32 }
+    ensures woke { result ≡ is_some (given_awake process.old.state objects.old) }
+    ensures process { process.new
+        ≡ awake (given_awake process.old.state objects.old) process.old }
+    ensures objects { objects.new ≡ without_taken process.old.state objects.old }
+{
+    match process.state {
+        State::AwaitsSignal { koid, mask, to } => wake_by_signal(process, objects, koid, mask, to),
+        State::AwaitsPacket { port, to } => wake_by_packet(process, objects, port, to),
+        State::Ready => false,
+        State::Ended(_) => false,
+    }
+}
+
+/// The process becomes ready, if a signal of the mask is active at the object; whether it did.
+#[tactic(auto, unfolding(zl_rights::specs::World::answered))]
+fn wake_by_signal(
+    process: &mut Process,
+    objects: &Objects,
+    koid: Koid,
+    mask: u64,
+    to: SignalRegisters,
+) -> bool
+    requires { process.old.cpu.counter < 2 ^ 32 }
+    ensures woke { result ≡ meets (signals_at objects.now.objects koid) mask }
+    ensures process { process.new ≡ awake_in (to.status ∷ to.observed ∷ [])
+        (seen_active (signals_at objects.now.objects koid) mask) process.old }
+{
+    let active = u64::from(objects.signals_of(koid).bits());
+    if active & mask == 0 {
+        return false;
+    }
+    process.cpu.set(to.status, 0);
+    process.cpu.set(to.observed, active);
+    process.cpu.advance();
+    process.state = State::Ready;
+    true
+}
+
+/// The process becomes ready, if there is a packet at the port, which it takes; whether it did.
+#[tactic(auto, unfolding(zl_rights::specs::World::answered))]
+fn wake_by_packet(
+    process: &mut Process,
+    objects: &mut Objects,
+    port: Koid,
+    to: PacketRegisters,
+) -> bool
+    requires { process.old.cpu.counter < 2 ^ 32 }
+    ensures woke { result ≡ is_some (slice_get (packets_in (get objects.old.objects port)) 0) }
+    ensures process { process.new
+        ≡ awake_in (to.status ∷ to.key ∷ to.kind ∷ to.trigger ∷ to.observed ∷ [])
+        (option_map packet_values (slice_get (packets_in (get objects.old.objects port)) 0))
+        process.old }
+    ensures objects { objects.new ≡ changing_port objects.old port without_front }
+{
+    let Some(packet) = objects.pop(port) else {
+        return false;
+    };
+    process.answer_packet(to, Ok(packet));
+    process.state = State::Ready;
+    true
+}

@@ -17,4 +17,6 @@ pub mod Memories
 pub mod Agreeing
 pub mod CallSites
 pub mod LocalSteps
+pub mod LeadingOn
+pub mod Counting
 mod RowsConforms

@@ -1,5 +1,6 @@
 pub mod Lists
 pub mod Steps
+pub mod Over
 pub mod Numbers
 pub mod Search
 pub mod Leading

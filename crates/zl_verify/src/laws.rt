@@ -1,13 +1,16 @@
 //! Laws of the definitions: each function's contract is one law, and its body is empty.
 
-ghost use Rattle.std.specs.Prelude.{ℕ, ◌≡◌, IsTrue, Option, Some};
+ghost use Rattle.std.specs.Prelude.{ℕ, ◌≡◌, ◌≢◌, ◌↔◌, false, IsTrue, List, [], Option, Some, Ok};
 ghost use Rattle.zl_rights.specs.Common.{World, Cpu, Process, Ready, get};
-ghost use Rattle.zl_code.specs.Image.{Image};
+ghost use Rattle.zl_code.specs.Image.{Image, call_at};
 ghost use Rattle.zl_code.specs.Spells.{is_in_range};
 ghost use Rattle.zl_code.specs.Handles.{HandlesAreSound};
 ghost use Rattle.zl_code.specs.Steps.{Moves, IsStuck, next_at};
 ghost use Rattle.zl_abs.specs.States.{State};
-ghost use Rattle.zl_abs.specs.Typing.{IsTyping};
+ghost use Rattle.zl_abs.specs.Rule.{Edge};
+ghost use Rattle.zl_abs.specs.Typing.{rule, IsTyping};
+ghost use Rattle.zl_verify.specs.Steps.{is_pause, IsOver};
+ghost use Rattle.zl_verify.specs.Over.{IsOverByCount};
 ghost use Rattle.zl_verify.specs.Conforms.{Conforms};
 ghost use Rattle.zl_verify.specs.LocalLaws.{IsUnbuilt, GoesOn};
 
@@ -24,4 +27,15 @@ pub fn local_step()
         → IsTrue (is_in_range i) → IsTyping i t → HandlesAreSound w
         → get w.processes p ≡ Some q → Conforms i t w p q
         → q.state ≡ Ready → (c : Cpu) → next_at i q.cpu ≡ Moves c → GoesOn i t w p q c }
+{}
+
+/// From an instruction that is no wait and not `process_exit` an edge is followed wherever its rule
+/// holds. So in a typing an instruction is over, as a refusal for the budget says it, just where
+/// more instructions than the budget, none of them a wait or `process_exit`, follow one another
+/// from it, itself the first: the last of them needs no edge to be counted. Own profile.
+pub fn over_is_by_count()
+    ensures leads_on { (i : Image) (n : ℕ) (s : State) (edges : List Edge)
+        → is_pause (call_at i n) ≡ false → rule i n s ≡ Ok edges → edges ≢ [] }
+    ensures same { (i : Image) (t : ℕ → Option State) (n : ℕ)
+        → IsTyping i t → (IsOver i t n ↔ IsOverByCount i t n) }
 {}

@@ -1,0 +1,240 @@
+-- Where the rule of an instruction holds, it leads to another, but for the exit.
+use Rattle.std.proofs.Common.{◌≡◌, ◌≢◌, ℕ, ◌+◌, Bool, true, false, ◌&&◌, ◌||◌, not, List, [], ◌∷◌, ◌++◌, length, Option, Some, None, Result, Ok, Err, IfOk, refl, subst, arith, eqb, ltb}
+use Rattle.std.specs.Prelude.{is_some, slice_get, if◌then◌else◌}
+use Rattle.std.proofs.lemmas.Bool.Decides.{nat_tests}
+use Rattle.zl_rights.specs.Numbers.{same_kind}
+use Rattle.zl_rights.specs.declared.kind.Kind.{Kind}
+use Rattle.zl_code.specs.declared.image.SlotArray.{SlotArray}
+use Rattle.zl_code.specs.declared.instr.Instr.{Instr}
+use Rattle.zl_code.specs.declared.instr.Instr.TheVariants as instr
+use Rattle.zl_code.specs.declared.instr.LocalInstr.{LocalInstr}
+use Rattle.zl_code.specs.declared.instr.LocalInstr.TheVariants as local
+use Rattle.zl_code.specs.declared.instr.CallInstr.{CallInstr}
+use Rattle.zl_code.specs.declared.instr.CallInstr.TheVariants as call
+use Rattle.zl_code.specs.Image.{Image, instr_at, call_at, call_in}
+use Rattle.zl_abs.specs.declared.value.AbsVal.{AbsVal}
+use Rattle.zl_abs.specs.declared.value.AbsVal.TheVariants.{Word, Has, KindOf, RightsOf}
+use Rattle.zl_abs.specs.declared.cause.Cause.{Cause}
+use Rattle.zl_abs.specs.declared.cause.Cause.TheVariants as cause
+use Rattle.zl_abs.specs.Outcome.{Outcome}
+use Rattle.zl_abs.specs.Values.{ANY, capped, is_has}
+use Rattle.zl_abs.specs.States.{State, value_at, with_value, refined}
+use Rattle.zl_abs.specs.Bounds.{bounds_of}
+use Rattle.zl_abs.specs.Rule.{and_then, word_at, writes, passes, Edge, edge_to, edges}
+use Rattle.zl_abs.specs.LocalRules.{in_memory, loads, stores, may_move, moved, takes, slot_fault, swaps_by, swaps_in, becomes, known_zero, known_there, known_kind, known_other, kind_numbered, kind_ways, equal_ways, zero_ways, below_ways, has_ways, unless, local_rule}
+use Rattle.zl_abs.specs.CallRules.{Uses, uses_of, state_after, goes_on, call_rule_by, call_rule}
+use Rattle.zl_abs.specs.Typing.{target_of, rule_by, rule_with, rule}
+use Rattle.zl_verify.specs.Steps.{is_pause}
+
+-- one of the two edges is followed
+abbrev HasWay : Outcome → Type 0
+HasWay w = (is_some w.jumped || is_some w.passed) ≡ true
+
+then_on : {A : Type 0} (x : Result A Cause) (f : A → Result Outcome Cause) → ((a : A) → IfOk (f a) HasWay) → IfOk (and_then x f) HasWay
+then_on (Err c) f h = tt
+then_on (Ok a) f h = h a
+
+if_on : (t : Bool) (x : Result Outcome Cause) (c : Cause) → IfOk x HasWay → IfOk (if t then x else Err c) HasWay
+if_on true x c h = h
+if_on false x c h = tt
+
+unless_on : (t : Bool) (x : Result Outcome Cause) (c : Cause) → IfOk x HasWay → IfOk (if t then Err c else x) HasWay
+unless_on true x c h = tt
+unless_on false x c h = h
+
+-- ---- what goes on to the next instruction
+
+writes_on : (s : State) (r : ℕ) (v : AbsVal) → IfOk (writes s r v) HasWay
+writes_on s r v = unless_on (is_has (value_at s r)) (Ok (passes (with_value s r v))) cause.Leak refl
+
+one : (s : State) (b : ℕ) (f : ℕ → Result Outcome Cause) → ((m : ℕ) → IfOk (f m) HasWay) → IfOk (and_then (word_at s b) f) HasWay
+one s b f h = then_on (word_at s b) f h
+
+two : (s : State) (b c : ℕ) (f : ℕ → ℕ → Result Outcome Cause) → ((m n : ℕ) → IfOk (f m n) HasWay) → IfOk (and_then (word_at s b) (λ m. and_then (word_at s c) (λ n. f m n))) HasWay
+two s b c f h = one s b _ (λ m. one s c (f m) (h m))
+
+loads_on : (i : Image) (s : State) (n bound a b offset : ℕ) → IfOk (loads i s n bound a b offset) HasWay
+loads_on i s n bound a b offset = one s b _ (λ m. if_on (in_memory i m offset n) _ _ (writes_on s a (Word bound)))
+
+stores_on : (i : Image) (s : State) (n a b offset : ℕ) → IfOk (stores i s n a b offset) HasWay
+stores_on i s n a b offset = two s a b _ (λ m x. if_on (in_memory i m offset n) (Ok (passes s)) cause.MemoryRange refl)
+
+takes_on : (s : State) (a b : ℕ) → IfOk (takes s a b) HasWay
+takes_on s a b =
+    unless_on (eqb a b) _ _ (unless_on (not (may_move (value_at s b))) _ _
+    (unless_on (is_has (value_at s a)) (Ok (passes (moved s a b (value_at s b)))) cause.Leak refl))
+
+swap_on : (s : State) (a : ℕ) (t : SlotArray) (o : Option Cause) → IfOk (swaps_by s a t o) HasWay
+swap_on s a t (Some c) = tt
+swap_on s a t None = refl
+
+swaps_on : (s : State) (a b : ℕ) (o : Option SlotArray) → IfOk (swaps_in s a b o) HasWay
+swaps_on s a b None = tt
+swaps_on s a b (Some t) = one s b _ (λ place. if_on (ltb place t.length) _ _ (swap_on s a t (slot_fault t (value_at s a))))
+
+-- ---- jumps: where the test can't succeed it can fail
+
+or_true : (b : Bool) → (b || true) ≡ true
+or_true true = refl
+or_true false = refl
+
+exchanged : (p q : Bool) → (p || q) ≡ true → (q || p) ≡ true
+exchanged true q h = or_true q
+exchanged false true h = refl
+exchanged false false h = h
+
+unless_ways : (x : Result Outcome Cause) → IfOk x HasWay → IfOk (unless x) HasWay
+unless_ways (Err c) h = tt
+unless_ways (Ok w) h = exchanged (is_some w.jumped) (is_some w.passed) h
+
+zero_or_there : (s : State) (a r : ℕ) (v : AbsVal) → HasWay (record { jumped = becomes a 0 (known_zero s r v); passed = known_there s r v })
+zero_or_there s a r (Word m) = refl
+zero_or_there s a r (Has maybe k q) = or_true _
+zero_or_there s a r (KindOf q) = refl
+zero_or_there s a r (RightsOf q) = refl
+
+kind_or_other : (s : State) (a imm r : ℕ) (k : Option Kind) (v : AbsVal) → HasWay (record { jumped = becomes a imm (known_kind s r k v); passed = known_other s k v })
+kind_or_other s a imm r None v = refl
+kind_or_other s a imm r (Some k) (Word m) = refl
+kind_or_other s a imm r (Some k) (KindOf q) = refl
+kind_or_other s a imm r (Some k) (RightsOf q) = refl
+kind_or_other s a imm r (Some k) (Has maybe None q) = refl
+kind_or_other s a imm r (Some k) (Has maybe (Some j) q) = by maybe (same_kind k j) (refined s r (Has false (Some k) q))
+  where
+    by : (m t : Bool) (u : State) → (is_some (becomes a imm (if t then Some u else None)) || is_some (if not m && t then None else Some s)) ≡ true
+    by m true u = refl
+    by true false u = refl
+    by false false u = refl
+
+kind_on : (s : State) (a imm r : ℕ) → HasWay (kind_ways s a imm r)
+kind_on s a imm r = by (eqb imm 0)
+  where
+    by : (t : Bool) → HasWay (if t
+        then record { jumped = becomes a 0 (known_zero s r (value_at s r)); passed = known_there s r (value_at s r) }
+        else record { jumped = becomes a imm (known_kind s r (kind_numbered imm) (value_at s r)); passed = known_other s (kind_numbered imm) (value_at s r) })
+    by true = zero_or_there s a r (value_at s r)
+    by false = kind_or_other s a imm r (kind_numbered imm) (value_at s r)
+
+-- two tests, of which the one isn't passed where the other is
+either : (p q : Bool) (s u : State) → (p ≡ true → q ≡ false) → (is_some (if p then None else Some u) || is_some (if q then None else Some s)) ≡ true
+either false q s u h = refl
+either true false s u h = refl
+either true true s u h = let z : true ≡ false = h refl in cc
+
+equal_on : (s : State) (a imm : ℕ) (v : AbsVal) → IfOk (equal_ways s a imm v) HasWay
+equal_on s a imm (Has maybe k r) = tt
+equal_on s a imm (RightsOf r) = refl
+equal_on s a imm (KindOf r) = kind_on s a imm r
+equal_on s a imm (Word m) = by (ltb m (capped imm)) (eqb m 0 && eqb imm 0) (apart m imm)
+  where
+    apart : (m imm : ℕ) → ltb m (capped imm) ≡ true → (eqb m 0 && eqb imm 0) ≡ false
+    apart m imm h = grind (arith, nat_tests)
+
+    by : (p q : Bool) → (p ≡ true → q ≡ false) → (is_some (if p then None else becomes a imm (Some s)) || is_some (if q then None else Some s)) ≡ true
+    by false q h = refl
+    by true false h = refl
+    by true true h = let z : true ≡ false = h refl in cc
+
+zero_on : (s : State) (a : ℕ) (v : AbsVal) → IfOk (zero_ways s a v) HasWay
+zero_on s a (Has maybe k r) = or_true _
+zero_on s a (Word m) = equal_on s a 0 (Word m)
+zero_on s a (KindOf r) = equal_on s a 0 (KindOf r)
+zero_on s a (RightsOf r) = equal_on s a 0 (RightsOf r)
+
+below_on : (s : State) (a imm : ℕ) → IfOk (below_ways s a imm) HasWay
+below_on s a imm = one s a _ (λ m. either (eqb imm 0) (ltb m imm) s _ (apart m imm))
+  where
+    apart : (m imm : ℕ) → eqb imm 0 ≡ true → ltb m imm ≡ false
+    apart m imm h = grind (arith, nat_tests)
+
+has_on : (s : State) (imm : ℕ) (v : AbsVal) → IfOk (has_ways s imm v) HasWay
+has_on s imm (Has maybe k r) = tt
+has_on s imm (RightsOf r) = or_true _
+has_on s imm (Word m) = refl
+has_on s imm (KindOf r) = refl
+
+-- ---- the rows
+
+local_on : (bounds : List ℕ) (i : Image) (x : LocalInstr) (s : State) → IfOk (local_rule bounds i x s) HasWay
+unfolding local_rule
+local_on bounds i (local.Const a imm) s = writes_on s a _
+local_on bounds i (local.Move a b) s = one s b _ (λ m. writes_on s a _)
+local_on bounds i (local.Add a b c) s = two s b c _ (λ m n. writes_on s a _)
+local_on bounds i (local.AddNumber a b imm) s = one s b _ (λ m. writes_on s a _)
+local_on bounds i (local.Subtract a b c) s = two s b c _ (λ m n. writes_on s a _)
+local_on bounds i (local.And a b c) s = two s b c _ (λ m n. writes_on s a _)
+local_on bounds i (local.Or a b c) s = two s b c _ (λ m n. writes_on s a _)
+local_on bounds i (local.Xor a b c) s = two s b c _ (λ m n. writes_on s a _)
+local_on bounds i (local.ShiftLeft a b imm) s = one s b _ (λ m. writes_on s a _)
+local_on bounds i (local.ShiftRight a b imm) s = one s b _ (λ m. writes_on s a _)
+local_on bounds i (local.Take a b) s = takes_on s a b
+local_on bounds i (local.Swap a b imm) s = swaps_on s a b (slice_get i.slots imm)
+local_on bounds i (local.LoadByte a b imm) s = loads_on i s 1 255 a b imm
+local_on bounds i (local.LoadWord a b imm) s = loads_on i s 8 ANY a b imm
+local_on bounds i (local.StoreByte a b imm) s = stores_on i s 1 a b imm
+local_on bounds i (local.StoreWord a b imm) s = stores_on i s 8 a b imm
+local_on bounds i (local.Jump target) s = refl
+local_on bounds i (local.JumpZero a target) s = zero_on s a (value_at s a)
+local_on bounds i (local.JumpNotZero a target) s = unless_ways _ (zero_on s a (value_at s a))
+local_on bounds i (local.JumpEqual a imm target) s = equal_on s a imm (value_at s a)
+local_on bounds i (local.JumpNotEqual a imm target) s = unless_ways _ (equal_on s a imm (value_at s a))
+local_on bounds i (local.JumpBelow a imm target) s = below_on s a imm
+local_on bounds i (local.JumpNotBelow a imm target) s = unless_ways _ (below_on s a imm)
+local_on bounds i (local.JumpHas a imm target) s = has_on s imm (value_at s a)
+local_on bounds i (local.JumpHasNot a imm target) s = unless_ways _ (has_on s imm (value_at s a))
+
+answered_on : (i : Image) (s : State) (on : Bool) (o : Option Uses) → on ≡ true → IfOk (call_rule_by i s on o) HasWay
+answered_on i s true None e = tt
+answered_on i s true (Some u) e = then_on (state_after i s u) _ (λ t. refl)
+answered_on i s false o e = cc
+
+-- each call but the exit goes on
+no_exit : (x : CallInstr) → is_pause (Some x) ≡ false → goes_on x ≡ true
+no_exit (call.ProcessExit a) e = cc
+no_exit _ e = refl
+
+call_on : (bounds : List ℕ) (i : Image) (x : CallInstr) (s : State) → is_pause (Some x) ≡ false → IfOk (call_rule bounds i x s) HasWay
+unfolding call_rule
+call_on bounds i x s e = answered_on i s (goes_on x) (uses_of bounds s x) (no_exit x e)
+
+-- ---- the edges
+
+abbrev IsThere : List Edge → Type 0
+IsThere [] = ⊥
+IsThere (e ∷ es) = Unit {0}
+
+some_edge : (size target next : ℕ) (c d : Cause) (o p : Option State) → (is_some o || is_some p) ≡ true → IfOk (and_then (edge_to size c target o) (λ xs. and_then (edge_to size d next p) (λ ys. Ok (xs ++ ys)))) IsThere
+some_edge size target next c d None None h = cc
+some_edge size target next c d None (Some s) h = by (ltb next size)
+  where
+    by : (t : Bool) → IfOk (and_then (if t then Ok ((next, s) ∷ []) else Err d) (λ ys. Ok ys)) IsThere
+    by true = tt
+    by false = tt
+some_edge size target next c d (Some s) p h = by (ltb target size) (edge_to size d next p)
+  where
+    by : (t : Bool) (r : Result (List Edge) Cause) → IfOk (and_then (if t then Ok ((target, s) ∷ []) else Err c) (λ xs. and_then r (λ ys. Ok (xs ++ ys)))) IsThere
+    by true (Ok ys) = tt
+    by true (Err x) = tt
+    by false r = tt
+
+edges_on : (size place target : ℕ) (x : Result Outcome Cause) → IfOk x HasWay → IfOk (and_then x (edges size place target)) IsThere
+edges_on size place target (Err c) h = tt
+edges_on size place target (Ok w) h = some_edge size target (place + 1) cause.BadJump cause.FallsOff w.jumped w.passed h
+
+rule_on : (bounds : List ℕ) (i : Image) (n : ℕ) (s : State) → is_pause (call_at i n) ≡ false → IfOk (rule_with bounds i n s) IsThere
+unfolding rule_with
+rule_on bounds i n s e = by (instr_at i n) e
+  where
+    by : (o : Option Instr) → is_pause (call_in o) ≡ false → IfOk (rule_by bounds i n s o) IsThere
+    by None h = tt
+    by (Some (instr.Local x)) h = edges_on (length i.code) n (target_of x) (local_rule bounds i x s) (local_on bounds i x s)
+    by (Some (instr.Call x)) h = edges_on (length i.code) n 0 (call_rule bounds i x s) (call_on bounds i x s h)
+    by (Some (instr.Unknown bytes)) h = tt
+
+-- where the rule holds of what is no pause, an edge is followed
+pub leads_on : (i : Image) (n : ℕ) (s : State) (es : List Edge) → is_pause (call_at i n) ≡ false → rule i n s ≡ Ok es → es ≢ []
+leads_on i n s es e h = there es (subst (λ r. IfOk r IsThere) h (rule_on (bounds_of i.code) i n s e))
+  where
+    there : (es : List Edge) → IsThere es → es ≢ []
+    there [] k z = k
+    there (x ∷ xs) k z = cc

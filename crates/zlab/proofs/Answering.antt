@@ -8,9 +8,9 @@ use Rattle.zlab.specs.declared.fault.Verdict.{Verdict}
 use Rattle.zlab.specs.declared.fault.Verdict.TheVariants as verdict
 use Rattle.zlab.specs.declared.input.Input.{Input}
 use Rattle.zlab.specs.declared.input.Input.TheVariants as input
-use Rattle.zlab.specs.declared.system.End.{End}
+use Rattle.zl_sched.specs.declared.system.End.{End}
 use Rattle.zlab.specs.Assembling.{BeginsAssembly, nothing_written}
-use Rattle.zlab.proofs.Legal.{ends_legal}
+use Rattle.zl_sched.proofs.Legal.{ends_legal}
 use Rattle.zlab.proofs.SoundWorlds.{always_sound}
 
 -- ---- facts of a result

@@ -13,7 +13,7 @@ use Rattle.zlab.specs.declared.fault.Verdict.{Verdict}
 use Rattle.zlab.specs.declared.fault.Verdict.TheVariants as verdict
 use Rattle.zlab.specs.Engine.{IsTextOf}
 use Rattle.zlab.specs.Input.{MOST_INPUT, FitsInput}
-use Rattle.zlab.specs.Output.{AppendsBeginning}
+use Rattle.zl_trace.specs.Output.{AppendsBeginning}
 use Rattle.zlab.specs.Text.{refused_line}
 
 -- the bytes are those of the image that the text denotes

@@ -17,7 +17,7 @@ use Rattle.zlab.specs.declared.fault.Verdict.{Verdict}
 use Rattle.zlab.specs.declared.fault.Verdict.TheVariants as verdict
 use Rattle.zlab.specs.Engine.{IsTextOf}
 use Rattle.zlab.specs.Input.{TakesAtMost}
-use Rattle.zlab.specs.Output.{AppendsBeginning}
+use Rattle.zl_trace.specs.Output.{AppendsBeginning}
 use Rattle.zlab.specs.Text.{refused_line}
 
 -- the most bytes of an image

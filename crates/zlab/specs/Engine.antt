@@ -1,14 +1,12 @@
 -- What the step engine answers to the bytes that it has read.
-use Rattle.std.specs.Prelude.{ℕ, ◌≡◌, ◌<◌, ◌≤◌, List, [], length, map, Option, Some, None, IfSome, slice_get}
+use Rattle.std.specs.Prelude.{ℕ, ◌≡◌, ◌<◌, ◌≤◌, List, [], length, Option, Some, None, IfSome, slice_get}
 use Rattle.std.specs.List.{flat_map}
 use Rattle.zl_code.specs.Common.{World, IsBoot, FirstFault, Library, IsLegalHistory, single, IsSound}
 use Rattle.std.specs.Io.KnownBytes.{Appends}
 use Rattle.zl_code.specs.declared.boot.BootCause.{BootCause}
 use Rattle.zl_code.specs.declared.boot.BootCause.TheVariants as boot
-use Rattle.zl_code.specs.declared.history.ProcState.{ProcState}
 use Rattle.zl_code.specs.declared.history.TraceItem.{TraceItem}
 use Rattle.zl_code.specs.Handles.{Throughout}
-use Rattle.zl_calls.specs.World.{seen_in}
 use Rattle.zlab.specs.declared.engine.Booted.{Booted}
 use Rattle.zlab.specs.declared.engine.Booted.TheVariants as booted
 use Rattle.zlab.specs.declared.fault.Cause.{Cause}
@@ -16,24 +14,21 @@ use Rattle.zlab.specs.declared.fault.Cause.TheVariants as cause
 use Rattle.zlab.specs.declared.fault.LineFault.{LineFault}
 use Rattle.zlab.specs.declared.fault.Verdict.{Verdict}
 use Rattle.zlab.specs.declared.fault.Verdict.TheVariants as verdict
-use Rattle.zlab.specs.declared.system.End.{End}
-use Rattle.zlab.specs.Follows.{turns_of, EndsBy}
+use Rattle.zl_sched.specs.declared.system.End.{End}
+use Rattle.zl_sched.specs.Follows.{turns_of, EndsBy}
 use Rattle.zlab.specs.Input.{MOST_INPUT, FitsInput}
-use Rattle.zlab.specs.Output.{AppendsBeginning}
+use Rattle.zl_trace.specs.Output.{AppendsBeginning}
 use Rattle.zlab.specs.Reading.{Lists}
 use Rattle.zlab.specs.Scenario.{Scenario, Refusals, none_refused, reading_of}
-use Rattle.zlab.specs.System.{System, Walks}
-use Rattle.zlab.specs.Text.{history_text, cause_name, refused_line}
+use Rattle.zl_sched.specs.System.{System, Walks}
+use Rattle.zl_trace.specs.Text.{states_of, history_text}
+use Rattle.zlab.specs.Text.{cause_name, refused_line}
 
 -- what the text says, where these of its checked programs are refused
 abbrev pub said_in : Refusals → List ℕ → Scenario
 said_in is_refused text = (reading_of is_refused text).said
 
 -- ---- a trace
-
--- every process ever made, by koid, with what it is in
-abbrev pub states_of : World → List (ℕ × ProcState)
-states_of w = map (λ p. (p.0, seen_in p.1.state)) w.processes
 
 -- P is true of every world of the history, from the first to the last
 abbrev pub InEachWorld : (World → Type 0) → (lib : Library) (first : World) (items : List TraceItem) (last : World) → IsLegalHistory lib first items last → Type 0

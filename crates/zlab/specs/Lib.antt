@@ -1,9 +1,6 @@
 pub mod Text
-pub mod Follows
-pub mod System
 pub mod Engine
 pub mod Input
-pub mod Output
 pub mod Lines
 pub mod Scenario
 pub mod Reading

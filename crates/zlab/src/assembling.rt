@@ -3,19 +3,19 @@ ghost use Rattle.std.specs.Prelude.{◌≡◌, ◌≢◌, IfOk, IfErr, OnOk, OnE
 ghost use Rattle.std.specs.Io.KnownBytes.{Appends};
 ghost use Rattle.zl_asm.specs.Causes.{cause_name};
 ghost use Rattle.zlab.specs.Input.{FitsInput, TakesNoMore};
-ghost use Rattle.zlab.specs.Output.{AppendsBeginning};
 ghost use Rattle.zlab.specs.Text.{refused_line};
 ghost use Rattle.zlab.specs.Assembling.{Leads, ReadsTo, AssemblesReader, BeginsAssembly};
+ghost use Rattle.zl_trace.specs.Output.{AppendsBeginning};
 
 use crate::fault::{EngineFault, Verdict};
 use crate::input::{Input, read_input};
-use crate::output::{write_all, write_block};
 use crate::text::push_refusal;
 use std::alloc::Global;
 use std::io::{Read, Write};
 use zl_asm::hints::explain_program;
 use zl_asm::{AsmCause, AsmFault, assemble_bytes};
 use zl_code::encode;
+use zl_trace::write_all;
 
 /// What a text leads to.
 #[derive(Drop)]
@@ -110,7 +110,8 @@ fn write_fault<W: Write>(alloc: Global, writer: &mut W, fault: AsmFault) -> Resu
         (refused_line fault.line (cause_name fault.cause))) }
     ensures fault { IfErr result (λ fault. fault ≢ EngineFault.Read) }
 {
-    let mut block = String::new(alloc);
-    push_refusal(&mut block, fault.line, fault.cause.name())?;
-    write_block(writer, &mut block)
+    let mut told = String::new(alloc);
+    push_refusal(&mut told, fault.line, fault.cause.name())?;
+    write_all(writer, told.as_bytes())?;
+    Ok(())
 }

@@ -1,18 +1,18 @@
 //! The engine of the verifier: an image is read, and the line written of what the verifier finds.
 ghost use Rattle.std.specs.Prelude.{ℕ, ◌≡◌, ◌≢◌, ◌++◌, List, IfOk, IfErr, OnOk, OnErr, string_bytes};
 ghost use Rattle.std.specs.Io.KnownBytes.{Appends};
-ghost use Rattle.zlab.specs.Output.{AppendsBeginning};
 ghost use Rattle.zlab.specs.Checking.{BeginsCheck, ChecksReader, Finds, IsTrueOf, TakesImage, fault_name, finding_line, front_of, verdict_of};
+ghost use Rattle.zl_trace.specs.Output.{AppendsBeginning};
 
 use crate::fault::{EngineFault, Verdict};
 use crate::hints::explain_refusal;
 use crate::input::read_front;
-use crate::output::write_block;
 use crate::text::push_refusal;
 use std::alloc::{AllocError, Global};
 use std::io::{Read, Write};
 use zl_asm::hints::explain_image;
 use zl_code::{DecodeFault, Image, decode};
+use zl_trace::write_all;
 use zl_verify::{RefusalCause, check};
 
 /// The most bytes of an image: 20 of its header, 8 for each of 7 start handles and 8 slot arrays, and
@@ -115,9 +115,10 @@ fn write_finding<W: Write>(
         (finding_line finding)) }
     ensures fault { IfErr result (λ fault. fault ≢ EngineFault.Read) }
 {
-    let mut block = String::new(alloc);
-    push_finding(&mut block, finding)?;
-    write_block(writer, &mut block)
+    let mut line = String::new(alloc);
+    push_finding(&mut line, finding)?;
+    write_all(writer, line.as_bytes())?;
+    Ok(())
 }
 
 /// Adds the line of what was found. Where memory is refused, a beginning of the line may stand there.

@@ -1,24 +1,23 @@
 //! The engine: an input is read, and its answer written.
-ghost use Rattle.std.specs.Prelude.{◌≡◌, ◌≢◌, ◌++◌, slice_index_or, Some, IfOk, IfErr, OnOk, OnErr, string_bytes};
-ghost use Rattle.std.specs.List.{flat_map};
+ghost use Rattle.std.specs.Prelude.{◌≡◌, ◌≢◌, slice_index_or, Some, IfOk, IfErr, OnOk, OnErr};
 ghost use Rattle.std.specs.Io.KnownBytes.{Appends};
-ghost use Rattle.zlab.specs.Engine.{AnswersReader, BeginsReader, Answers, BeginsAnswer, Starts, WritesRun, BeginsRun, states_of, line_cause};
+ghost use Rattle.zlab.specs.Engine.{AnswersReader, BeginsReader, Answers, BeginsAnswer, Starts, WritesRun, BeginsRun, line_cause};
 ghost use Rattle.zlab.specs.Input.{FitsInput, TakesNoMore};
-ghost use Rattle.zlab.specs.Output.{AppendsBeginning, Gathers};
-ghost use Rattle.zlab.specs.Text.{cause_name, refused_line, state_line};
+ghost use Rattle.zlab.specs.Text.{cause_name, refused_line};
+ghost use Rattle.zl_trace.specs.Output.{AppendsBeginning};
 
 use crate::fault::{Cause, EngineFault, LineFault, Verdict};
 use crate::hints::{explain_scenario, explain_trace};
 use crate::input::{Input, read_input};
-use crate::output::{empty_block, write_block, write_if_full, write_items};
 use crate::scenario::{Reading, Scenario, read_scenario};
-use crate::system::System;
-use crate::text::{push_end, push_refusal, push_state};
+use crate::text::push_refusal;
 use std::alloc::Global;
 use std::io::{Read, Write};
 use zl_calls::World;
-use zl_code::{BootCause, BootFault, ProcState};
+use zl_code::{BootCause, BootFault};
 use zl_rights::Pid;
+use zl_sched::System;
+use zl_trace::{empty_block, write_all};
 
 /// Reads a scenario with a schedule, and writes the trace along the schedule or the line of the
 /// first fault. All input is read before anything is written.
@@ -156,9 +155,9 @@ fn write_refusal<W: Write>(
         (refused_line fault.line (cause_name fault.cause))) }
     ensures fault { IfErr result (λ fault. fault ≢ EngineFault.Read) }
 {
-    let mut block = String::new(alloc);
-    push_refusal(&mut block, fault.line, fault.cause.name())?;
-    write_block(writer, &mut block)?;
+    let mut line = String::new(alloc);
+    push_refusal(&mut line, fault.line, fault.cause.name())?;
+    write_all(writer, line.as_bytes())?;
     Ok(Verdict::Refused)
 }
 
@@ -179,49 +178,6 @@ fn write_run<W: Write>(
 {
     let mut block = empty_block(alloc)?;
     let end = system.step_all(schedule);
-    write_items(writer, &mut block, system.items())?;
-    write_states(writer, &mut block, system.world())?;
-    push_end(&mut block, end)?;
-    write_block(writer, &mut block)?;
+    zl_trace::text(system, end, &mut block, writer)?;
     Ok(Verdict::Done)
-}
-
-/// Writes the lines of all processes, but for the last of them, which stay in the block.
-fn write_states<W: Write>(
-    writer: &mut W,
-    block: &mut String,
-    world: &World,
-) -> Result<(), EngineFault>
-    ensures ok { OnOk result (Gathers (W.contents writer.old) (string_bytes block.old)
-        (W.contents writer.new) (string_bytes block.new)
-        (flat_map (λ p. state_line p.0 p.1) (states_of world.now.world))) }
-    ensures err { OnErr result (AppendsBeginning (W.contents writer.old) (W.contents writer.new)
-        (string_bytes block.old
-        ++ flat_map (λ p. state_line p.0 p.1) (states_of world.now.world))) }
-    ensures fault { IfErr result (λ fault. fault ≢ EngineFault.Read) }
-{
-    for n in 0..world.process_count() {
-        let Some(pid) = world.process_at(n) else {
-            unreachable!()
-        };
-        write_state(writer, block, pid, world.state_of(pid))?;
-    }
-    Ok(())
-}
-
-/// Adds the line of the process to the block, and writes the block where it is full.
-fn write_state<W: Write>(
-    writer: &mut W,
-    block: &mut String,
-    pid: Pid,
-    state: ProcState,
-) -> Result<(), EngineFault>
-    ensures ok { OnOk result (Gathers (W.contents writer.old) (string_bytes block.old)
-        (W.contents writer.new) (string_bytes block.new) (state_line pid state)) }
-    ensures err { OnErr result (AppendsBeginning (W.contents writer.old) (W.contents writer.new)
-        (string_bytes block.old ++ state_line pid state)) }
-    ensures fault { IfErr result (λ fault. fault ≢ EngineFault.Read) }
-{
-    push_state(block, pid, state)?;
-    write_if_full(writer, block)
 }

@@ -1,9 +1,10 @@
 ghost use Rattle.std.specs.Prelude.{◌≡◌};
-ghost use Rattle.zlab.specs.Text.{cause_name};
+ghost use Rattle.zlab.specs.Text.{cause_name, engine_fault};
 ghost use Rattle.zlab.specs.declared.fault.EngineFault.TheVariants.{NoMemory};
 
 use std::alloc::AllocError;
 use thiserror::Error;
+use zl_trace::TextFault;
 
 /// Why an engine can't go on; nothing can be said of its input then.
 #[derive(Debug, Drop, Error)]
@@ -24,6 +25,17 @@ impl From<AllocError> for EngineFault {
 
     fn from(_refused: AllocError) -> EngineFault {
         EngineFault::NoMemory
+    }
+}
+
+impl From<TextFault> for EngineFault {
+    ghost from_gives = { λ lost fault. fault ≡ engine_fault lost };
+
+    fn from(lost: TextFault) -> EngineFault {
+        match lost {
+            TextFault::Write => EngineFault::Write,
+            TextFault::NoMemory => EngineFault::NoMemory,
+        }
     }
 }
 

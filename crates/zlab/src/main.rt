@@ -1,11 +1,11 @@
 //! The program: its command line, the trace of standard input, the assembler and the verifier over
 //! files, what standard error says, and its exit status.
 //!
-//! It stands on `zl_calls` for the world, on `zl_asm` for the assembler and for what is told of texts,
-//! images and stuck processes, on `zl_verify` and `zl_abs` for the verifier, on `zl_code` and
-//! `zl_rights` for what these speak of, and on `clap`, `itoa` and `thiserror`. It promises, by the
-//! contracts of `step_engine`, `asm_engine`, `check_engine` and `words`, that what is written is the
-//! answer to what was read.
+//! It stands on `zl_sched` for a run along a schedule and on `zl_trace` for its text, on `zl_calls` for
+//! the world, on `zl_asm` for the assembler and for what is told of texts, images and stuck processes,
+//! on `zl_verify` and `zl_abs` for the verifier, on `zl_code` and `zl_rights` for what these speak of,
+//! and on `clap` and `thiserror`. It promises, by the contracts of `step_engine`, `asm_engine`,
+//! `check_engine` and `words`, that what is written is the answer to what was read.
 #![tactic(auto)]
 
 mod assembling;
@@ -14,9 +14,7 @@ mod engine;
 mod fault;
 mod hints;
 mod input;
-mod output;
 mod scenario;
-mod system;
 mod text;
 mod told;
 mod words;

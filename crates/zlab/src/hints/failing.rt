@@ -1,12 +1,12 @@
 //! What standard error says of processes that are stuck, and of files and streams that fail.
 
-use crate::system::System;
 use std::alloc::Global;
 use std::io;
 use zl_asm::hints::{Stuck, explain_stuck};
 use zl_calls::World;
 use zl_code::TraceItem;
 use zl_rights::Pid;
+use zl_sched::System;
 
 /// Adds a line for each process that is stuck in the trace.
 pub fn explain_trace(hints: &mut String, alloc: Global, system: &System) {

@@ -1,5 +1,5 @@
 use Rattle.zlab.proofs.Answering.{both_ok, mapped_err, long_answers, long_begins, reader_unanswered}
-use Rattle.zlab.proofs.KnownOutput.{on_err}
+use Rattle.zl_trace.proofs.KnownOutput.{on_err}
 use Rattle.zlab.proofs.engine.step_engine.Goals as goal
 
 pub returns-in_err-text-clause-err : goal.returns-in_err-text-clause-err

@@ -1,0 +1,9 @@
+use Rattle.zl_sched.proofs.Common.{sym, ◌∙◌}
+use Rattle.zl_sched.proofs.ReadyProcess.{ready_by, busy_by}
+use Rattle.zl_sched.proofs.system.is_ready.Goals as goal
+
+pub returns-in-Ready : goal.returns-in-Ready
+returns-in-Ready c = sym (ready_by c.args.world.now c.args.pid (sym c.state_of.ensures ∙ c.in-Ready.is))
+
+pub returns-in_default : goal.returns-in_default
+returns-in_default c = sym (busy_by c.args.world.now c.args.pid (λ is. c.in_default.not-Ready (c.state_of.ensures ∙ is)))

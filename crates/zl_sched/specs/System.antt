@@ -1,0 +1,51 @@
+-- A lab with its trace, and what turns do to them.
+use Rattle.std.specs.Prelude.{ℕ, ◌≡◌, ◌<◌, ◌≤◌, ◌-◌, false, List, [], ◌∷◌, ◌++◌, length, IsTrue}
+use Rattle.zl_code.specs.Common.{Step}
+use Rattle.zl_code.specs.declared.history.TraceItem.{TraceItem}
+use Rattle.zl_calls.specs.World.{World, is_ready_in}
+use Rattle.zl_sched.specs.declared.system.Stepped.{Stepped}
+use Rattle.zl_sched.specs.declared.system.Stepped.TheVariants as stepped
+use Rattle.zl_sched.specs.declared.system.End.{End}
+use Rattle.zl_sched.specs.Follows.{EndsBy}
+
+-- a lab, the items of its steps so far, and how many items there may be
+pub record System : Type 0 where
+  pub lab : World
+  pub items : List TraceItem
+  pub limit : ℕ
+
+-- the items came to the trace
+pub record Adds (s : System) (more : List TraceItem) (s2 : System) : Type 0 where
+  pub programs : s2.lab.programs ≡ s.lab.programs
+  pub items : s2.items ≡ s.items ++ more
+  pub limit : s2.limit ≡ s.limit
+
+-- ---- one turn
+
+-- a turn of a ready process, with room in the trace, is its one step
+pub record Runs (s : System) (pid : ℕ) (s2 : System) : Type 0 where
+  pub item : TraceItem
+  pub adds : Adds s (item ∷ []) s2
+  pub step : Step s.lab.programs s.lab.world pid item s2.lab.world
+  pub ready : IsTrue (is_ready_in s.lab pid)
+  pub room : length s.items < s.limit
+
+-- what a turn does, by its answer: all but a step changes nothing
+abbrev pub Turns : System → ℕ → Stepped → System → Type 0
+Turns s pid stepped.Ran s2 = Runs s pid s2
+Turns s pid stepped.NotReady s2 = (s2 ≡ s) × (is_ready_in s.lab pid ≡ false)
+Turns s pid stepped.Limit s2 = (s2 ≡ s) × IsTrue (is_ready_in s.lab pid) × (s.limit ≤ length s.items)
+Turns s pid stepped.NoMemory s2 = (s2 ≡ s) × IsTrue (is_ready_in s.lab pid) × (length s.items < s.limit)
+
+-- ---- many turns
+
+-- how many items there may still be
+abbrev pub room_of : System → ℕ
+room_of s = s.limit - length s.items
+
+-- the turns were taken, with no more items than there was room for, and that is how it ended
+pub record Walks (s : System) (turns : List ℕ) (e : End) (s2 : System) : Type 0 where
+  pub more : List TraceItem
+  pub adds : Adds s more s2
+  pub room : length more ≤ room_of s
+  pub ends : EndsBy s.lab.programs s.lab.world turns (room_of s) more s2.lab.world e

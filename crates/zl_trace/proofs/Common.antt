@@ -1,0 +1,10 @@
+-- The names that most proofs of this crate cite, passed on from one place. Declares nothing.
+pub use Rattle.zl_code.proofs.Common.{Choice, Err, IsTrue, List, Map, None, Ok, Option, Process, Refused, Result, Some, [], and_parts, ap, append-nil, append_assoc, arith, at_drop_more, below_all, cases_Bool, codes, drop, eq-eqb, eqb-true, flat_map, get_or, inl, inr, is_sorted, length, length-map, map, nat_cmp, nat_tests, none-some, pos, refl, replicate, same_Some, slice_get, string_bytes, subst, suc, sym, take, take-append-drop, take_more, true, zero, ℕ, ◌++◌, ◌+◌, ◌-◌, ◌<◌, ◌==◌, ◌∙◌, ◌∷◌, ◌≡◌, ◌≤◌}
+unfoldable pub use Rattle.zl_code.proofs.Common.{boot_effect, get}
+pub use Rattle.std.specs.Io.KnownBytes.{Appends}
+pub use Rattle.zl_calls.specs.World.{seen_in, seen_of, state_in}
+pub use Rattle.zl_sched.specs.Follows.{Follows, turns_of}
+pub use Rattle.zl_sched.specs.System.{System}
+pub use Rattle.zl_trace.specs.Output.{AppendsBeginning, Gathers}
+pub use Rattle.zl_trace.specs.Text.{end_line, item_line, state_line, states_of, trace_text}
+unfoldable pub use Rattle.zl_trace.specs.Text.{history_text}

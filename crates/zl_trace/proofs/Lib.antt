@@ -1,0 +1,5 @@
+pub mod Common
+pub mod KnownOutput
+pub mod States
+pub mod Pieces
+pub mod StoredRun

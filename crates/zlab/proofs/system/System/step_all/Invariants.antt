@@ -1,6 +1,0 @@
-use Rattle.zlab.proofs.Common.{take, turns_of, Walks}
-use Rattle.zlab.specs.declared.system.End.TheVariants as end
-use Rattle.zlab.proofs.system.System.step_all.Given as goal
-
-abbrev pub invariant-loop-pair : goal.invariant-loop-pair
-invariant-loop-pair l = Walks l.initial.self (turns_of (take l.pair-index l.schedule)) end.Schedule l.self

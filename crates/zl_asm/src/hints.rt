@@ -16,6 +16,7 @@ mod instruction;
 mod lines;
 mod nearest;
 mod program;
+mod rights;
 mod stuck;
 mod word;
 
@@ -26,5 +27,6 @@ pub use instr_text::push_instr_text;
 pub use lines::{line_at, place_of_blank, place_outside_ascii, push_head, push_odd_byte, words_of};
 pub use nearest::push_nearest;
 pub use program::explain_program;
+pub use rights::push_right_beyond;
 pub use stuck::{Stuck, explain_stuck};
 pub use word::{Word, plural};

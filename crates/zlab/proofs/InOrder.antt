@@ -1,5 +1,8 @@
 -- What a text says stands in the order of its lines, and before the first fault.
-use Rattle.zlab.proofs.Common.{◌≡◌, ℕ, ◌+◌, ◌≤◌, Bool, true, false, ltb, cond, List, [], ◌∷◌, ◌++◌, length, Option, Some, None, Result, Ok, Err, refl, subst, arith, length-append, nat_tests, MOST_ITEMS, words_of, Scenario, Body, Part, Statements, Block, Schedule, Place, Refusals, at, start, onto, opened_by, body_named, onto_block, bytes_said, body_said, with_program, MOST_PROGRAMS, process_said, limit_said, statement_said, program_said, block_said, pair_said, turns_said, part_said, line_said, told_line, Reading, refused_at, fault_at_end, reading_from, Rises, IsInOrder}
+use Rattle.zlab.proofs.Common.{◌≡◌, ℕ, ◌+◌, ◌≤◌, Bool, true, false, ltb, cond, List, [], ◌∷◌, ◌++◌, length, Option, Some, None, Result, Ok, Err, refl, subst, arith, length-append, nat_tests, MOST_ITEMS, words_of, Scenario, Body, Part, Statements, Block, Schedule, Place, Refusals, at, start, onto, opened_by, body_named, onto_block, bytes_said, body_said, with_program, MOST_PROGRAMS, with_statement, process_said, limit_said, statement_said, program_said, block_said, pair_said, turns_said, part_said, line_said, told_line, Reading, refused_at, fault_at_end, reading_from, Rises, IsInOrder}
+use Rattle.zl_code.specs.declared.boot.Grant.{Grant}
+use Rattle.zl_code.specs.declared.boot.Statement.{Statement}
+use Rattle.zl_code.specs.declared.boot.Statement.TheVariants as statement
 use Rattle.zlab.specs.declared.fault.Cause.{Cause}
 use Rattle.zlab.specs.declared.fault.Cause.TheVariants as cause
 
@@ -49,17 +52,22 @@ onto_ok part (Err c) next e = absurd (cc)
 
 -- ---- the kinds of lines
 
-process_below : (n : ℕ) (said new : Scenario) (job program word : Option ℕ) → IsBelow n said → process_said n said job program word ≡ Ok new → IsBelow (n + 1) new
+-- a statement more, of line n
+statement_below : (n : ℕ) (said : Scenario) (s : Statement) → IsBelow n said → IsBelow (n + 1) (with_statement said n s)
+statement_below n said s h = record {
+  limit = h.limit;
+  placed = simp length-append (omega (arith, h.placed));
+  rising = Rises-push 1 said.lines n h.rising;
+}
+
+process_below : (n : ℕ) (said new : Scenario) (job program word : Option ℕ) (handles : Option (List Grant)) → IsBelow n said → process_said n said job program word handles ≡ Ok new → IsBelow (n + 1) new
 unfolding process_said
-process_below n said new (Some job) (Some program) (Some word) h e =
-    subst (IsBelow (n + 1)) (if_ok _ _ new _ e).1 (record {
-      limit = h.limit;
-      placed = simp length-append (omega (arith, h.placed));
-      rising = Rises-push 1 said.lines n h.rising;
-    })
-process_below n said new (Some job) (Some program) None h e = absurd (cc)
-process_below n said new (Some job) None word h e = absurd (cc)
-process_below n said new None program word h e = absurd (cc)
+process_below n said new (Some job) (Some program) (Some word) (Some handles) h e =
+    subst (IsBelow (n + 1)) (if_ok _ _ new _ e).1 (statement_below n said (statement.Process job program word handles) h)
+process_below n said new (Some job) (Some program) (Some word) None h e = absurd (cc)
+process_below n said new (Some job) (Some program) None handles h e = absurd (cc)
+process_below n said new (Some job) None word handles h e = absurd (cc)
+process_below n said new None program word handles h e = absurd (cc)
 
 limit_below : (n : ℕ) (said new : Scenario) (most : Option ℕ) → IsBelow n said → limit_said said most ≡ Ok new → IsBelow (n + 1) new
 unfolding limit_said
@@ -86,10 +94,9 @@ statement_placed n said (name ∷ most ∷ []) next h e =
     let read = onto_ok Statements _ next (then_ok _ _ next _ e) in
     next_line n Statements next read.0 refl (limit_below n said read.0 _ h read.1) read.2
 statement_placed n said (name ∷ mark ∷ form ∷ []) next h e = opened_placed n said (body_named name mark form) next h e
-statement_placed n said (name ∷ job ∷ program ∷ word ∷ []) next h e =
+statement_placed n said (name ∷ job ∷ program ∷ word ∷ handles) next h e =
     let read = onto_ok Statements _ next (then_ok _ _ next _ e) in
-    next_line n Statements next read.0 refl (process_below n said read.0 _ _ _ h read.1) read.2
-statement_placed n said (name ∷ job ∷ program ∷ word ∷ more ∷ rest) next h e = absurd (cc)
+    next_line n Statements next read.0 refl (process_below n said read.0 _ _ _ _ h read.1) read.2
 
 program_below : (is_refused : Refusals) (n : ℕ) (said new : Scenario) (checked : Bool) (bytes : Result (List ℕ) Cause) → IsBelow n said → program_said is_refused said checked bytes ≡ Ok new → IsBelow n new
 unfolding program_said

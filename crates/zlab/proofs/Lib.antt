@@ -9,6 +9,7 @@ pub mod Answering
 pub mod RowsScenario
 pub mod Programs
 pub mod LineDigits
+pub mod HandleWords
 pub mod ReadingOn
 pub mod InOrder
 pub mod WholeBlocks

@@ -2,6 +2,7 @@ pub mod Text
 pub mod Engine
 pub mod Input
 pub mod Lines
+pub mod Handles
 pub mod Scenario
 pub mod Reading
 pub mod Words

@@ -1,6 +1,7 @@
 -- What the lines of a scenario and of its schedule say, one after another, and the first fault of each.
 use Rattle.std.specs.Prelude.{ℕ, ◌≡◌, ◌≤◌, ◌+◌, ◌%◌, Bool, false, ◌&&◌, not, ◌==◌, nat_lt, nat_le, List, [], ◌∷◌, ◌++◌, length, codes, Option, Some, None, is_some, IfSome, Result, Ok, Err, if◌then◌else◌}
 use Rattle.zl_code.specs.Common.{MOST_ITEMS, first_fault}
+use Rattle.zl_code.specs.declared.boot.Grant.{Grant}
 use Rattle.zl_code.specs.declared.boot.Statement.{Statement}
 use Rattle.zl_code.specs.declared.boot.Statement.TheVariants as statement
 use Rattle.zl_asm.specs.Denotes.{image_bytes_of}
@@ -9,6 +10,7 @@ use Rattle.zlab.specs.declared.fault.Cause.{Cause}
 use Rattle.zlab.specs.declared.fault.Cause.TheVariants as cause
 use Rattle.zlab.specs.declared.fault.LineFault.{LineFault}
 use Rattle.zlab.specs.Lines.{is_comment, words_of, number_of, digits_of, bytes_of_digits}
+use Rattle.zlab.specs.Handles.{handles_of}
 
 -- a program of a scenario: whether it is marked as checked, and its bytes
 pub record Listed : Type 0 where
@@ -63,11 +65,11 @@ onto part (Err c) = Err c
 abbrev pub with_statement : Scenario → ℕ → Statement → Scenario
 with_statement said n s = record said { statements = said.statements ++ (s ∷ []); lines = said.lines ++ (n ∷ []) }
 
--- `process JOB PROGRAM WORD`: three numbers, and a program that stands further up; no handle yet
-unfoldable pub process_said : ℕ → Scenario → Option ℕ → Option ℕ → Option ℕ → Result Scenario Cause
-process_said n said (Some job) (Some program) (Some word) =
-    if nat_lt program (length said.programs) then Ok (with_statement said n (statement.Process job program word [])) else Err cause.Unknown
-process_said n said _ _ _ = Err cause.Syntax
+-- `process JOB PROGRAM WORD H ..`: three numbers and handles, and a program that stands further up
+unfoldable pub process_said : ℕ → Scenario → Option ℕ → Option ℕ → Option ℕ → Option (List Grant) → Result Scenario Cause
+process_said n said (Some job) (Some program) (Some word) (Some handles) =
+    if nat_lt program (length said.programs) then Ok (with_statement said n (statement.Process job program word handles)) else Err cause.Unknown
+process_said n said _ _ _ _ = Err cause.Syntax
 
 -- `limit N`: a number, and at most the largest limit of a trace; the last one counts
 unfoldable pub limit_said : Scenario → Option ℕ → Result Scenario Cause
@@ -92,9 +94,8 @@ statement_said n said [] = Ok (at said Statements)
 statement_said n said (name ∷ []) = if is_word name (codes "--") then Ok (at said Schedule) else Err cause.Syntax
 statement_said n said (name ∷ most ∷ []) = if is_word name (codes "limit") then onto Statements (limit_said said (number_of most)) else Err cause.Syntax
 statement_said n said (name ∷ mark ∷ form ∷ []) = opened_by n said (body_named name mark form)
-statement_said n said (name ∷ job ∷ program ∷ word ∷ []) =
-    if is_word name (codes "process") then onto Statements (process_said n said (number_of job) (number_of program) (number_of word)) else Err cause.Syntax
-statement_said n said _ = Err cause.Syntax
+statement_said n said (name ∷ job ∷ program ∷ word ∷ handles) =
+    if is_word name (codes "process") then onto Statements (process_said n said (number_of job) (number_of program) (number_of word) (handles_of handles)) else Err cause.Syntax
 
 -- ---- the block of a program
 

@@ -6,8 +6,11 @@
 //! refused, so what is found here is found anew, line by line, from the input and the cause that the
 //! answer has.
 
+mod above;
 mod command;
 mod failing;
+mod handles;
+mod numbers;
 mod refusal;
 mod scenario;
 

@@ -9,6 +9,7 @@ mod body;
 mod digits;
 mod draft;
 mod fault;
+mod handles;
 mod numbers;
 mod part;
 mod reader;

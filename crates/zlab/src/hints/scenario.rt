@@ -1,70 +1,20 @@
 //! The faults of a scenario and its schedule.
 
+use crate::hints::above::{Above, Part, read_above};
+use crate::hints::handles::{push_no_handle, push_no_object, push_wrong_handles};
+use crate::hints::numbers::{decimal, push_first_no_number, push_no_number};
 use std::alloc::{AllocError, Global};
 use zl_asm::hints::{
     Word, is, is_opening, line_at, place_of_blank, place_outside_ascii, plural, push_block_fault,
     push_head, push_nearest, push_odd_byte, words_of,
 };
+use zl_rights::Kind;
 
 /// The statements and lines that there are.
 const STATEMENTS: [&str; 5] = ["process", "program", "limit", "end", "--"];
 
 /// The statements that come later.
 const LATER: [&str; 5] = ["job", "event", "port", "channel", "policy"];
-
-/// What a line belongs to.
-#[derive(Clone, Copy)]
-enum Part {
-    Statements,
-    Block,
-    Schedule,
-}
-
-/// What the lines above a line say: what it belongs to, and how many programs there are.
-#[derive(Clone, Copy)]
-struct Above {
-    part: Part,
-    programs: u64,
-}
-
-impl Above {
-    /// With one line more.
-    fn with(self, words: &[&[u8]]) -> Above {
-        match (self.part, words) {
-            (Part::Block, [word]) if is(word, b"end") => Above {
-                part: Part::Statements,
-                programs: self.programs.saturating_add(1),
-            },
-            (Part::Statements, [word]) if is(word, b"--") => Above {
-                part: Part::Schedule,
-                ..self
-            },
-            (Part::Statements, words) if is_opening(words) => Above {
-                part: Part::Block,
-                ..self
-            },
-            _ => self,
-        }
-    }
-}
-
-/// What the lines above the line of this number say.
-fn read_above(alloc: Global, input: &[u8], number: u64) -> Result<Above, AllocError> {
-    let mut above = Above {
-        part: Part::Statements,
-        programs: 0,
-    };
-    for (index, line) in input.split(|byte| *byte == b'\n').enumerate() {
-        if index as u64 + 1 >= number {
-            break;
-        }
-        if !line.starts_with(b"#") {
-            let words = words_of(alloc, line)?;
-            above = above.with(words.as_slice());
-        }
-    }
-    Ok(above)
-}
 
 /// Adds a line that says why the scenario is refused, whose answer names this line, or 0, and this
 /// cause.
@@ -93,7 +43,7 @@ fn push_fault(
         }
         part => {
             push_head(hint, number, cause)?;
-            push_line_fault(hint, alloc, line, words.as_slice(), above, cause)?;
+            push_line_fault(hint, alloc, line, words.as_slice(), &above, cause)?;
         }
     }
     hint.push_str("\n")
@@ -105,7 +55,7 @@ fn push_line_fault(
     alloc: Global,
     line: &[u8],
     words: &[&[u8]],
-    above: Above,
+    above: &Above,
     cause: &str,
 ) -> Result<(), AllocError> {
     if let Some(place) = place_outside_ascii(line) {
@@ -124,7 +74,7 @@ fn push_statement(
     hint: &mut String,
     alloc: Global,
     words: &[&[u8]],
-    above: Above,
+    above: &Above,
     cause: &str,
 ) -> Result<(), AllocError> {
     match words {
@@ -158,78 +108,64 @@ fn is_among(word: &[u8], names: &[&str]) -> bool {
     names.iter().any(|name| name.as_bytes() == word)
 }
 
-/// The number that decimal digits spell, if it is below 2^64.
-fn decimal(word: &[u8]) -> Option<u64> {
-    if !word.iter().all(|byte| byte.is_ascii_digit()) {
-        return None;
-    }
-    str::from_utf8(word).ok()?.parse::<u64>().ok()
-}
-
-/// Adds why the word is no number.
-fn push_no_number(hint: &mut String, name: &str, word: &[u8]) -> Result<(), AllocError> {
-    if word.iter().all(|byte| byte.is_ascii_digit()) {
-        write!(
-            hint,
-            "{name} is {}; a number is at most 18446744073709551615",
-            Word(word)
-        )
-    } else {
-        write!(hint, "{name} is {}, which is no decimal number", Word(word))
-    }
-}
-
-/// Adds which of the words is no number, by their names, if one isn't.
-fn push_first_no_number(
-    hint: &mut String,
-    words: &[&[u8]],
-    names: &[&str],
-) -> Result<bool, AllocError> {
-    for (word, name) in words.iter().zip(names.iter()) {
-        if decimal(word).is_none() {
-            push_no_number(hint, name, word)?;
-            return Ok(true);
-        }
-    }
-    Ok(false)
-}
-
 /// Adds what is wrong with the words behind `process`.
 fn push_process(
     hint: &mut String,
     words: &[&[u8]],
-    above: Above,
+    above: &Above,
     cause: &str,
 ) -> Result<(), AllocError> {
-    if let [_, _, _, handle, ..] = words {
-        return write!(
-            hint,
-            "{} is a fourth word; handles of a process come later",
-            Word(handle)
-        );
-    }
-    let [job, program, _] = words else {
+    let [job, program, _, handles @ ..] = words else {
         let count = words.len();
         return write!(
             hint,
-            "process takes 3 words, JOB PROGRAM WORD, and has {count}"
+            "process takes 3 words, JOB PROGRAM WORD, and handles behind them, and has {count}"
         );
     };
-    if push_first_no_number(hint, words, &["JOB", "PROGRAM", "WORD"])? {
-        return Ok(());
+    match cause {
+        "Unknown" => push_unknown(hint, job, program, handles, above),
+        "BadHandleList" => push_wrong_handles(hint, handles, above),
+        "Limit" => push_full(hint, above),
+        _ => {
+            if push_first_no_number(hint, words, &["JOB", "PROGRAM", "WORD"])? {
+                return Ok(());
+            }
+            push_no_handle(hint, handles)?;
+            Ok(())
+        }
     }
-    if cause == "Limit" {
-        return hint.push_str("a scenario starts at most 64 processes");
-    }
+}
+
+/// Adds which of the things that the line names isn't there.
+fn push_unknown(
+    hint: &mut String,
+    job: &[u8],
+    program: &[u8],
+    handles: &[&[u8]],
+    above: &Above,
+) -> Result<(), AllocError> {
     let programs = above.programs;
-    if decimal(program).is_some_and(|program| program < programs) {
+    if decimal(program).is_none_or(|program| program >= programs) {
+        return push_no_program(hint, program, programs);
+    }
+    if above.kind_of(decimal(job).unwrap_or(0)) != Some(Kind::Job) {
         return write!(
             hint,
             "there is no job {}; job 1 is the root job, and the only one",
             Word(job)
         );
     }
-    push_no_program(hint, program, programs)
+    push_no_object(hint, handles, above)?;
+    Ok(())
+}
+
+/// Adds what the scenario has too many of.
+fn push_full(hint: &mut String, above: &Above) -> Result<(), AllocError> {
+    if above.count(Kind::Process) >= 64 {
+        hint.push_str("a scenario starts at most 64 processes")
+    } else {
+        hint.push_str("a scenario makes objects up to number 1024; a channel is two")
+    }
 }
 
 /// Adds that there is no program of this number, and how many there are.

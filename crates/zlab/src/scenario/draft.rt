@@ -1,7 +1,6 @@
 //! What the lines of a scenario have said so far.
-ghost use Rattle.std.specs.Prelude.{◌≡◌, [], IsTrue, false, length, OnOk};
+ghost use Rattle.std.specs.Prelude.{◌≡◌, IsTrue, false, length, OnOk};
 ghost use Rattle.zl_code.specs.Spells.{spelling, is_in_range};
-ghost use Rattle.zl_code.specs.declared.boot.Statement.TheVariants as statement;
 ghost use Rattle.zlab.specs.Scenario.{start, with_program, with_statement, with_turns};
 ghost use Rattle.zlab.specs.Reading.{IsScenario};
 
@@ -9,8 +8,8 @@ use crate::scenario::Scenario;
 use std::alloc::{AllocError, Global};
 use std::marker::Model;
 use zl_calls::{Library, Program};
-use zl_code::{Boot, Grants, Image, Statement};
-use zl_rights::{Koid, Pid};
+use zl_code::{Boot, Image, Statement};
+use zl_rights::Pid;
 
 /// The limit of the trace where a scenario names none.
 const USUAL_LIMIT: u64 = 1_000;
@@ -68,25 +67,11 @@ impl Draft {
         Ok(())
     }
 
-    /// Adds the statement of a process, which stands in this line and gives no handle.
-    pub fn push_process(
-        &mut self,
-        alloc: Global,
-        line: u64,
-        job: Koid,
-        program: u64,
-        word: u64,
-    ) -> Result<(), AllocError>
-        ensures { OnOk result (self.new ≡ with_statement self.old line
-            (statement.Process job program word [])) }
+    /// Adds the statement, which stands in this line.
+    pub fn push_statement(&mut self, line: u64, statement: Statement) -> Result<(), AllocError>
+        ensures { OnOk result (self.new ≡ with_statement self.old line statement) }
     {
         self.scenario.lines.push(line)?;
-        let statement = Statement::Process {
-            job,
-            program,
-            word,
-            handles: Grants::new(alloc),
-        };
         self.scenario.boot.statements.push(statement)?;
         Ok(())
     }

@@ -2,6 +2,7 @@
 ghost use Rattle.std.specs.Prelude.{◌≡◌, [], map};
 ghost use Rattle.std.specs.Option.{option_map};
 ghost use Rattle.zlab.specs.Lines.{number_of};
+ghost use Rattle.zlab.specs.Handles.{handles_of};
 ghost use Rattle.zlab.specs.Scenario.{at, body_named, process_said, limit_said, statement_said};
 ghost use Rattle.zlab.specs.Reading.{part_with, body_with, Tells, Keeps};
 
@@ -9,11 +10,12 @@ use crate::fault::Cause;
 use crate::scenario::body::{Body, Form};
 use crate::scenario::draft::Draft;
 use crate::scenario::fault::Fault;
+use crate::scenario::handles::read_handles;
 use crate::scenario::numbers::number;
 use crate::scenario::part::Part;
 use crate::scenario::words::is;
 use std::alloc::Global;
-use zl_code::Boot;
+use zl_code::{Boot, Statement};
 
 /// Reads the words of a line that stands among the statements, and answers what the next line
 /// belongs to. Where that is a block, `body` is empty.
@@ -43,8 +45,8 @@ pub fn read_statement(
             body.open(form);
             Ok(Part::Block { opened: line })
         }
-        [name, job, program, word] if is(name, b"process") => {
-            read_process(draft, alloc, line, job, program, word)?;
+        [name, job, program, word, handles @ ..] if is(name, b"process") => {
+            read_process(draft, alloc, line, job, program, word, handles)?;
             Ok(Part::Statements)
         }
         _ => Err(Fault::Refused(Cause::Syntax)),
@@ -77,19 +79,29 @@ fn read_process(
     job: &[u8],
     program: &[u8],
     word: &[u8],
+    handles: &[&[u8]],
 ) -> Result<(), Fault>
     ensures answer { Tells result (λ _. draft.new)
         (process_said line draft.old (number_of job.now) (number_of program.now)
-        (number_of word.now)) }
+        (number_of word.now) (handles_of (map (λ word. word.now) handles.now))) }
     ensures unchanged { Keeps result draft.old draft.new }
 {
     let (Some(job), Some(program), Some(word)) = (number(job), number(program), number(word)) else {
         return Err(Fault::Refused(Cause::Syntax));
     };
+    let Some(handles) = read_handles(alloc, handles)? else {
+        return Err(Fault::Refused(Cause::Syntax));
+    };
     if program >= draft.programs() as u64 {
         return Err(Fault::Refused(Cause::Unknown));
     }
-    draft.push_process(alloc, line, job, program, word)?;
+    let statement = Statement::Process {
+        job,
+        program,
+        word,
+        handles,
+    };
+    draft.push_statement(line, statement)?;
     Ok(())
 }
 

@@ -1,0 +1,146 @@
+//! The faults of the handles that a line gives to its process.
+
+use crate::hints::above::Above;
+use crate::hints::numbers::{decimal, push_no_number};
+use std::alloc::AllocError;
+use zl_asm::hints::{Word, is, push_right_beyond};
+use zl_code::Grants;
+
+/// A handle of a line, cut at its first colon.
+#[derive(Clone, Copy)]
+struct Handle<'a> {
+    word: &'a [u8],
+    koid: &'a [u8],
+    rights: &'a [u8],
+}
+
+impl Handle<'_> {
+    /// The number of the handle's rights, or nothing for `*`.
+    fn number(self) -> Option<u64> {
+        if is(self.rights, b"*") {
+            None
+        } else {
+            decimal(self.rights)
+        }
+    }
+
+    fn is_right(self) -> bool {
+        decimal(self.koid).is_some() && (is(self.rights, b"*") || decimal(self.rights).is_some())
+    }
+}
+
+fn handle_of(word: &[u8]) -> Option<Handle<'_>> {
+    let colon = word.iter().position(|byte| *byte == b':')?;
+    Some(Handle {
+        word,
+        koid: &word[..colon],
+        rights: &word[colon + 1..],
+    })
+}
+
+/// Adds what is wrong with the first of the words that is no handle, if one isn't.
+pub fn push_no_handle(hint: &mut String, words: &[&[u8]]) -> Result<bool, AllocError> {
+    for word in words {
+        let Some(handle) = handle_of(word) else {
+            write!(
+                hint,
+                "the handle {} has no colon; a handle is KOID:RIGHTS, or KOID:* for all rights",
+                Word(word)
+            )?;
+            return Ok(true);
+        };
+        if !handle.is_right() {
+            push_wrong_part(hint, handle)?;
+            return Ok(true);
+        }
+    }
+    Ok(false)
+}
+
+/// Adds which part of the handle is wrong.
+fn push_wrong_part(hint: &mut String, handle: Handle<'_>) -> Result<(), AllocError> {
+    write!(hint, "in the handle {} ", Word(handle.word))?;
+    if decimal(handle.koid).is_none() {
+        return push_missing_or(hint, "KOID", handle.koid);
+    }
+    if handle.rights.is_empty() || is_number(handle.rights) {
+        return push_missing_or(hint, "RIGHTS", handle.rights);
+    }
+    write!(
+        hint,
+        "RIGHTS is {}, which is neither a decimal number nor *",
+        Word(handle.rights)
+    )
+}
+
+fn push_missing_or(hint: &mut String, name: &str, word: &[u8]) -> Result<(), AllocError> {
+    if word.is_empty() {
+        write!(hint, "{name} is missing")
+    } else {
+        push_no_number(hint, name, word)
+    }
+}
+
+fn is_number(word: &[u8]) -> bool {
+    word.iter().all(|byte| byte.is_ascii_digit())
+}
+
+/// Adds which of the handles names no object.
+pub fn push_no_object(
+    hint: &mut String,
+    words: &[&[u8]],
+    above: &Above,
+) -> Result<bool, AllocError> {
+    for word in words {
+        let koid = koid_of(word);
+        if above.kind_of(koid).is_none() {
+            let (handle, last) = (Word(word), above.objects.len());
+            write!(hint, "the handle {handle} names no object: there is no {koid} above this line")?;
+            match last {
+                1 => hint.push_str(", but only 1, the root job")?,
+                _ => write!(hint, ", where the last is {last}")?,
+            }
+            return Ok(true);
+        }
+    }
+    Ok(false)
+}
+
+fn koid_of(word: &[u8]) -> u64 {
+    match handle_of(word) {
+        Some(handle) => decimal(handle.koid).unwrap_or(0),
+        None => 0,
+    }
+}
+
+/// Adds why no process can start with the handles.
+pub fn push_wrong_handles(
+    hint: &mut String,
+    words: &[&[u8]],
+    above: &Above,
+) -> Result<(), AllocError> {
+    let (count, most) = (words.len(), Grants::MOST);
+    if count > most {
+        return write!(
+            hint,
+            "a process starts with at most {most} handles, and this line has {count}"
+        );
+    }
+    for word in words {
+        if push_wrong_rights(hint, word, above)? {
+            return Ok(());
+        }
+    }
+    Ok(())
+}
+
+/// Adds which right of the handle a new object of its kind doesn't have, if there is one.
+fn push_wrong_rights(hint: &mut String, word: &[u8], above: &Above) -> Result<bool, AllocError> {
+    let Some(handle) = handle_of(word) else {
+        return Ok(false);
+    };
+    let Some(kind) = above.kind_of(koid_of(word)) else {
+        return Ok(false);
+    };
+    push_right_beyond(hint, word, kind, handle.number().unwrap_or(0))
+}

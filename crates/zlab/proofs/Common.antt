@@ -18,7 +18,7 @@ unfoldable pub use Rattle.zlab.specs.Handles.{handle_of, rights_named}
 pub use Rattle.zlab.specs.Input.{FitsInput, IsInputOf, MOST_INPUT}
 pub use Rattle.zlab.specs.Lines.{both, decimal_digit_of, decimal_value, hex_digit_of, hex_digits_of_byte, is_comment, is_decimal_digit, is_number, words_of}
 unfoldable pub use Rattle.zlab.specs.Lines.{bytes_of_digits, digits_of, number_of}
-pub use Rattle.zlab.specs.Scenario.{Asm, Block, BlocksAreWhole, Body, DigitsAreWhole, Hex, IsInOrder, Listed, MOST_PROGRAMS, Part, Place, Reading, Refusals, Rises, Scenario, Schedule, Statements, TextIsWhole, after_block, at, bytes_said, digits_said, fault_at_end, joined, none_refused, onto, onto_block, opened_by, part_said, reading_of, refused_at, start, text_spelled, told_line, with_program, with_statement}
-unfoldable pub use Rattle.zlab.specs.Scenario.{block_said, body_named, body_said, digits_in, digits_spelled, is_end, limit_said, line_said, pair_said, process_said, program_said, reading_from, statement_said, text_in, turns_said}
+pub use Rattle.zlab.specs.Scenario.{Asm, Block, BlocksAreWhole, Body, DigitsAreWhole, Hex, IsInOrder, Listed, MOST_PROGRAMS, Part, Place, Reading, Refusals, Rises, Scenario, Schedule, Statements, TextIsWhole, after_block, at, bytes_said, digits_said, fault_at_end, joined, none_refused, object_said, onto, onto_block, opened_by, part_said, reading_of, refused_at, start, text_spelled, told_line, with_program, with_statement}
+unfoldable pub use Rattle.zlab.specs.Scenario.{block_said, body_named, body_said, digits_in, digits_spelled, is_end, limit_said, line_said, object_named, pair_said, process_said, program_said, reading_from, statement_said, text_in, turns_said}
 pub use Rattle.zlab.specs.Text.{cause_name, refused_line}
 pub use Rattle.zlab.specs.Words.{FaultOf, HasItsValues, HasValue, HasValues, MayAskForHelp, assembling, checking, commands, needed, program}

@@ -1,5 +1,7 @@
 -- The handles of a line, one word after the other.
-use Rattle.zlab.proofs.Common.{◌≡◌, ℕ, ◌+◌, ◌<◌, ◌≤◌, List, [], ◌∷◌, ◌++◌, length, drop, get_or, Option, Some, None, refl, sym, ap, ◌∙◌, append_assoc, append-nil, at_drop_more, at_drop_all, all_of, handle_of}
+use Rattle.zlab.proofs.Common.{◌≡◌, false, true≢false, Result, Ok, Err, OnOk, ℕ, ◌+◌, ◌<◌, ◌≤◌, List, [], ◌∷◌, ◌++◌, length, drop, get_or, Option, Some, None, refl, sym, ap, ◌∙◌, append_assoc, append-nil, at_drop_more, at_drop_all, all_of, handle_of}
+use Rattle.std.specs.Prelude.{⊤}
+use Rattle.std.specs.Result.{is_err}
 use Rattle.std.specs.Option.{option_map}
 use Rattle.zl_code.specs.declared.boot.Grant.{Grant}
 use Rattle.zl_asm.specs.Lines.{onto_all}
@@ -11,6 +13,11 @@ Text = Bor (List ℕ)
 
 abbrev handles_in : List Text → Option (List Grant)
 handles_in words = all_of handle_of (texts words)
+
+-- what holds where no memory was refused
+pub added : {E : Type 0} (r : Result ⊤ E) (P : Type 0) → false ≡ is_err r → OnOk r P → P
+added (Ok x) P fine h = h
+added (Err e) P fine h = absurd (true≢false (sym fine))
 
 -- what the handles of all words are, where these are those before word i
 abbrev pub SoFar : List Text → ℕ → List Grant → Type 0

@@ -1,5 +1,5 @@
 -- What a text says stands in the order of its lines, and before the first fault.
-use Rattle.zlab.proofs.Common.{◌≡◌, ℕ, ◌+◌, ◌≤◌, Bool, true, false, ltb, cond, List, [], ◌∷◌, ◌++◌, length, Option, Some, None, Result, Ok, Err, refl, subst, arith, length-append, nat_tests, MOST_ITEMS, words_of, Scenario, Body, Part, Statements, Block, Schedule, Place, Refusals, at, start, onto, opened_by, body_named, onto_block, bytes_said, body_said, with_program, MOST_PROGRAMS, with_statement, process_said, limit_said, statement_said, program_said, block_said, pair_said, turns_said, part_said, line_said, told_line, Reading, refused_at, fault_at_end, reading_from, Rises, IsInOrder}
+use Rattle.zlab.proofs.Common.{◌≡◌, ℕ, ◌+◌, ◌≤◌, Bool, true, false, ltb, cond, List, [], ◌∷◌, ◌++◌, length, Option, Some, None, Result, Ok, Err, refl, subst, arith, length-append, nat_tests, MOST_ITEMS, words_of, Scenario, Body, Part, Statements, Block, Schedule, Place, Refusals, at, start, onto, opened_by, body_named, object_named, object_said, onto_block, bytes_said, body_said, with_program, MOST_PROGRAMS, with_statement, process_said, limit_said, statement_said, program_said, block_said, pair_said, turns_said, part_said, line_said, told_line, Reading, refused_at, fault_at_end, reading_from, Rises, IsInOrder}
 use Rattle.zl_code.specs.declared.boot.Grant.{Grant}
 use Rattle.zl_code.specs.declared.boot.Statement.{Statement}
 use Rattle.zl_code.specs.declared.boot.Statement.TheVariants as statement
@@ -69,6 +69,10 @@ process_below n said new (Some job) (Some program) None handles h e = absurd (cc
 process_below n said new (Some job) None word handles h e = absurd (cc)
 process_below n said new None program word handles h e = absurd (cc)
 
+object_below : (n : ℕ) (said new : Scenario) (o : Option Statement) → IsBelow n said → object_said n said o ≡ Ok new → IsBelow (n + 1) new
+object_below n said new (Some s) h e = let same : with_statement said n s ≡ new = cc in subst (IsBelow (n + 1)) same (statement_below n said s h)
+object_below n said new None h e = absurd (cc)
+
 limit_below : (n : ℕ) (said new : Scenario) (most : Option ℕ) → IsBelow n said → limit_said said most ≡ Ok new → IsBelow (n + 1) new
 unfolding limit_said
 limit_below n said new (Some limit) h e =
@@ -89,7 +93,13 @@ opened_placed n said None next h e = absurd (cc)
 statement_placed : (n : ℕ) (said : Scenario) (words : List (List ℕ)) (next : Place) → IsBelow n said → statement_said n said words ≡ Ok next → IsPlaced (n + 1) next
 unfolding statement_said
 statement_placed n said [] next h e = next_line n Statements next said refl (below_more n (n + 1) said h (omega arith)) (cc)
-statement_placed n said (name ∷ []) next h e = next_line n Schedule next said refl (below_more n (n + 1) said h (omega arith)) (if_ok _ _ next _ e).1
+statement_placed n said (name ∷ []) next h e = alone _ e
+  where
+    alone : (t : Bool) → cond t (Ok (at said Schedule)) (onto Statements (object_said n said (object_named name))) ≡ Ok next → IsPlaced (n + 1) next
+    alone true e = next_line n Schedule next said refl (below_more n (n + 1) said h (omega arith)) (cc)
+    alone false e =
+        let read = onto_ok Statements _ next e in
+        next_line n Statements next read.0 refl (object_below n said read.0 _ h read.1) read.2
 statement_placed n said (name ∷ most ∷ []) next h e =
     let read = onto_ok Statements _ next (then_ok _ _ next _ e) in
     next_line n Statements next read.0 refl (limit_below n said read.0 _ h read.1) read.2

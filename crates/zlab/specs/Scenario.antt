@@ -71,6 +71,18 @@ process_said n said (Some job) (Some program) (Some word) (Some handles) =
     if nat_lt program (length said.programs) then Ok (with_statement said n (statement.Process job program word handles)) else Err cause.Unknown
 process_said n said _ _ _ _ = Err cause.Syntax
 
+-- `event`, `port` or `channel`
+unfoldable pub object_named : List ℕ → Option Statement
+object_named name =
+    if is_word name (codes "event") then Some statement.Event
+    else (if is_word name (codes "port") then Some statement.Port
+    else (if is_word name (codes "channel") then Some statement.Channel else None))
+
+-- the statement, if there is one
+abbrev pub object_said : ℕ → Scenario → Option Statement → Result Scenario Cause
+object_said n said (Some s) = Ok (with_statement said n s)
+object_said n said None = Err cause.Syntax
+
 -- `limit N`: a number, and at most the largest limit of a trace; the last one counts
 unfoldable pub limit_said : Scenario → Option ℕ → Result Scenario Cause
 limit_said said (Some limit) = if nat_le limit MOST_ITEMS then Ok (record said { limit = limit }) else Err cause.Limit
@@ -91,7 +103,7 @@ opened_by n said None = Err cause.Syntax
 -- the words of line n, which stands among the statements
 unfoldable pub statement_said : ℕ → Scenario → List (List ℕ) → Result Place Cause
 statement_said n said [] = Ok (at said Statements)
-statement_said n said (name ∷ []) = if is_word name (codes "--") then Ok (at said Schedule) else Err cause.Syntax
+statement_said n said (name ∷ []) = if is_word name (codes "--") then Ok (at said Schedule) else onto Statements (object_said n said (object_named name))
 statement_said n said (name ∷ most ∷ []) = if is_word name (codes "limit") then onto Statements (limit_said said (number_of most)) else Err cause.Syntax
 statement_said n said (name ∷ mark ∷ form ∷ []) = opened_by n said (body_named name mark form)
 statement_said n said (name ∷ job ∷ program ∷ word ∷ handles) =

@@ -11,10 +11,18 @@ use zl_asm::hints::{
 use zl_rights::Kind;
 
 /// The statements and lines that there are.
-const STATEMENTS: [&str; 5] = ["process", "program", "limit", "end", "--"];
+const STATEMENTS: [&str; 8] = [
+    "process", "program", "event", "port", "channel", "limit", "end", "--",
+];
+
+/// The statements of one word.
+const OBJECTS: [&str; 3] = ["event", "port", "channel"];
 
 /// The statements that come later.
-const LATER: [&str; 5] = ["job", "event", "port", "channel", "policy"];
+const LATER: [&str; 2] = ["job", "policy"];
+
+/// The most processes that a scenario starts.
+const MOST_PROCESSES: usize = 64;
 
 /// Adds a line that says why the scenario is refused, whose answer names this line, or 0, and this
 /// cause.
@@ -81,7 +89,12 @@ fn push_statement(
         [name, rest @ ..] if is(name, b"process") => push_process(hint, rest, above, cause),
         [name, rest @ ..] if is(name, b"limit") => push_limit(hint, rest),
         [name, rest @ ..] if is(name, b"program") => push_opening(hint, alloc, rest),
-        [name, ..] if is(name, b"--") => hint.push_str("-- stands alone on its line"),
+        [name, ..] if is_among(name, &OBJECTS) && cause == "Limit" => {
+            push_no_koid(hint, above)
+        }
+        [name, ..] if is(name, b"--") || is_among(name, &OBJECTS) => {
+            write!(hint, "{} stands alone on its line", Word(name))
+        }
         [name, ..] if is(name, b"end") => {
             hint.push_str("end closes the block of a program, and none is open")
         }
@@ -125,7 +138,8 @@ fn push_process(
     match cause {
         "Unknown" => push_unknown(hint, job, program, handles, above),
         "BadHandleList" => push_wrong_handles(hint, handles, above),
-        "Limit" => push_full(hint, above),
+        "Limit" if above.count(Kind::Process) < MOST_PROCESSES => push_no_koid(hint, above),
+        "Limit" => hint.push_str("a scenario starts at most 64 processes"),
         _ => {
             if push_first_no_number(hint, words, &["JOB", "PROGRAM", "WORD"])? {
                 return Ok(());
@@ -159,13 +173,10 @@ fn push_unknown(
     Ok(())
 }
 
-/// Adds what the scenario has too many of.
-fn push_full(hint: &mut String, above: &Above) -> Result<(), AllocError> {
-    if above.count(Kind::Process) >= 64 {
-        hint.push_str("a scenario starts at most 64 processes")
-    } else {
-        hint.push_str("a scenario makes objects up to number 1024; a channel is two")
-    }
+/// Adds that too few koids are left, and how many there are of them.
+fn push_no_koid(hint: &mut String, above: &Above) -> Result<(), AllocError> {
+    let last = above.objects.len();
+    write!(hint, "a scenario gives koids up to 1024, and {last} are given; a channel takes two")
 }
 
 /// Adds that there is no program of this number, and how many there are.

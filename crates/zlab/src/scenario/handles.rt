@@ -1,5 +1,5 @@
 //! The handles that a line gives to its process.
-ghost use Rattle.std.specs.Prelude.{◌≡◌, IfOk, map, take, drop, ◌+◌};
+ghost use Rattle.std.specs.Prelude.{◌≡◌, ◌==◌, IfOk, map};
 ghost use Rattle.std.specs.List.{position};
 ghost use Rattle.zlab.specs.Handles.{rights_named, handle_of, handles_of};
 

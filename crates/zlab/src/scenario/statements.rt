@@ -3,7 +3,7 @@ ghost use Rattle.std.specs.Prelude.{◌≡◌, [], map};
 ghost use Rattle.std.specs.Option.{option_map};
 ghost use Rattle.zlab.specs.Lines.{number_of};
 ghost use Rattle.zlab.specs.Handles.{handles_of};
-ghost use Rattle.zlab.specs.Scenario.{at, body_named, process_said, limit_said, statement_said};
+ghost use Rattle.zlab.specs.Scenario.{at, body_named, object_named, process_said, limit_said, statement_said};
 ghost use Rattle.zlab.specs.Reading.{part_with, body_with, Tells, Keeps};
 
 use crate::fault::Cause;
@@ -34,6 +34,13 @@ pub fn read_statement(
     match words {
         [] => Ok(Part::Statements),
         [name] if is(name, b"--") => Ok(Part::Schedule),
+        [name] => {
+            let Some(statement) = object_named(name) else {
+                return Err(Fault::Refused(Cause::Syntax));
+            };
+            draft.push_statement(line, statement)?;
+            Ok(Part::Statements)
+        }
         [name, most] if is(name, b"limit") => {
             read_limit(draft, most)?;
             Ok(Part::Statements)
@@ -50,6 +57,22 @@ pub fn read_statement(
             Ok(Part::Statements)
         }
         _ => Err(Fault::Refused(Cause::Syntax)),
+    }
+}
+
+/// The statement that stands for itself, if the word is one.
+#[tactic(auto, unfolding(crate::specs::Scenario::object_named))]
+fn object_named(name: &[u8]) -> Option<Statement>
+    ensures { result ≡ object_named name.now }
+{
+    if is(name, b"event") {
+        Some(Statement::Event)
+    } else if is(name, b"port") {
+        Some(Statement::Port)
+    } else if is(name, b"channel") {
+        Some(Statement::Channel)
+    } else {
+        None
     }
 }
 

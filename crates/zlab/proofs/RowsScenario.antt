@@ -1,8 +1,10 @@
 -- Worked texts: what they say and their first faults, by computation.
-use Rattle.zlab.proofs.Common.{◌≡◌, ℕ, ◌==◌, true, false, List, [], ◌∷◌, ◌++◌, Some, None, Err, replicate, refl, codes, flat_map, row_of, first_fault, header_fault, instr_fault, pieces, is_word, number_of, digits_of, bytes_of_digits, hex_digits_of_byte, Scenario, Listed, Reading, none_refused, refused_at, reading_of, reading_from, line_said, statement_said, block_said, body_said, digits_spelled, program_said, turns_said, body_named, limit_said, process_said, pair_said, is_end, digits_in, text_in}
+use Rattle.zlab.proofs.Common.{◌≡◌, ℕ, ◌==◌, true, false, List, [], ◌∷◌, ◌++◌, Option, Some, None, Err, replicate, refl, codes, flat_map, row_of, first_fault, header_fault, instr_fault, pieces, is_word, number_of, digits_of, bytes_of_digits, hex_digits_of_byte, Scenario, Listed, Reading, none_refused, refused_at, reading_of, reading_from, line_said, statement_said, block_said, body_said, digits_spelled, program_said, turns_said, body_named, limit_said, process_said, object_named, all_of, handle_of, rights_named, map, pair_said, is_end, digits_in, text_in}
+use Rattle.zl_code.specs.declared.boot.Grant.{Grant}
 use Rattle.zl_code.specs.declared.boot.Statement.{Statement}
 use Rattle.zl_code.specs.declared.boot.Statement.TheVariants as statement
 use Rattle.zl_code.proofs.Stored.{bytes}
+use Rattle.zlab.specs.Handles.{handles_of}
 use Rattle.zlab.specs.declared.fault.Cause.{Cause}
 use Rattle.zlab.specs.declared.fault.Cause.TheVariants as cause
 
@@ -50,13 +52,42 @@ unfolding reading_from line_said statement_said body_named limit_said process_sa
 a_program = refl
 
 processes : reading_of none_refused (empty_program ++ codes "process 1 0 5\n\nprocess 77 0 0") ≡ whole (said (raw empty_image ∷ []) (statement.Process 1 0 5 [] ∷ statement.Process 77 0 0 [] ∷ []) (8 ∷ 10 ∷ []) 1000 [])
-unfolding reading_from line_said statement_said body_named limit_said process_said block_said is_end program_said digits_spelled body_said is_word number_of digits_of bytes_of_digits first_fault header_fault pieces
+unfolding reading_from line_said statement_said body_named limit_said process_said all_of block_said is_end program_said digits_spelled body_said is_word number_of digits_of bytes_of_digits first_fault header_fault pieces
 processes = refl
+
+-- ---- handles of a process
+
+abbrev handle : ℕ → Option ℕ → Grant
+handle koid rights = record { koid = koid; rights = rights }
+
+-- rights are a number of 64 bits, or those of the kind; what a kind gives is no matter of the text
+named_handles : handles_of (codes "2:5" ∷ codes "1:*" ∷ codes "0003:00" ∷ codes "1025:4294967296" ∷ codes "18446744073709551615:18446744073709551615" ∷ [])
+    ≡ Some (handle 2 (Some 5) ∷ handle 1 None ∷ handle 3 (Some 0) ∷ handle 1025 (Some 4294967296) ∷ handle 18446744073709551615 (Some 18446744073709551615) ∷ [])
+unfolding all_of handle_of rights_named is_word number_of
+named_handles = refl
+
+-- without a colon, without one of the two, with more than both, and with what is no number
+no_handles : map handle_of (codes "2" ∷ codes ":" ∷ codes "2:" ∷ codes ":5" ∷ codes "2:5:6" ∷ codes "2:*:" ∷ codes "2:*x" ∷ codes "2:**" ∷ codes "*:5" ∷ codes "2:-5" ∷ codes "+2:5" ∷ codes "2:0x5" ∷ codes "2:18446744073709551616" ∷ codes "18446744073709551616:5" ∷ [])
+    ≡ replicate 14 None
+unfolding handle_of rights_named is_word number_of
+no_handles = refl
+
+-- objects, and a process with handles to them, one of which isn't there: that is found by the boot
+objects_and_handles : reading_of none_refused (empty_program ++ codes "event\nchannel\n\n  port  \nprocess 1 0 7 3:8 2:* 9:*")
+    ≡ whole (said (raw empty_image ∷ []) (statement.Event ∷ statement.Channel ∷ statement.Port ∷ statement.Process 1 0 7 (handle 3 (Some 8) ∷ handle 2 None ∷ handle 9 None ∷ []) ∷ []) (8 ∷ 9 ∷ 11 ∷ 12 ∷ []) 1000 [])
+unfolding reading_from line_said statement_said body_named limit_said process_said object_named all_of handle_of rights_named block_said is_end program_said digits_spelled body_said is_word number_of digits_of bytes_of_digits first_fault header_fault pieces
+objects_and_handles = refl
+
+-- so is that eight handles are too many
+eight_handles : reading_of none_refused (empty_program ++ codes "process 1 0 0 1:* 1:* 1:* 1:* 1:* 1:* 1:* 1:*")
+    ≡ whole (said (raw empty_image ∷ []) (statement.Process 1 0 0 (replicate 8 (handle 1 None)) ∷ []) (8 ∷ []) 1000 [])
+unfolding reading_from line_said statement_said body_named limit_said process_said all_of handle_of rights_named block_said is_end program_said digits_spelled body_said is_word number_of digits_of bytes_of_digits first_fault header_fault pieces
+eight_handles = refl
 
 -- the stored run
 stored_run : reading_of none_refused (codes "program raw hex\n5a4c41420101080000000000640000000000 0000\n46020300000000000000000000000000\n01050000000000000800000000000000\n47020300050000000000000000000000\n41020304000000000000008000000000\n40020300000000000000000000000000\n40020400000000000000000000000000\n40020400000000000000000000000000\n53000000000000000000000000000000\nend\nprocess 1 0 0\n--\n2 20\n")
     ≡ whole (said (raw bytes ∷ []) (statement.Process 1 0 0 [] ∷ []) (12 ∷ []) 1000 ((2, 20) ∷ []))
-unfolding reading_from line_said statement_said body_named limit_said process_said block_said is_end program_said digits_spelled body_said turns_said pair_said is_word number_of digits_of bytes_of_digits first_fault header_fault instr_fault row_of pieces
+unfolding reading_from line_said statement_said body_named limit_said process_said all_of block_said is_end program_said digits_spelled body_said turns_said pair_said is_word number_of digits_of bytes_of_digits first_fault header_fault instr_fault row_of pieces
 stored_run = refl
 
 -- ---- first faults
@@ -73,7 +104,7 @@ rows_of_first_faults :
     (reading_of none_refused (codes "limit 1\r\n") ≡ fails nothing 1 cause.Syntax)
     -- `#` counts as the first byte of a line only
     × (reading_of none_refused (codes "\n #") ≡ fails nothing 2 cause.Syntax)
-unfolding reading_from line_said statement_said body_named limit_said process_said is_word number_of
+unfolding reading_from line_said statement_said body_named limit_said process_said object_named is_word number_of
 rows_of_first_faults = (refl, refl)
 
 outside_ascii : reading_of none_refused (codes "\n# " ++ (195 ∷ 169 ∷ [])) ≡ fails nothing 2 cause.Syntax
@@ -93,13 +124,30 @@ unfolding reading_from line_said statement_said body_named limit_said process_sa
 large_limit = refl
 
 missing_program : reading_of none_refused (codes "process 1 0 0\n") ≡ fails nothing 1 cause.Unknown
-unfolding reading_from line_said statement_said body_named limit_said process_said is_word number_of
+unfolding reading_from line_said statement_said body_named limit_said process_said all_of is_word number_of
 missing_program = refl
 
 -- a wrong number comes before a missing program
 wrong_number_first : reading_of none_refused (codes "process 1 0 x\n") ≡ fails nothing 1 cause.Syntax
 unfolding reading_from line_said statement_said body_named limit_said process_said is_word number_of
 wrong_number_first = refl
+
+-- a wrong handle does too, wherever it stands
+wrong_handle_first : reading_of none_refused (codes "process 1 0 0 1:* 1\n") ≡ fails nothing 1 cause.Syntax
+unfolding reading_from line_said statement_said body_named limit_said process_said all_of handle_of rights_named is_word number_of
+wrong_handle_first = refl
+
+missing_program_with_handles : reading_of none_refused (codes "process 1 0 0 1:*\n") ≡ fails nothing 1 cause.Unknown
+unfolding reading_from line_said statement_said body_named limit_said process_said all_of handle_of rights_named is_word number_of
+missing_program_with_handles = refl
+
+-- nothing stands behind the name of an object
+rows_of_objects :
+    (reading_of none_refused (codes "event\nevent 1\n") ≡ fails (said [] (statement.Event ∷ []) (1 ∷ []) 1000 []) 2 cause.Syntax)
+    × (reading_of none_refused (codes "port\nchannel 1 2\n") ≡ fails (said [] (statement.Port ∷ []) (1 ∷ []) 1000 []) 2 cause.Syntax)
+    × (reading_of none_refused (codes "channel\nports\n") ≡ fails (said [] (statement.Channel ∷ []) (1 ∷ []) 1000 []) 2 cause.Syntax)
+unfolding reading_from line_said statement_said body_named limit_said process_said object_named is_word number_of
+rows_of_objects = (refl, refl, refl)
 
 -- a block that no line ends, and `--` in a block
 open_block : reading_of none_refused (codes "\nprogram raw hex\n5a\n") ≡ fails nothing 2 cause.Syntax

@@ -11,6 +11,10 @@ syntax match zlsNumber /\<\d\+\>/
 " A first word that nothing below knows. What is defined later is tried first.
 syntax match zlsUnknown /\%(^ *\)\@<=[^ ]\+/
 syntax match zlsStatement /\%(^ *\)\@<=\%(process\|limit\)\>/
+" An object stands alone on its line.
+syntax match zlsStatement /^ *\%(event\|port\|channel\) *$/
+" A handle: the rights for `*` too.
+syntax match zlsRights /\%(:\)\@<=\*\%( \|$\)\@=/
 
 " A program's block, up to the one word `end`.
 syntax region zlsAsmBlock matchgroup=zlsProgram start=/^ *program \+raw \+asm *$/ end=/^ *end *$/ keepend contains=@zlsAsm,zlsComment
@@ -35,6 +39,7 @@ highlight default link zlsNumber Number
 highlight default link zlsStatement Statement
 highlight default link zlsProgram PreProc
 highlight default link zlsDigits Number
+highlight default link zlsRights Number
 highlight default link zlsPid Identifier
 highlight default link zlsUnknown Error
 highlight default link zlsTurns Error

@@ -95,7 +95,10 @@ pub fn push_no_object(
         let koid = koid_of(word);
         if above.kind_of(koid).is_none() {
             let (handle, last) = (Word(word), above.objects.len());
-            write!(hint, "the handle {handle} names no object: there is no {koid} above this line")?;
+            write!(
+                hint,
+                "the handle {handle} names no object: there is no {koid} above this line"
+            )?;
             match last {
                 1 => hint.push_str(", but only 1, the root job")?,
                 _ => write!(hint, ", where the last is {last}")?,

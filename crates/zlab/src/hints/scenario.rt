@@ -89,9 +89,7 @@ fn push_statement(
         [name, rest @ ..] if is(name, b"process") => push_process(hint, rest, above, cause),
         [name, rest @ ..] if is(name, b"limit") => push_limit(hint, rest),
         [name, rest @ ..] if is(name, b"program") => push_opening(hint, alloc, rest),
-        [name, ..] if is_among(name, &OBJECTS) && cause == "Limit" => {
-            push_no_koid(hint, above)
-        }
+        [name, ..] if is_among(name, &OBJECTS) && cause == "Limit" => { push_no_koid(hint, above) }
         [name, ..] if is(name, b"--") || is_among(name, &OBJECTS) => {
             write!(hint, "{} stands alone on its line", Word(name))
         }
@@ -176,7 +174,10 @@ fn push_unknown(
 /// Adds that too few koids are left, and how many there are of them.
 fn push_no_koid(hint: &mut String, above: &Above) -> Result<(), AllocError> {
     let last = above.objects.len();
-    write!(hint, "a scenario gives koids up to 1024, and {last} are given; a channel takes two")
+    write!(
+        hint,
+        "a scenario gives koids up to 1024, and {last} are given; a channel takes two"
+    )
 }
 
 /// Adds that there is no program of this number, and how many there are.

@@ -1,4 +1,4 @@
-ghost use Rattle.std.specs.Prelude.{◌≡◌, ◌↔◌, ◌+◌, ◌<◌, ◌≤◌, [], Err, OnOk, OnErr, filter, length, not, slice_get};
+ghost use Rattle.std.specs.Prelude.{◌≡◌, ◌↔◌, ◌+◌, ◌<◌, ◌≤◌, [], Err, OnOk, OnErr, filter, length, nat_lt, not, slice_get};
 ghost use Rattle.std.specs.VecDeque.{deque_capacity, deque_len};
 ghost use Rattle.zl_port.specs.Packets.{MOST_USER_PACKETS, is_from, user_count, user_packet, with_packet, with_place, without_front, without_packets, without_place};
 
@@ -89,6 +89,15 @@ impl Port {
         make_room(&mut self.queue, self.reserved)?;
         self.reserved += 1;
         Ok(())
+    }
+
+    /// Whether a place is reserved.
+    ///
+    /// Source: own profile.
+    pub fn has_reserved(&self) -> bool
+        ensures { result ≡ nat_lt 0 self.now.reserved }
+    {
+        self.reserved > 0
     }
 
     /// Gives a reserved place back, if one is reserved, as its wait has ended without a packet. It

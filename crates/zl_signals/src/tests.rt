@@ -80,6 +80,18 @@ fn only_the_waits_that_are_named_end(rt: HostRuntime) -> Result<(), Fail> {
     Ok(())
 }
 
+#[test]
+fn all_waits_at_a_port_end(rt: HostRuntime) -> Result<(), Fail> {
+    let mut state = four_waits(rt.alloc())?;
+    state.end_port(9);
+    state.end_port(7);
+    assert!(rt; state.unwatch_port(7).is_none());
+    assert_eq!(rt; order(state.take_wait()), Some(20));
+    assert_eq!(rt; order(state.take_wait()), Some(30));
+    assert!(rt; state.take_wait().is_none());
+    Ok(())
+}
+
 /// Registers the wait, and once more where there was no memory for it.
 fn watch_again(state: &mut SignalState, wait: Watch) -> bool {
     match state.watch(wait) {

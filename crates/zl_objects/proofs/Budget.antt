@@ -1,5 +1,5 @@
 -- What notes an object takes one place, and one object that handles name is fewer.
-use Rattle.zl_rights.proofs.Common.{◌≡◌, ◌+◌, ◌<◌, ◌≤◌, ℕ, true, false, ◌||◌, ◌==◌, List, [], ◌∷◌, ◌++◌, length, refl, sym, ap, ◌∙◌, cond, Option, Some, None, inl, inr, ◌⊎◌, IsTrue, arith, eq-eqb, nat_lt, if◌then◌else◌, count_by, drop, get_or, list_any, map-append, slice_get, take, take_more, length-append, append_assoc, cases_Bool, eqb-true, false≢true, or_left, or_right, nat_tests, none-some, same_Some, Map, get, update, without}
+use Rattle.zl_rights.proofs.Common.{◌≡◌, ◌+◌, ◌<◌, ◌≤◌, ℕ, true, false, ◌||◌, ◌==◌, List, [], ◌∷◌, ◌++◌, length, refl, sym, ap, ◌∙◌, cond, Option, Some, None, inl, inr, ◌⊎◌, IsTrue, arith, eq-eqb, nat_lt, if◌then◌else◌, count_by, drop, filter, get_or, has_key, is_some, list_any, map-append, slice_get, take, take_more, length-append, append_assoc, cases_Bool, eqb-true, false≢true, or_left, or_right, nat_tests, none-some, same_Some, Map, get, update, without}
 use Rattle.std.proofs.lemmas.Bool.{or_cases, or_parts}
 use Rattle.std.proofs.lemmas.List.Concat.{flat_map-cons}
 use Rattle.zl_rights.specs.declared.entry.Entry.{Entry}
@@ -9,8 +9,12 @@ use Rattle.zl_objects.specs.declared.object.Body.{Body}
 use Rattle.zl_objects.specs.declared.object.Body.TheVariants as body
 use Rattle.zl_objects.specs.declared.object.Object.{Object}
 use Rattle.zl_objects.specs.Objects.{held_once_less, is_kept, queue_of, stays_alone}
-use Rattle.zl_objects.specs.Release.{koids_of, named_in, let_go, goes, AreKeptBut}
-use Rattle.zl_objects.specs.Dying.{is_last, is_named, is_unkept, budget, left_at, unkept_at, LetsGo}
+use Rattle.zl_objects.specs.Release.{koids_of, named_in, let_go, goes, waits_end, AreKeptBut}
+use Rattle.zl_objects.specs.Dying.{is_last, is_named, is_unkept, budget, left_at, unkept_at, LetsGo, Thins}
+use Rattle.zl_objects.specs.Waits.{AreSameButWaits, ending_waits}
+use Rattle.zl_objects.proofs.Bare.{has_same, named_same, still_kept}
+use Rattle.zl_objects.proofs.Ending.{ending_bare, ending_gone, ending_places, ending_thins}
+use Rattle.zl_objects.proofs.Places.{places_updated}
 use Rattle.zl_objects.proofs.Sums.{sum_fewer, sum_no_more, sum_left}
 use Rattle.zl_objects.proofs.Bodies.{Changed, changed, alone_updated, alone_left, found_left}
 
@@ -59,6 +63,14 @@ has_room m dying k cap fits last = omega (arith, fits, fewer_named m k last)
 kept_still : (m : Map Object) (k j : ℕ) (q before : Object) → q ≡ before → is_kept (update m k held_once_less) j q ≡ false → is_kept m j before ≡ false
 kept_still m k j q before same unkept = rw (← same, ← alone_updated held_once_less same_body m k j q.body) unkept
 
+less_thins : (m : Map Object) (k j : ℕ) (o : Object) → get (update m k held_once_less) j ≡ Some o → Thins m (update m k held_once_less) j o
+less_thins m k j o at =
+    let c : Changed held_once_less m k j o = changed held_once_less m k j o at in
+    record { before = c.before; there = c.there; waits = λ test left. ap (λ s. filter test s.waits) (signals_same c) }
+  where
+    signals_same : (c : Changed held_once_less m k j o) → o.signals ≡ c.before.signals
+    signals_same c = ap (λ (x : Object). x.signals) c.is ∙ elim (k == j) as (λ b. (if b then held_once_less c.before else c.before).signals ≡ c.before.signals) [ true ↦ refl | false ↦ refl ]
+
 pub last_went : (m : Map Object) (dying : List ℕ) (k : ℕ) → IsTrue (is_last (get m k)) → LetsGo (k ∷ []) m dying (update m k held_once_less) (dying ++ k ∷ [])
 unfolding budget
 last_went m dying k last = record {
@@ -68,6 +80,8 @@ last_went m dying k last = record {
     noted = λ j q at unkept. rw (← append_assoc others dying (k ∷ [])) (by_key others old j q (changed held_once_less m k j q at) unkept (cases_Bool (k == j)));
   };
   leads = λ rest m3 tail. let_go k rest m m3 tail;
+  places = places_updated held_once_less (λ j o. omega arith) (λ o. refl) None m k;
+  thins = λ j o at. less_thins m k j o at;
 }
   where
     by_key : (others : List ℕ) → AreKeptBut (others ++ dying) m → (j : ℕ) (q : Object) → Changed held_once_less m k j q → is_kept (update m k held_once_less) j q ≡ false → IsTrue (k == j) ⊎ ((k == j) ≡ false)
@@ -86,6 +100,8 @@ other_went m dying k other = record {
     noted = λ j q at unkept. by_key others old j q (changed held_once_less m k j q at) unkept (cases_Bool (k == j));
   };
   leads = λ rest m3 tail. let_go k rest m m3 tail;
+  places = places_updated held_once_less (λ j o. omega arith) (λ o. refl) None m k;
+  thins = λ j o at. less_thins m k j o at;
 }
   where
     by_key : (others : List ℕ) → AreKeptBut (others ++ dying) m → (j : ℕ) (q : Object) → Changed held_once_less m k j q → is_kept (update m k held_once_less) j q ≡ false → IsTrue (k == j) ⊎ ((k == j) ≡ false)
@@ -104,14 +120,30 @@ other_went m dying k other = record {
 
 -- ---- one after another
 
+thin_refl : (m : Map Object) (k : ℕ) (o : Object) → get m k ≡ Some o → Thins m m k o
+thin_refl m k o at = record { before = o; there = at; waits = λ test left. refl }
+
+-- what thins, and then thins again
+pub thin_then : (m m2 m3 : Map Object) → ((k : ℕ) (o : Object) → get m2 k ≡ Some o → Thins m m2 k o) → ((k : ℕ) (o : Object) → get m3 k ≡ Some o → Thins m2 m3 k o) → (k : ℕ) (o : Object) → get m3 k ≡ Some o → Thins m m3 k o
+thin_then m m2 m3 first later k o at =
+    let new : Thins m2 m3 k o = later k o at in
+    let old : Thins m m2 k new.before = first k new.before new.there in
+    record { before = old.before; there = old.there; waits = λ test left. new.waits test left ∙ old.waits test (λ x takes. there_before x.port (get m3 x.port) refl (left x takes)) }
+  where
+    there_before : (p : ℕ) (q : Option Object) → get m3 p ≡ q → IsTrue (is_some q) → IsTrue (has_key m2 p)
+    there_before p None is h = absurd (false≢true h)
+    there_before p (Some q) is h = rw ((later p q is).there) refl
+
 pub none_went : (m : Map Object) (dying : List ℕ) → LetsGo [] m dying m dying
-none_went m dying = record { cheap = omega arith; notes = λ others old. old; leads = λ rest m3 tail. tail }
+none_went m dying = record { cheap = omega arith; notes = λ others old. old; leads = λ rest m3 tail. tail; places = λ have. have; thins = λ k o at. thin_refl m k o at }
 
 pub both_went : (ks ls : List ℕ) (m m2 m3 : Map Object) (d d2 d3 : List ℕ) → LetsGo ks m d m2 d2 → LetsGo ls m2 d2 m3 d3 → LetsGo (ks ++ ls) m d m3 d3
 both_went ks ls m m2 m3 d d2 d3 a b = record {
   cheap = omega (arith, a.cheap, b.cheap);
   notes = λ others old. b.notes others (a.notes others old);
   leads = λ rest m4 tail. rw (append_assoc ks ls rest) (a.leads (ls ++ rest) m4 (b.leads rest m4 tail));
+  places = λ have. b.places (a.places have);
+  thins = thin_then m m2 m3 a.thins b.thins;
 }
 
 -- ---- the object that was noted last
@@ -135,25 +167,36 @@ module _ (m : Map Object) (d : List ℕ) (k : ℕ) where
       ];
     };
     leads = λ rest m3 tail. tail;
+    places = λ have. have;
+    thins = λ j o at. thin_refl m j o at;
   }
 
-  pub less_left : budget (without m k) d ≤ budget m d
-  unfolding budget
-  less_left = omega (arith, sum_left (λ e. cond (is_named e) 1 0) m k)
-
-  -- nothing keeps it
-  pub unkept_went : (o : Object) (m2 : Map Object) (d2 : List ℕ) → get m k ≡ Some o → is_kept m k o ≡ false → LetsGo (named_in (queue_of o.body)) (without m k) d m2 d2 → LetsGo [] m (d ++ k ∷ []) m2 d2
+  -- nothing keeps it, and the waits that end with it have ended
+  pub unkept_went : (o : Object) (m2 : Map Object) (d2 : List ℕ) → get m k ≡ Some o → is_kept m k o ≡ false → LetsGo (named_in (queue_of o.body)) (ending_waits k o (without m k)) d m2 d2 → LetsGo [] m (d ++ k ∷ []) m2 d2
   unfolding budget
   unkept_went o m2 d2 there unkept queue = record {
-    cheap = omega (arith, longer, queue.cheap, sum_left (λ e. cond (is_named e) 1 0) m k);
-    notes = λ others old. queue.notes others (record {
+    cheap = omega (arith, longer, queue.cheap, sum_left (λ e. cond (is_named e) 1 0) m k, named_same (without m k) mid same);
+    notes = λ others old. queue.notes others (still_kept (without m k) mid same (others ++ d) (record {
       in_order = sorted_without m k old.in_order;
       noted = λ j q at loose.
           let was = found_left m k j q at in
           noted_before j k (others ++ d) was.0 (rw (append_assoc others d (k ∷ [])) (old.noted j q was.1 (rw (← alone_left m old.in_order k o there unkept j q.body) loose)));
-    });
-    leads = λ rest m3 tail. goes k o rest m m3 there unkept (queue.leads rest m3 tail);
+    }));
+    leads = λ rest m3 tail. goes k o rest m m3 there unkept (waits_end (named_in (queue_of o.body) ++ rest) (without m k) mid m3 same (queue.leads rest m3 tail));
+    places = λ have. queue.places (ending_places m k o there have);
+    thins = thin_then m mid m2 (λ j q at. ending_thins m k o j q (ending_gone m k o (λ n is. has_same (without m k) n is k)) at) queue.thins;
   }
+    where
+      mid : Map Object
+      mid = ending_waits k o (without m k)
+
+      same : AreSameButWaits (without m k) mid
+      same = ending_bare k o (without m k)
+
+  -- what it takes is no more
+  pub less_ending : (o : Object) → budget (ending_waits k o (without m k)) d ≤ budget m d
+  unfolding budget
+  less_ending o = omega (arith, sum_left (λ e. cond (is_named e) 1 0) m k, named_same (without m k) (ending_waits k o (without m k)) (ending_bare k o (without m k)))
 
 -- ---- what was taken out
 

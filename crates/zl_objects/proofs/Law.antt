@@ -13,9 +13,11 @@ use Rattle.zl_objects.specs.declared.object.Body.{Body}
 use Rattle.zl_objects.specs.declared.object.Body.TheVariants as body
 use Rattle.zl_objects.specs.declared.object.Object.{Object}
 use Rattle.zl_objects.specs.Objects.{Objects, has_living_child, held_once_less, is_job_at, is_job_body, is_kept, lives_below, queue_of, stays_alone}
-use Rattle.zl_objects.specs.Release.{koids_of, named_in, Cascades, none_left, let_go, goes, AreKeptBut, Releases}
+use Rattle.zl_objects.specs.Release.{koids_of, named_in, Cascades, none_left, let_go, goes, waits_end, AreKeptBut, Releases}
+use Rattle.zl_objects.specs.Waits.{AreSameButWaits}
 use Rattle.zl_objects.specs.Seen.{body_value, object_value, object_entry, with_objects, with_all, Agrees, is_in_job, IsExact, LeavesLargest}
 use Rattle.zl_objects.proofs.Sums.{sum_without, any_summed, summed_any, any_counted, count_none, positive_part, any_there}
+use Rattle.zl_objects.proofs.Bare.{IsAlike, agrees_same, alike, has_same, in_job_same, seen_same, sorted_same}
 use Rattle.zl_objects.proofs.Bodies.{Changed, changed, changed_body, in_job_updated, found_left, has_left}
 use Rattle.zl_objects.proofs.Found.{Found, any_found, any_at}
 use Rattle.zl_objects.proofs.Removing.{settles_all, settles_removed}
@@ -153,6 +155,21 @@ module _ (w : World) (ks : List ℕ) (m : Map Object) (exact : IsExact w ks m) w
           let was : q ≡ c.before = c.is ∙ rw apart refl in
           let still : q.handles ≡ c.before.handles = ap (λ (x : Object). x.handles) was in
           omega (arith, still, exact.counted j c.before c.there, parts j, none, same j)
+
+  -- waits and reserved places don't count
+  pub same_exact : (mid : Map Object) → AreSameButWaits m mid → IsExact w ks mid
+  unfolding handles_to
+  same_exact mid same = record {
+    in_order = rw (sorted_same m mid same) exact.in_order;
+    no_zero = λ k has. exact.no_zero k (sym (has_same m mid same k) ∙ has);
+    counted = λ k o at. let was : IsAlike m k o = alike m mid same k o at in omega (arith, was.handles, exact.counted k was.before was.there, still k);
+    named = λ k some. rw (has_same m mid same k) (exact.named k (omega (arith, some, still k)));
+    agrees = λ k o at. let was : IsAlike m k o = alike m mid same k o at in agrees_same w k o.body was.before.body was.body (exact.agrees k was.before was.there);
+    in_jobs = λ k o at. let was : IsAlike m k o = alike m mid same k o at in rw (in_job_same m mid same o.body was.before.body was.body) (exact.in_jobs k was.before was.there);
+  }
+    where
+      still : (k : ℕ) → handles_to (with_objects w mid) k ≡ handles_to (with_objects w m) k
+      still k = ap (λ (os : Map ObjectValue). handles_to (record w { objects = os }) k) (seen_same m mid same)
 
   -- an object that nothing keeps
   module _ (k : ℕ) (o : Object) (there : get m k ≡ Some o) (unkept : is_kept m k o ≡ false) where
@@ -296,6 +313,9 @@ cascaded w _ _ _ exact (let_go k ks m m2 more) =
 cascaded w _ _ _ exact (goes k o ks m m2 there unkept more) =
     let later : IsLeft w (without m k) m2 = cascaded w (named_in (queue_of o.body) ++ ks) (without m k) m2 (left_exact w ks m exact k o there unkept) more in
     record { exact = later.exact; leads = λ v settles. left_leads w ks m exact k o there unkept v (later.leads v settles) }
+cascaded w _ _ _ exact (waits_end ks m mid m2 same more) =
+    let later : IsLeft w mid m2 = cascaded w ks mid m2 (same_exact w ks m exact mid same) more in
+    record { exact = later.exact; leads = λ v settles. subst (λ (os : Map ObjectValue). Settles (record w { objects = os }) v) (seen_same m mid same) (later.leads v settles) }
 
 runs_lives : (w : World) (k : ℕ) → IsTrue (is_process w runs k) → is_process w lives k ≡ true
 unfolding is_process

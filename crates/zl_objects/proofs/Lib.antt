@@ -1,6 +1,8 @@
+pub mod Bare
 pub mod Bodies
 pub mod Budget
 pub mod ByKoid
+pub mod Ending
 pub mod Found
 pub mod Law
 pub mod Places

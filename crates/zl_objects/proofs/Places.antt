@@ -12,7 +12,7 @@ use Rattle.zl_objects.specs.declared.object.Body.{Body}
 use Rattle.zl_objects.specs.declared.object.Body.TheVariants as body
 use Rattle.zl_objects.specs.declared.object.Object.{Object}
 use Rattle.zl_objects.specs.Ports.{at_port, changed_port, has_place_in, is_port_at, is_port_in, reserved_in, reserved_of}
-use Rattle.zl_objects.specs.Waits.{HavePlaces, HavePlacesWith, has_gone, one_for, unwatched, waits_at, waits_for, waits_in, watched}
+use Rattle.zl_objects.specs.Waits.{HavePlaces, HavePlacesWith, one_for, unwatched, waits_at, waits_for, waits_in, watched}
 use Rattle.zl_objects.proofs.ByKoid.{put_last}
 use Rattle.zl_objects.proofs.Sums.{sum_no_more, sum_updated}
 
@@ -29,15 +29,12 @@ seen_updated g f same m k j = ap g (get-update m k f j) ∙ elim (cases_Bool (k 
     by_object None = refl
     by_object (Some o) = same o
 
-gone_updated : (m : Map Object) (next k j : ℕ) (f : Object → Object) → has_gone (update m k f) next j ≡ has_gone m next j
-gone_updated m next k j f = ap (λ b. nat_lt j next && not b) (has_key-update m k f j)
-
 -- no wait more, and as many places
 pub places_updated : (f : Object → Object) → ((j : ℕ) (o : Object) → waits_for j (f o) ≤ waits_for j o) → ((o : Object) → reserved_of (f o).body ≡ reserved_of o.body)
-    → (x : Option Watch) (m : Map Object) (next k : ℕ) → HavePlacesWith x m next → HavePlacesWith x (update m k f) next
-places_updated f fewer same x m next k have j left =
+    → (x : Option Watch) (m : Map Object) (k : ℕ) → HavePlacesWith x m → HavePlacesWith x (update m k f)
+places_updated f fewer same x m k have j =
     let reserved : reserved_in (get (update m k f) j) ≡ reserved_in (get m j) = seen_updated reserved_in f same m k j in
-    omega (arith, have j (sym (gone_updated m next k j f) ∙ left), sum_no_more (λ (e : ℕ × Object). waits_for j e.1) m k f (fewer j), reserved)
+    omega (arith, have j, sum_no_more (λ (e : ℕ × Object). waits_for j e.1) m k f (fewer j), reserved)
 
 -- ---- the first wait that passes is taken out
 
@@ -61,14 +58,14 @@ counted_out j test (x ∷ xs) = elim (cases_Bool (test x)) as (λ _. count_by (i
 ]
 
 -- the place of what was taken out is left
-pub places_unwatched : (test : Watch → Bool) (m : Map Object) (next k : ℕ) → HavePlaces m next → HavePlacesWith (find test (waits_in (get m k))) (update m k (unwatched test)) next
-places_unwatched test m next k have = by_object (get m k) refl
+pub places_unwatched : (test : Watch → Bool) (m : Map Object) (k : ℕ) → HavePlaces m → HavePlacesWith (find test (waits_in (get m k))) (update m k (unwatched test))
+places_unwatched test m k have = by_object (get m k) refl
   where
-    by_object : (q : Option Object) → get m k ≡ q → HavePlacesWith (find test (waits_in q)) (update m k (unwatched test)) next
-    by_object None is j left = rw (update_missing m k (unwatched test) is) (have j (rw (update_missing m k (unwatched test) is) at left))
-    by_object (Some o) is j left =
+    by_object : (q : Option Object) → get m k ≡ q → HavePlacesWith (find test (waits_in q)) (update m k (unwatched test))
+    by_object None is j = rw (update_missing m k (unwatched test) is) (have j)
+    by_object (Some o) is j =
         let reserved : reserved_in (get (update m k (unwatched test)) j) ≡ reserved_in (get m j) = seen_updated reserved_in (unwatched test) (λ q. refl) m k j in
-        omega (arith, have j (sym (gone_updated m next k j (unwatched test)) ∙ left), sum_updated (λ (e : ℕ × Object). waits_for j e.1) m k o (unwatched test) is, counted_out j test o.signals.waits, reserved)
+        omega (arith, have j, sum_updated (λ (e : ℕ × Object). waits_for j e.1) m k o (unwatched test) is, counted_out j test o.signals.waits, reserved)
 
 -- ---- the port of one wait
 
@@ -79,20 +76,17 @@ waits_at_port : (f : Port → Port) (m : Map Object) (p j : ℕ) → waits_at (u
 waits_at_port f m p j = sum_no_more (λ (e : ℕ × Object). waits_for j e.1) m p (at_port f) (λ o. omega arith)
 
 -- its place is no longer reserved
-pub places_used : (f : Port → Port) → ((p : Port) → (f p).reserved ≡ p.reserved - 1) → (x : Watch) (m : Map Object) (next : ℕ) → HavePlacesWith (Some x) m next → HavePlaces (update m x.port (at_port f)) next
-places_used f less x m next have j left = elim (cases_Bool (x.port == j)) as (λ _. waits_at (update m x.port (at_port f)) j + 0 ≤ reserved_in (get (update m x.port (at_port f)) j)) [
+pub places_used : (f : Port → Port) → ((p : Port) → (f p).reserved ≡ p.reserved - 1) → (x : Watch) (m : Map Object) → HavePlacesWith (Some x) m → HavePlaces (update m x.port (at_port f))
+places_used f less x m have j = elim (cases_Bool (x.port == j)) as (λ _. waits_at (update m x.port (at_port f)) j + 0 ≤ reserved_in (get (update m x.port (at_port f)) j)) [
   | inl here ↦
       let one : ◌≡◌ {A = ℕ} (cond (x.port == j) 1 0) 1 = rw here refl in
       let reserved : reserved_in (get (update m x.port (at_port f)) j) ≡ reserved_in (get m j) - 1 = reserved_at_port f m x.port j ∙ rw here (by_object (get m j)) in
-      omega (arith, have j before, waits_at_port f m x.port j, one, reserved)
+      omega (arith, have j, waits_at_port f m x.port j, one, reserved)
   | inr apart ↦
       let reserved : reserved_in (get (update m x.port (at_port f)) j) ≡ reserved_in (get m j) = reserved_at_port f m x.port j ∙ rw apart refl in
-      omega (arith, have j before, waits_at_port f m x.port j, reserved)
+      omega (arith, have j, waits_at_port f m x.port j, reserved)
 ]
   where
-    before : has_gone m next j ≡ false
-    before = sym (gone_updated m next x.port j (at_port f)) ∙ left
-
     by_body : (b : Body) → reserved_of (changed_port f b) ≡ reserved_of b - 1
     by_body body.RootJob = refl
     by_body (body.Process job lives) = refl
@@ -105,21 +99,18 @@ places_used f less x m next have j left = elim (cases_Bool (x.port == j)) as (λ
     by_object (Some o) = by_body o.body
 
 -- a place is reserved for it
-pub places_made : (x : Watch) (m : Map Object) (next : ℕ) → IsTrue (is_port_at m x.port) → HavePlaces m next → HavePlacesWith (Some x) (update m x.port (at_port with_place)) next
-places_made x m next port have j left = elim (cases_Bool (x.port == j)) as (λ _. waits_at (update m x.port (at_port with_place)) j + cond (x.port == j) 1 0 ≤ reserved_in (get (update m x.port (at_port with_place)) j)) [
+pub places_made : (x : Watch) (m : Map Object) → IsTrue (is_port_at m x.port) → HavePlaces m → HavePlacesWith (Some x) (update m x.port (at_port with_place))
+places_made x m port have j = elim (cases_Bool (x.port == j)) as (λ _. waits_at (update m x.port (at_port with_place)) j + cond (x.port == j) 1 0 ≤ reserved_in (get (update m x.port (at_port with_place)) j)) [
   | inl here ↦
       let one : ◌≡◌ {A = ℕ} (cond (x.port == j) 1 0) 1 = rw here refl in
       let reserved : reserved_in (get (update m x.port (at_port with_place)) j) ≡ reserved_in (get m j) + 1 = reserved_at_port with_place m x.port j ∙ rw here (by_object (get m j) (subst (λ (i : ℕ). IsTrue (is_port_at m i)) (eqb-true x.port j here) port)) in
-      omega (arith, have j before, waits_at_port with_place m x.port j, one, reserved)
+      omega (arith, have j, waits_at_port with_place m x.port j, one, reserved)
   | inr apart ↦
       let none : ◌≡◌ {A = ℕ} (cond (x.port == j) 1 0) 0 = rw apart refl in
       let reserved : reserved_in (get (update m x.port (at_port with_place)) j) ≡ reserved_in (get m j) = reserved_at_port with_place m x.port j ∙ rw apart refl in
-      omega (arith, have j before, waits_at_port with_place m x.port j, none, reserved)
+      omega (arith, have j, waits_at_port with_place m x.port j, none, reserved)
 ]
   where
-    before : has_gone m next j ≡ false
-    before = sym (gone_updated m next x.port j (at_port with_place)) ∙ left
-
     by_object : (o : Option Object) → IsTrue (is_port_in o) → reserved_in (option_map (at_port with_place) o) ≡ reserved_in o + 1
     by_object None h = absurd (false≢true h)
     by_object (Some o) h = by_body o.body h
@@ -132,16 +123,16 @@ places_made x m next port have j left = elim (cases_Bool (x.port == j)) as (λ _
         by_body (body.Port p) is_port = refl
 
 -- it is registered, in its place
-pub places_taken : (x : Watch) (m : Map Object) (next k : ℕ) → HavePlacesWith (Some x) m next → HavePlaces (update m k (watched x)) next
-places_taken x m next k have = by_object (get m k) refl
+pub places_taken : (x : Watch) (m : Map Object) (k : ℕ) → HavePlacesWith (Some x) m → HavePlaces (update m k (watched x))
+places_taken x m k have = by_object (get m k) refl
   where
-    by_object : (q : Option Object) → get m k ≡ q → HavePlaces (update m k (watched x)) next
-    by_object None is j left = rw (update_missing m k (watched x) is) (omega (arith, have j (rw (update_missing m k (watched x) is) at left)))
-    by_object (Some o) is j left =
+    by_object : (q : Option Object) → get m k ≡ q → HavePlaces (update m k (watched x))
+    by_object None is j = rw (update_missing m k (watched x) is) (omega (arith, have j))
+    by_object (Some o) is j =
         let reserved : reserved_in (get (update m k (watched x)) j) ≡ reserved_in (get m j) = seen_updated reserved_in (watched x) (λ q. refl) m k j in
         omega (
           arith,
-          have j (sym (gone_updated m next k j (watched x)) ∙ left),
+          have j,
           sum_updated (λ (e : ℕ × Object). waits_for j e.1) m k o (watched x) is,
           sum_by-append (λ (y : Watch). cond (is_at_port j y) 1 0) o.signals.waits (x ∷ []),
           sum_by-cons (λ (y : Watch). cond (is_at_port j y) 1 0) x [],
@@ -149,8 +140,8 @@ places_taken x m next k have = by_object (get m k) refl
         )
 
 -- a place is there
-pub place_there : (x : Watch) (m : Map Object) (next : ℕ) → HavePlacesWith (Some x) m next → IsTrue (has_place_in (get m x.port))
-place_there x m next have = by_object (get m x.port) refl
+pub place_there : (x : Watch) (m : Map Object) → HavePlacesWith (Some x) m → IsTrue (has_place_in (get m x.port))
+place_there x m have = by_object (get m x.port) refl
   where
     by_object : (q : Option Object) → get m x.port ≡ q → IsTrue (has_place_in q)
     by_object None is = refl
@@ -158,10 +149,6 @@ place_there x m next have = by_object (get m x.port) refl
       where
         here : (x.port == x.port) ≡ true
         here = eq-eqb x.port x.port refl
-
-        and_no : (b : Bool) → (b && false) ≡ false
-        and_no true = refl
-        and_no false = refl
 
         by_body : (b : Body) → o.body ≡ b → IsTrue (has_place_in (Some (record o { body = b })))
         by_body body.RootJob same = refl
@@ -171,7 +158,7 @@ place_there x m next have = by_object (get m x.port) refl
         by_body (body.Port p) same =
             let one : ◌≡◌ {A = ℕ} (cond (x.port == x.port) 1 0) 1 = rw here refl in
             let reserved : reserved_in (get m x.port) ≡ p.reserved = ap reserved_in is ∙ ap reserved_of same in
-            let some : 0 < p.reserved = omega (arith, have x.port (rw is (and_no (nat_lt x.port next))), one, reserved) in
+            let some : 0 < p.reserved = omega (arith, have x.port, one, reserved) in
             grind (arith, nat_tests, some)
 
 -- the place is given back, as there was no memory for the wait
@@ -197,8 +184,8 @@ place_back (e ∷ m) p = elim (cases_Bool (e.0 == p)) as (λ _. update (update (
 
 -- ---- one object more
 
-pub places_put : (m : Map Object) (next : ℕ) (o : Object) → ((j : ℕ) → IsTrue (has_key m j) → j < next) → o.signals.waits ≡ [] → HavePlaces m next → HavePlaces (put m next o) (next + 1)
-places_put m next o below none have j left = by_key (cases_Bool (next == j))
+pub places_put : (m : Map Object) (next : ℕ) (o : Object) → ((j : ℕ) → IsTrue (has_key m j) → j < next) → o.signals.waits ≡ [] → HavePlaces m → HavePlaces (put m next o)
+places_put m next o below none have j = by_key (cases_Bool (next == j))
   where
     no_waits : ◌≡◌ {A = ℕ} (waits_for j o) 0
     no_waits = rw none refl
@@ -214,30 +201,12 @@ places_put m next o below none have j left = by_key (cases_Bool (next == j))
     fresh None is = refl
     fresh (Some q) is = absurd (omega (arith, below next (rw is refl)))
 
-    not_gone : has_gone m next next ≡ false
-    not_gone =
-        let out : nat_lt next next ≡ false = grind (arith, nat_tests) in
-        rw out refl
-
-    still : (next == j) ≡ false → has_gone m next j ≡ false
-    still apart = elim (cases_Bool (has_gone m next j)) as (λ _. has_gone m next j ≡ false) [
-      | inr there ↦ there
-      | inl gone ↦
-          let both = and_parts (nat_lt j next) (not (has_key m j)) gone in
-          let lower : IsTrue (nat_lt j (next + 1)) = later both.0 in
-          absurd (false≢true (sym left ∙ and_from (nat_lt j (next + 1)) (not (has_key (put m next o) j)) lower (rw (get-put m next o j, apart) both.1)))
-    ]
-      where
-        later : IsTrue (nat_lt j next) → IsTrue (nat_lt j (next + 1))
-        later h = grind (arith, nat_tests, h)
-
     by_key : IsTrue (next == j) ⊎ ((next == j) ≡ false) → waits_at (put m next o) j + 0 ≤ reserved_in (get (put m next o) j)
     by_key (inl here) =
         let same : next ≡ j = eqb-true next j here in
-        let before : waits_at m next + 0 ≤ reserved_in (get m next) = have next not_gone in
-        let nothing : ◌≡◌ {A = ℕ} (waits_at m next) 0 = omega (arith, before, fresh (get m next) refl) in
+        let nothing : ◌≡◌ {A = ℕ} (waits_at m next) 0 = omega (arith, have next, fresh (get m next) refl) in
         let moved : waits_at m next ≡ waits_at m j = ap (waits_at m) same in
         omega (arith, waits, moved, nothing)
     by_key (inr apart) =
         let old : reserved_in (get (put m next o) j) ≡ reserved_in (get m j) = reserved ∙ rw apart refl in
-        omega (arith, waits, old, have j (still apart))
+        omega (arith, waits, old, have j)

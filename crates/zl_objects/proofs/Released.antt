@@ -6,22 +6,34 @@ use Rattle.zl_table.proofs.MapEdits.{is_sorted-update, length-update}
 use Rattle.zl_objects.specs.declared.object.Body.{Body}
 use Rattle.zl_objects.specs.declared.object.Body.TheVariants as body
 use Rattle.zl_objects.specs.declared.object.Object.{Object}
-use Rattle.zl_objects.specs.Objects.{Objects, has_living_child, held_once_less, is_end_at, is_kept, job_in, job_of, lives_below, queue_of, stays_alone, stopped, stopped_body, stopping}
-use Rattle.zl_objects.specs.Release.{named_in, AreKeptBut, Cascades, none_left, let_go, goes, Releases}
-use Rattle.zl_objects.specs.Dying.{HasPeer, IsWhole, LetsGo, budget, is_named}
-use Rattle.zl_objects.specs.Ports.{reserved_in, reserved_of}
-use Rattle.zl_objects.specs.Waits.{has_gone, waits_at, waits_for}
-use Rattle.zl_objects.proofs.Sums.{length_left, sum_left, sum_no_more}
+use Rattle.zl_objects.specs.Objects.{Objects, has_living_child, held_once_less, is_end_at, is_end_body, is_kept, job_in, job_of, lives_below, queue_of, stays_alone, stopped, stopped_body, stopping}
+use Rattle.zl_objects.specs.Release.{named_in, AreKeptBut, Cascades, none_left, let_go, goes, waits_end, Releases}
+use Rattle.zl_objects.specs.Dying.{HasPeer, IsWhole, LetsGo, Thins, budget, is_named}
+use Rattle.zl_objects.specs.Ports.{unreserved}
+use Rattle.zl_objects.specs.Seen.{body_value}
+use Rattle.zl_objects.specs.Waits.{HavePlaces, LeavesWaits}
+use Rattle.zl_objects.proofs.Bare.{IsAlike, alike, length_same, of_body}
+use Rattle.zl_objects.proofs.Ending.{all_ports_there}
+use Rattle.zl_objects.proofs.Sums.{length_left}
 use Rattle.zl_objects.proofs.Bodies.{Changed, changed, changed_body, found_left}
+use Rattle.zl_objects.proofs.Budget.{thin_then}
 
 -- ---- what is left was there before
 
--- but for handles it was as it is now
+-- but for handles, waits and reserved places it was as it is now
 pub record Was (m : Map Object) (k : ℕ) (o : Object) : Type 0 where
   pub before : Object
   pub there : get m k ≡ Some before
-  pub body : o.body ≡ before.body
-  pub signals : o.signals ≡ before.signals
+  pub body : unreserved o.body ≡ unreserved before.body
+  pub raised : o.signals.raised ≡ before.signals.raised
+
+-- the world sees the same of it, and the same is to be read at it
+module _ (m : Map Object) (k : ℕ) (o : Object) (was : Was m k o) where
+  pub was_seen : body_value o.body ≡ body_value was.before.body
+  was_seen = of_body body_value (λ packets reserved. refl) o.body was.before.body was.body
+
+  pub was_queue : queue_of o.body ≡ queue_of was.before.body
+  was_queue = of_body queue_of (λ packets reserved. refl) o.body was.before.body was.body
 
 less_was : (m : Map Object) (k j : ℕ) (o : Object) → Was (update m k held_once_less) j o → Was m j o
 less_was m k j o was =
@@ -29,29 +41,29 @@ less_was m k j o was =
     record {
       before = c.before;
       there = c.there;
-      body = was.body ∙ changed_body held_once_less (λ x. refl) m k j was.before c;
-      signals = was.signals ∙ signals_same c;
+      body = was.body ∙ ap unreserved (changed_body held_once_less (λ x. refl) m k j was.before c);
+      raised = was.raised ∙ raised_same c;
     }
   where
-    signals_same : (c : Changed held_once_less m k j was.before) → was.before.signals ≡ c.before.signals
-    signals_same c = ap (λ (x : Object). x.signals) c.is ∙ elim (k == j) as (λ b. (if b then held_once_less c.before else c.before).signals ≡ c.before.signals) [ true ↦ refl | false ↦ refl ]
+    raised_same : (c : Changed held_once_less m k j was.before) → was.before.signals.raised ≡ c.before.signals.raised
+    raised_same c = ap (λ (x : Object). x.signals.raised) c.is ∙ elim (k == j) as (λ b. (if b then held_once_less c.before else c.before).signals.raised ≡ c.before.signals.raised) [ true ↦ refl | false ↦ refl ]
 
 pub cascaded_was : (ks : List ℕ) (m m2 : Map Object) → Cascades ks m m2 → (j : ℕ) (o : Object) → get m2 j ≡ Some o → Was m j o
-cascaded_was _ _ _ (none_left m) j o at = record { before = o; there = at; body = refl; signals = refl }
+cascaded_was _ _ _ (none_left m) j o at = record { before = o; there = at; body = refl; raised = refl }
 cascaded_was _ _ _ (let_go k ks m m2 more) j o at = less_was m k j o (cascaded_was ks (update m k held_once_less) m2 more j o at)
 cascaded_was _ _ _ (goes k gone ks m m2 there unkept more) j o at =
     let was : Was (without m k) j o = cascaded_was _ (without m k) m2 more j o at in
-    record { before = was.before; there = (found_left m k j was.before was.there).1; body = was.body; signals = was.signals }
+    record { before = was.before; there = (found_left m k j was.before was.there).1; body = was.body; raised = was.raised }
+cascaded_was _ _ _ (waits_end ks m mid m2 same more) j o at =
+    let was : Was mid j o = cascaded_was ks mid m2 more j o at in
+    let old : IsAlike m j was.before = alike m mid same j was.before was.there in
+    record { before = old.before; there = old.there; body = was.body ∙ old.body; raised = was.raised ∙ old.raised }
 
 cascaded_shorter : (ks : List ℕ) (m m2 : Map Object) → Cascades ks m m2 → length m2 ≤ length m
 cascaded_shorter _ _ _ (none_left m) = omega arith
 cascaded_shorter _ _ _ (let_go k ks m m2 more) = omega (arith, cascaded_shorter ks (update m k held_once_less) m2 more, length-update m k held_once_less)
 cascaded_shorter _ _ _ (goes k gone ks m m2 there unkept more) = omega (arith, cascaded_shorter _ (without m k) m2 more, length_left m k)
-
-cascaded_waits : (ks : List ℕ) (m m2 : Map Object) → Cascades ks m m2 → (j : ℕ) → waits_at m2 j ≤ waits_at m j
-cascaded_waits _ _ _ (none_left m) j = omega arith
-cascaded_waits _ _ _ (let_go k ks m m2 more) j = omega (arith, cascaded_waits ks (update m k held_once_less) m2 more j, sum_no_more (λ (e : ℕ × Object). waits_for j e.1) m k held_once_less (λ o. omega arith))
-cascaded_waits _ _ _ (goes k gone ks m m2 there unkept more) j = omega (arith, cascaded_waits _ (without m k) m2 more j, sum_left (λ (e : ℕ × Object). waits_for j e.1) m k)
+cascaded_shorter _ _ _ (waits_end ks m mid m2 same more) = omega (arith, cascaded_shorter ks mid m2 more, length_same m mid same)
 
 -- ---- the invariant
 
@@ -59,11 +71,11 @@ pub starts : (m : Map Object) (next room : ℕ) (d : List ℕ) → IsWhole None 
 unfolding budget
 starts m next room d whole = rw whole.none (omega (arith, whole.enough, count_by-le-length is_named m))
 
-pub whole_left : (ks : List ℕ) (m m2 : Map Object) (next room room2 : ℕ) (d d2 : List ℕ) → Cascades ks m m2 → IsWhole None m next d room → d2 ≡ [] → room2 ≡ room → IsWhole None m2 next d2 room2
-whole_left ks m m2 next room room2 d d2 cascades whole none same = record {
+pub whole_left : (ks : List ℕ) (m m2 : Map Object) (next room room2 : ℕ) (d d2 : List ℕ) → Cascades ks m m2 → HavePlaces m2 → IsWhole None m next d room → d2 ≡ [] → room2 ≡ room → IsWhole None m2 next d2 room2
+whole_left ks m m2 next room room2 d d2 cascades places whole none same = record {
   below = λ k there. by_object k (get m2 k) refl there;
   peers = λ k o at. peers k o at;
-  places = λ k left. placed k (get m2 k) refl left;
+  places = places;
   enough = omega (arith, same, whole.enough, cascaded_shorter ks m m2 cascades);
   none = none;
 }
@@ -80,7 +92,7 @@ whole_left ks m m2 next room room2 d d2 cascades whole none same = record {
     end_left p (Some o) is end there =
         let old : Was m p o = was p o is in
         let was_end : IsTrue (is_end_at m p) = end (rw old.there refl) in
-        rw (is, old.body) (rw old.there at was_end)
+        rw is (of_body is_end_body (λ packets reserved. refl) o.body old.before.body old.body ∙ (rw old.there at was_end))
 
     by_body : (b : Body) → HasPeer m next b → HasPeer m2 next b
     by_body body.RootJob has = has
@@ -92,31 +104,21 @@ whole_left ks m m2 next room room2 d d2 cascades whole none same = record {
     peers : (k : ℕ) (o : Object) → get m2 k ≡ Some o → HasPeer m2 next o.body
     peers k o at =
         let old : Was m k o = was k o at in
-        rw old.body (by_body old.before.body (whole.peers k old.before old.there))
-
-    and_no : (b : Bool) → (b && false) ≡ false
-    and_no true = refl
-    and_no false = refl
-
-    -- no place was given back, and no wait is more
-    placed : (k : ℕ) (q : Option Object) → get m2 k ≡ q → has_gone m2 next k ≡ false → waits_at m2 k + 0 ≤ reserved_in (get m2 k)
-    placed k (Some o) is left =
-        let old : Was m k o = was k o is in
-        let before : has_gone m next k ≡ false = rw old.there (and_no (nat_lt k next)) in
-        let then_reserved : reserved_in (get m k) ≡ reserved_of old.before.body = ap reserved_in old.there in
-        let now_reserved : reserved_in (get m2 k) ≡ reserved_of old.before.body = ap reserved_in is ∙ ap reserved_of old.body in
-        omega (arith, whole.places k before, cascaded_waits ks m m2 cascades k, then_reserved, now_reserved)
-    placed k None is left = elim (cases_Bool (nat_lt k next)) as (λ _. waits_at m2 k + 0 ≤ reserved_in (get m2 k)) [
-      | inl given ↦ absurd (false≢true (sym left ∙ rw (given, is) refl))
-      | inr later ↦
-          let before : has_gone m next k ≡ false = rw later refl in
-          let none_reserved : ◌≡◌ {A = ℕ} (reserved_in (get m k)) 0 = nothing k (get m k) refl later in
-          omega (arith, whole.places k before, cascaded_waits ks m m2 cascades k, none_reserved)
-    ]
+        from_bare o.body (subst (HasPeer m2 next) (sym old.body) (to_bare old.before.body (by_body old.before.body (whole.peers k old.before old.there))))
       where
-        nothing : (k : ℕ) (q : Option Object) → get m k ≡ q → nat_lt k next ≡ false → ◌≡◌ {A = ℕ} (reserved_in q) 0
-        nothing k None is later = refl
-        nothing k (Some q) is later = let low : k < next = whole.below k (rw is refl) in absurd (grind (arith, nat_tests, low, later))
+        to_bare : (b : Body) → HasPeer m2 next b → HasPeer m2 next (unreserved b)
+        to_bare body.RootJob h = h
+        to_bare (body.Process job lives) h = h
+        to_bare body.Event h = h
+        to_bare (body.Port port) h = h
+        to_bare (body.ChannelEnd p queue) h = h
+
+        from_bare : (b : Body) → HasPeer m2 next (unreserved b) → HasPeer m2 next b
+        from_bare body.RootJob h = h
+        from_bare (body.Process job lives) h = h
+        from_bare body.Event h = h
+        from_bare (body.Port port) h = h
+        from_bare (body.ChannelEnd p queue) h = h
 
 -- ---- all of it
 
@@ -129,6 +131,20 @@ released ks loose m m2 next d d2 went noted none = record {
   keeps = λ others kept. rw (none, append-nil others) at (went.notes others (rw noted kept));
   koids = refl;
 }
+
+-- where waits ended with their ports alone, and each port that is left has places for those that are left
+pub waits_left : (ks : List ℕ) (m m2 : Map Object) (next : ℕ) → Cascades ks m m2 → HavePlaces m2 → ((k : ℕ) (o : Object) → get m2 k ≡ Some o → Thins m m2 k o) → LeavesWaits (record { objects = m; next_koid = next }) (record { objects = m2; next_koid = next })
+waits_left ks m m2 next cascades have thins k o at =
+    let was : Was m k o = cascaded_was ks m m2 cascades k o at in
+    let thin : Thins m m2 k o = thins k o at in
+    let one : was.before ≡ thin.before = same_Some was.before thin.before (sym was.there ∙ thin.there) in
+    record {
+      before = thin.before;
+      there = thin.there;
+      body = was.body ∙ ap (λ (x : Object). unreserved x.body) one;
+      raised = was.raised ∙ ap (λ (x : Object). x.signals.raised) one;
+      waits = sym (all_ports_there m2 have k o at) ∙ thin.waits (λ x. has_key m2 x.port) (λ x there. there);
+    }
 
 -- the same koids are noted in another order
 pub noted_last : (others d : List ℕ) (j : ℕ) (m : Map Object) → AreKeptBut ((others ++ j ∷ []) ++ d) m → AreKeptBut (others ++ (d ++ j ∷ [])) m
@@ -161,6 +177,14 @@ both_released m m1 m2 m3 next pid job d d1 d2 d3 empty none first second rest = 
   koids = refl;
 }
 
+-- the places and the waits once all three are through
+module _ (m m1 m2 m3 : Map Object) (pid job : ℕ) (d d1 d2 d3 : List ℕ) (first : LetsGo [] m (d ++ pid ∷ []) m1 d1) (second : LetsGo [] m1 (d1 ++ job ∷ []) m2 d2) (rest : LetsGo [] m2 d2 m3 d3) where
+  pub all_places : HavePlaces m → HavePlaces m3
+  all_places have = rest.places (second.places (first.places have))
+
+  pub all_thin : (k : ℕ) (o : Object) → get m3 k ≡ Some o → Thins m m3 k o
+  all_thin = thin_then m m2 m3 (thin_then m m1 m2 first.thins second.thins) rest.thins
+
 -- ---- for callers
 
 pub cascades_then : (ks ls : List ℕ) (m m2 m3 : Map Object) → Cascades ks m m2 → Cascades ls m2 m3 → Cascades (ks ++ ls) m m3
@@ -168,6 +192,7 @@ cascades_then _ ls _ _ m3 (none_left m) later = later
 cascades_then _ ls _ _ m3 (let_go k ks m m2 more) later = let_go k (ks ++ ls) m m3 (cascades_then ks ls (update m k held_once_less) m2 m3 more later)
 cascades_then _ ls _ _ m3 (goes k o ks m m2 there unkept more) later =
     goes k o (ks ++ ls) m m3 there unkept (subst (λ (all : List ℕ). Cascades all (without m k) m3) (append_assoc (named_in (queue_of o.body)) ks ls) (cascades_then (named_in (queue_of o.body) ++ ks) ls (without m k) m2 m3 more later))
+cascades_then _ ls _ _ m3 (waits_end ks m mid m2 same more) later = waits_end (ks ++ ls) m mid m3 same (cascades_then ks ls mid m2 m3 more later)
 
 -- handles go one after another
 pub releases_then : (ks ls loose : List ℕ) (r r2 r3 : Objects) → Releases ks loose r r2 → Releases ls [] r2 r3 → Releases (ks ++ ls) loose r r3

@@ -17,13 +17,13 @@ use Rattle.zl_objects.specs.declared.object.Object.{Object}
 use Rattle.zl_objects.specs.Objects.{held_once_more, is_end_at, is_end_in, is_end_body, raised_changed, sent, received, stopped, new_object}
 use Rattle.zl_objects.specs.Dying.{HasPeer, IsWhole}
 use Rattle.zl_objects.specs.Ports.{at_port, changed_port, is_port_at, reserved_in, reserved_of}
-use Rattle.zl_objects.specs.Waits.{HavePlaces, HavePlacesWith, has_gone, waits_at, waits_for, waits_in, watched, unwatched}
+use Rattle.zl_objects.specs.Waits.{HavePlaces, HavePlacesWith, waits_at, waits_for, waits_in, watched, unwatched}
 use Rattle.zl_objects.proofs.Places.{places_made, places_put, places_taken, places_unwatched, places_updated, places_used}
 use Rattle.zl_objects.proofs.ByKoid.{inserted, entry_inserted, looked_up, written, written_back}
 
 pub none_whole : (m : Map Object) (next room : ℕ) (d : List ℕ) → m ≡ [] → d ≡ [] → IsWhole None m next d room
 unfolding get
-none_whole m next room d none empty = rw none record { below = λ k there. cc; peers = λ k o at. absurd (none-some o at); places = λ k left. omega arith; enough = omega arith; none = empty }
+none_whole m next room d none empty = rw none record { below = λ k there. cc; peers = λ k o at. absurd (none-some o at); places = λ k. omega arith; enough = omega arith; none = empty }
 
 -- ---- one of the objects is written
 
@@ -46,7 +46,7 @@ module _ (f : Object → Object) (ends : (o : Object) → is_end_body (f o).body
   still m k next (body.Port port) has = has
 
   -- the places are those that the wait needs
-  pub placed_whole : (x y : Option Watch) (m n : Map Object) (next room k : ℕ) (d : List ℕ) → IsWhole x m next d room → n ≡ update m k f → HavePlacesWith y (update m k f) next → IsWhole y n next d room
+  pub placed_whole : (x y : Option Watch) (m n : Map Object) (next room k : ℕ) (d : List ℕ) → IsWhole x m next d room → n ≡ update m k f → HavePlacesWith y (update m k f) → IsWhole y n next d room
   placed_whole x y m n next room k d whole is places = rw is record {
     below = λ j there. whole.below j (sym (has_key-update m k f j) ∙ there);
     peers = λ j o at. by_object j o (get m j) refl (sym (get-update m k f j) ∙ at);
@@ -70,7 +70,7 @@ module _ (f : Object → Object) (ends : (o : Object) → is_end_body (f o).body
     fewer j o = let is : waits_for j (f o) ≡ waits_for j o = ap (λ (s : SignalState). count_by (is_at_port j) s.waits) (quiet o) in omega (arith, is)
 
     pub updated_whole : (m n : Map Object) (next room k : ℕ) (d : List ℕ) → IsWhole None m next d room → n ≡ update m k f → IsWhole None n next d room
-    updated_whole m n next room k d whole is = placed_whole None None m n next room k d whole is (places_updated f fewer same None m next k whole.places)
+    updated_whole m n next room k d whole is = placed_whole None None m n next room k d whole is (places_updated f fewer same None m k whole.places)
 
 same_ends : (f : Object → Object) → ((o : Object) → (f o).body ≡ o.body) → (o : Object) → is_end_body (f o).body ≡ is_end_body o.body
 same_ends f same o = ap is_end_body (same o)
@@ -90,7 +90,7 @@ more_whole = updated_whole held_once_more (same_ends held_once_more more_same) (
 
 -- other signals
 pub changed_whole : (m n : Map Object) (next room k clear set : ℕ) (d : List ℕ) → IsWhole None m next d room → n ≡ update m k (raised_changed clear set) → IsWhole None n next d room
-changed_whole m n next room k clear set d whole is = placed_whole f (λ o. refl) (λ m next o has. has) None None m n next room k d whole is (places_updated f (λ j o. omega arith) (λ o. refl) None m next k whole.places)
+changed_whole m n next room k clear set d whole is = placed_whole f (λ o. refl) (λ m next o has. has) None None m n next room k d whole is (places_updated f (λ j o. omega arith) (λ o. refl) None m k whole.places)
   where
     f : Object → Object
     f = raised_changed clear set
@@ -109,12 +109,12 @@ same_other g m next body.Event has = has
 same_other g m next (body.Port port) has = has
 same_other g m next (body.ChannelEnd p queue) has = has
 
-at_port_whole : (g : Port → Port) (x y : Option Watch) (m n : Map Object) (next room k : ℕ) (d : List ℕ) → IsWhole x m next d room → n ≡ update m k (at_port g) → HavePlacesWith y (update m k (at_port g)) next → IsWhole y n next d room
+at_port_whole : (g : Port → Port) (x y : Option Watch) (m n : Map Object) (next room k : ℕ) (d : List ℕ) → IsWhole x m next d room → n ≡ update m k (at_port g) → HavePlacesWith y (update m k (at_port g)) → IsWhole y n next d room
 at_port_whole g = placed_whole (at_port g) (λ o. same_end g o.body) (λ m next o. same_other g m next o.body)
 
 -- other packets at a port
 pub port_whole : (g : Port → Port) → ((p : Port) → (g p).reserved ≡ p.reserved) → (m n : Map Object) (next room k : ℕ) (d : List ℕ) → IsWhole None m next d room → n ≡ update m k (at_port g) → IsWhole None n next d room
-port_whole g same m n next room k d whole is = at_port_whole g None None m n next room k d whole is (places_updated (at_port g) (λ j o. omega arith) (λ o. by_body o.body) None m next k whole.places)
+port_whole g same m n next room k d whole is = at_port_whole g None None m n next room k d whole is (places_updated (at_port g) (λ j o. omega arith) (λ o. by_body o.body) None m k whole.places)
   where
     by_body : (b : Body) → reserved_of (changed_port g b) ≡ reserved_of b
     by_body body.RootJob = refl
@@ -125,19 +125,19 @@ port_whole g same m n next room k d whole is = at_port_whole g None None m n nex
 
 -- a place is reserved for the wait
 pub made_whole : (x : Watch) (m n : Map Object) (next room : ℕ) (d : List ℕ) → IsTrue (is_port_at m x.port) → IsWhole None m next d room → n ≡ update m x.port (at_port with_place) → IsWhole (Some x) n next d room
-made_whole x m n next room d port whole is = at_port_whole with_place None (Some x) m n next room x.port d whole is (places_made x m next port whole.places)
+made_whole x m n next room d port whole is = at_port_whole with_place None (Some x) m n next room x.port d whole is (places_made x m port whole.places)
 
 -- the wait is registered
 pub watched_whole : (x : Watch) (m n : Map Object) (next room k : ℕ) (d : List ℕ) → IsWhole (Some x) m next d room → n ≡ update m k (watched x) → IsWhole None n next d room
-watched_whole x m n next room k d whole is = placed_whole (watched x) (λ o. refl) (λ m next o has. has) (Some x) None m n next room k d whole is (places_taken x m next k whole.places)
+watched_whole x m n next room k d whole is = placed_whole (watched x) (λ o. refl) (λ m next o has. has) (Some x) None m n next room k d whole is (places_taken x m k whole.places)
 
 -- the wait has gone, and its place is left
 pub unwatched_whole : (test : Watch → Bool) (m n : Map Object) (next room k : ℕ) (d : List ℕ) → IsWhole None m next d room → n ≡ update m k (unwatched test) → IsWhole (find test (waits_in (get m k))) n next d room
-unwatched_whole test m n next room k d whole is = placed_whole (unwatched test) (λ o. refl) (λ m next o has. has) None (find test (waits_in (get m k))) m n next room k d whole is (places_unwatched test m next k whole.places)
+unwatched_whole test m n next room k d whole is = placed_whole (unwatched test) (λ o. refl) (λ m next o has. has) None (find test (waits_in (get m k))) m n next room k d whole is (places_unwatched test m k whole.places)
 
 -- its place is given back, or holds its packet
 pub used_whole : (g : Port → Port) → ((p : Port) → (g p).reserved ≡ p.reserved - 1) → (x : Watch) (m n : Map Object) (next room : ℕ) (d : List ℕ) → IsWhole (Some x) m next d room → n ≡ update m x.port (at_port g) → IsWhole None n next d room
-used_whole g less x m n next room d whole is = at_port_whole g (Some x) None m n next room x.port d whole is (places_used g less x m next whole.places)
+used_whole g less x m n next room d whole is = at_port_whole g (Some x) None m n next room x.port d whole is (places_used g less x m whole.places)
 
 -- the end of a process
 pub stopped_whole : (m n : Map Object) (next room k : ℕ) (d : List ℕ) → IsWhole None m next d room → n ≡ update m k stopped → IsWhole None n next d room
@@ -456,13 +456,6 @@ popped_whole m n next koid room d (Some p) whole newest alone unreserved there f
     waits : (j : ℕ) → waits_at n.entries j ≤ waits_at m.entries j
     waits j = rw removal (omega (arith, sum_by-append (λ (e : ℕ × Object). waits_for j e.1) n.entries (p ∷ [])))
 
-    not_gone : has_gone m.entries next koid ≡ false
-    not_gone = rw there (and_no (nat_lt koid next))
-      where
-        and_no : (b : Bool) → (b && false) ≡ false
-        and_no true = refl
-        and_no false = refl
-
     -- it was the one with this koid
     is_koid : p.0 ≡ koid
     is_koid = grind (arith, nat_tests, last, newest, greatest koid (rw (looked_up m.entries koid) there), unsigned_tied p.0 koid)
@@ -473,28 +466,16 @@ popped_whole m n next koid room d (Some p) whole newest alone unreserved there f
         tied : (j : ℕ) → (koid == j) ≡ false → is_at (nat_cmp p.0) j ≡ false
         tied j apart = grind (arith, nat_tests, is_koid, apart, unsigned_tied p.0 j)
 
-    was_left : (j : ℕ) → (koid == j) ≡ false → has_gone n.entries koid j ≡ false → has_gone m.entries next j ≡ false
-    was_left j apart left = elim (cases_Bool (has_gone m.entries next j)) as (λ _. has_gone m.entries next j ≡ false) [
-      | inr there_still ↦ there_still
-      | inl gone ↦
-          let both = and_parts (nat_lt j next) (not (has_key m.entries j)) gone in
-          let lower : IsTrue (nat_lt j koid) = below both.0 in
-          absurd (false≢true (sym left ∙ and_from (nat_lt j koid) (not (has_key n.entries j)) lower (rw (same j apart) both.1)))
-    ]
-      where
-        below : IsTrue (nat_lt j next) → IsTrue (nat_lt j koid)
-        below h = grind (arith, nat_tests, h, newest, apart)
-
-    places : HavePlaces n.entries koid
-    places j left = by_key (cases_Bool (koid == j))
+    places : HavePlaces n.entries
+    places j = by_key (cases_Bool (koid == j))
       where
         by_key : IsTrue (koid == j) ⊎ ((koid == j) ≡ false) → waits_at n.entries j + 0 ≤ reserved_in (get n.entries j)
         by_key (inl here) =
             subst (λ (i : ℕ). waits_at n.entries i + 0 ≤ reserved_in (get n.entries i)) (eqb-true koid j here)
-            (omega (arith, waits koid, whole.places koid not_gone, unreserved))
+            (omega (arith, waits koid, whole.places koid, unreserved))
         by_key (inr apart) =
             let reserved : reserved_in (get n.entries j) ≡ reserved_in (get m.entries j) = ap reserved_in (same j apart) in
-            omega (arith, waits j, whole.places j (was_left j apart left), reserved)
+            omega (arith, waits j, whole.places j, reserved)
 
 -- what the methods of objects cite
 pub ruleset whole = (none_whole, more_whole, changed_whole, stopped_whole, sent_whole, received_whole, inserted_whole, roomy_whole)

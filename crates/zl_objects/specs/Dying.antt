@@ -1,6 +1,6 @@
 -- How what goes is noted, without memory. No public clause cites this module.
 use Rattle.std.specs.Prelude.{ℕ, ◌≡◌, ◌+◌, ◌<◌, ◌≤◌, Bool, false, ◌==◌, nat_lt, not, IsTrue, List, [], ◌++◌, length, Option, Some, None, if◌then◌else◌}
-use Rattle.std.specs.List.{count_by}
+use Rattle.std.specs.List.{count_by, filter}
 use Rattle.zl_rights.specs.Map.{Map, get, has_key, without}
 use Rattle.zl_signals.specs.declared.watch.Watch.{Watch}
 use Rattle.zl_objects.specs.declared.object.Body.{Body}
@@ -8,7 +8,7 @@ use Rattle.zl_objects.specs.declared.object.Body.TheVariants as body
 use Rattle.zl_objects.specs.declared.object.Object.{Object}
 use Rattle.zl_objects.specs.Objects.{is_end_at, is_kept}
 use Rattle.zl_objects.specs.Release.{AreKeptBut, Cascades}
-use Rattle.zl_objects.specs.Waits.{HavePlacesWith}
+use Rattle.zl_objects.specs.Waits.{HavePlaces, HavePlacesWith}
 
 -- one handle alone names the object that was found
 abbrev pub is_last : Option Object → Bool
@@ -36,11 +36,19 @@ is_named e = nat_lt 0 e.1.handles
 unfoldable pub budget : Map Object → List ℕ → ℕ
 budget m dying = length dying + count_by is_named m
 
--- handles to these koids went, and what nothing keeps was noted
+-- of the waits at the object, those are left of which a test knows that their ports are left
+pub record Thins (m m2 : Map Object) (k : ℕ) (o : Object) : Type 0 where
+  pub before : Object
+  pub there : get m k ≡ Some before
+  pub waits : (test : Watch → Bool) → ((x : Watch) → IsTrue (test x) → IsTrue (has_key m2 x.port)) → filter test o.signals.waits ≡ filter test before.signals.waits
+
+-- handles to these koids went, what nothing keeps was noted, and waits ended with their ports alone
 pub record LetsGo (ks : List ℕ) (m : Map Object) (dying : List ℕ) (m2 : Map Object) (dying2 : List ℕ) : Type 0 where
   pub cheap : budget m2 dying2 ≤ budget m dying
   pub notes : (others : List ℕ) → AreKeptBut (others ++ dying) m → AreKeptBut (others ++ dying2) m2
   pub leads : (rest : List ℕ) (m3 : Map Object) → Cascades rest m2 m3 → Cascades (ks ++ rest) m m3
+  pub places : HavePlaces m → HavePlaces m2
+  pub thins : (k : ℕ) (o : Object) → get m2 k ≡ Some o → Thins m m2 k o
 
 -- the peer of an end has a koid that was given, and is an end while it is there
 abbrev pub HasPeer : Map Object → ℕ → Body → Type 0
@@ -52,6 +60,6 @@ HasPeer m next_koid _ = Unit {0}
 pub record IsWhole (more : Option Watch) (m : Map Object) (next_koid : ℕ) (dying : List ℕ) (room : ℕ) : Type 0 where
   pub below : (k : ℕ) → IsTrue (has_key m k) → k < next_koid
   pub peers : (k : ℕ) (o : Object) → get m k ≡ Some o → HasPeer m next_koid o.body
-  pub places : HavePlacesWith more m next_koid
+  pub places : HavePlacesWith more m
   pub enough : length m ≤ room
   pub none : dying ≡ []

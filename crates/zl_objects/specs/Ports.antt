@@ -57,6 +57,10 @@ abbrev pub changed_port : (Port → Port) → Body → Body
 changed_port f (body.Port port) = body.Port (f port)
 changed_port f b = b
 
+-- what an object is, but for places that are reserved
+abbrev pub unreserved : Body → Body
+unreserved b = changed_port (λ p. record p { reserved = 0 }) b
+
 -- the object as f leaves it, if it is a port
 abbrev pub at_port : (Port → Port) → Object → Object
 at_port f o = record o { body = changed_port f o.body }

@@ -8,6 +8,7 @@ use Rattle.zl_rights.specs.Map.{Map, get, update, without}
 use Rattle.zl_rights.specs.World.{Message}
 use Rattle.zl_objects.specs.declared.object.Object.{Object}
 use Rattle.zl_objects.specs.Objects.{Objects, held_once_less, is_kept, job_in, queue_of, stopping}
+use Rattle.zl_objects.specs.Waits.{AreSameButWaits}
 
 -- what the handles name
 abbrev pub koids_of : List Entry → List ℕ
@@ -17,13 +18,14 @@ koids_of es = map (λ (e : Entry). e.koid) es
 abbrev pub named_in : List Message → List ℕ
 named_in ms = flat_map (λ (m : Message). koids_of m.handles) ms
 
--- handles to these koids have gone; where an object goes, so do the handles in its queue
+-- handles to these koids have gone; where an object goes, so do the handles in its queue, and waits may end
 pub data Cascades : List ℕ → Map Object → Map Object → Type 0 where
   none_left : (m : Map Object) → Cascades [] m m
   let_go : (k : ℕ) (ks : List ℕ) (m m2 : Map Object)
       → Cascades ks (update m k held_once_less) m2 → Cascades (k ∷ ks) m m2
   goes : (k : ℕ) (o : Object) (ks : List ℕ) (m m2 : Map Object) → get m k ≡ Some o → is_kept m k o ≡ false
       → Cascades (named_in (queue_of o.body) ++ ks) (without m k) m2 → Cascades ks m m2
+  waits_end : (ks : List ℕ) (m mid m2 : Map Object) → AreSameButWaits m mid → Cascades ks mid m2 → Cascades ks m m2
 
 -- the objects are in the order of their koids, and something keeps each but perhaps these
 pub record AreKeptBut (loose : List ℕ) (m : Map Object) : Type 0 where

@@ -1,14 +1,14 @@
 -- The waits that are registered at the objects, and what operations make of them.
-use Rattle.std.specs.Prelude.{ℕ, ◌≡◌, Bool, false, not, ◌&&◌, nat_lt, ◌+◌, ◌≤◌, cond, ◌==◌, List, [], Option, Some, None}
-use Rattle.std.specs.List.{find, count_by, sum_by}
-use Rattle.zl_rights.specs.Map.{Map, get, has_key, update}
+use Rattle.std.specs.Prelude.{ℕ, ◌≡◌, Bool, nat_lt, ◌+◌, ◌≤◌, cond, ◌==◌, List, [], ◌∷◌, Option, Some, None, if◌then◌else◌}
+use Rattle.std.specs.List.{find, filter, count_by, sum_by}
+use Rattle.zl_rights.specs.Map.{Map, each, get, has_key, update}
 use Rattle.zl_rights.specs.World.{Packet}
 use Rattle.zl_signals.specs.declared.watch.Watch.{Watch}
-use Rattle.zl_signals.specs.Waits.{holds, is_at_port, next_order, with_wait, without_wait}
+use Rattle.zl_signals.specs.Waits.{holds, is_at_port, next_order, with_wait, without_port, without_wait}
 use Rattle.zl_port.specs.Packets.{Port, with_packet, with_place, without_place}
 use Rattle.zl_objects.specs.declared.object.Object.{Object}
 use Rattle.zl_objects.specs.Objects.{Objects}
-use Rattle.zl_objects.specs.Ports.{at_port, reserved_in}
+use Rattle.zl_objects.specs.Ports.{at_port, reserved_in, reserved_of, unreserved}
 
 -- the waits at the object that was found, the earliest registered first
 abbrev pub waits_in : Option Object → List Watch
@@ -45,19 +45,14 @@ abbrev pub one_for : ℕ → Option Watch → ℕ
 one_for k None = 0
 one_for k (Some x) = cond (x.port == k) 1 0
 
--- the koid of an object that has gone
-abbrev pub has_gone : Map Object → ℕ → ℕ → Bool
-has_gone m next_koid k = nat_lt k next_koid && not (has_key m k)
-
--- for all waits that give their packets to one port, and for this one, places are reserved there, until it has gone;
--- they give them to no other object
-abbrev pub HavePlacesWith : Option Watch → Map Object → ℕ → Type 0
-HavePlacesWith x m next_koid =
-    (k : ℕ) → has_gone m next_koid k ≡ false → waits_at m k + one_for k x ≤ reserved_in (get m k)
+-- for all waits that give their packets to one port, and for this one, places are reserved there; none gives its packet
+-- to a koid that is no port
+abbrev pub HavePlacesWith : Option Watch → Map Object → Type 0
+HavePlacesWith x m = (k : ℕ) → waits_at m k + one_for k x ≤ reserved_in (get m k)
 
 -- for all waits that give their packets to one port places are reserved there
-abbrev pub HavePlaces : Map Object → ℕ → Type 0
-HavePlaces m next_koid = HavePlacesWith None m next_koid
+abbrev pub HavePlaces : Map Object → Type 0
+HavePlaces m = HavePlacesWith None m
 
 -- ---- changes
 
@@ -90,3 +85,42 @@ firing r k active = record r {
   objects = at_port_of (find (holds active) (waits_in (get r.objects k)))
       (λ x port. with_packet (without_place port) (packet_of k active x)) (update r.objects k (unwatched (holds active)));
 }
+
+-- the object without the waits that give their packets to the port
+abbrev pub without_port_waits : ℕ → Object → Object
+without_port_waits port o = record o { signals = without_port o.signals port }
+
+-- the objects, where the places of these waits were given back
+abbrev pub giving_back : List Watch → Map Object → Map Object
+giving_back [] m = m
+giving_back (x ∷ xs) m = giving_back xs (update m x.port (at_port without_place))
+
+-- the objects without the waits that give their packets to the port k, if a place was reserved there
+abbrev pub ending_port : ℕ → Bool → Map Object → Map Object
+ending_port k reserved m = if reserved then each (λ j. without_port_waits k) m else m
+
+-- the objects that are left, once the waits have ended that end with the object k
+abbrev pub ending_waits : ℕ → Object → Map Object → Map Object
+ending_waits k o m = ending_port k (nat_lt 0 (reserved_of o.body)) (giving_back o.signals.waits m)
+
+-- ---- what is left
+
+-- the object without its waits and reserved places
+abbrev pub bare : Object → Object
+bare o = record { body = unreserved o.body; signals = record { raised = o.signals.raised; waits = [] }; handles = o.handles }
+
+-- the objects are the same but for waits and reserved places
+abbrev pub AreSameButWaits : Map Object → Map Object → Type 0
+AreSameButWaits m m2 = each (λ k. bare) m ≡ each (λ k. bare) m2
+
+-- of the waits at the object those are left whose port is left, in order; what it is and its raised signals are as before
+pub record KeepsWaits (m m2 : Map Object) (k : ℕ) (o : Object) : Type 0 where
+  pub before : Object
+  pub there : get m k ≡ Some before
+  pub body : unreserved o.body ≡ unreserved before.body
+  pub raised : o.signals.raised ≡ before.signals.raised
+  pub waits : o.signals.waits ≡ filter (λ (x : Watch). has_key m2 x.port) before.signals.waits
+
+-- at each object that is left those waits are left whose port is
+abbrev pub LeavesWaits : Objects → Objects → Type 0
+LeavesWaits r r2 = (k : ℕ) (o : Object) → get r2.objects k ≡ Some o → KeepsWaits r.objects r2.objects k o

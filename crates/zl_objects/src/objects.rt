@@ -5,6 +5,7 @@ ghost use Rattle.zl_channel.specs.Queue.{front_entry, front_sizes, is_too_large,
 ghost use Rattle.zl_objects.specs.Ports.{reserved_in, reserved_of};
 ghost use Rattle.zl_objects.specs.Release.{Ends, Releases};
 ghost use Rattle.zl_objects.specs.Seen.{LeavesLargest};
+ghost use Rattle.zl_objects.specs.Waits.{LeavesWaits};
 
 use crate::object::{Body, Object};
 use crate::releasing::{let_go, remove_dying, remove_unkept};
@@ -276,12 +277,15 @@ impl Objects {
     }
 
     /// A handle to the object has gone, and with it goes what isn't held any more: with the end of
-    /// a channel go its messages and the handles in them. It takes no memory.
+    /// a channel go its messages and the handles in them. With a port go its packets, and the waits
+    /// at all objects that give packets to it; with an object go the waits that are registered
+    /// there, and their places are given back. It takes no memory.
     ///
     /// Source: the page "zx_handle_close" of the Fuchsia documentation.
     pub fn release(&mut self, koid: Koid)
         ensures releases { Releases (koid ∷ []) [] self.old self.new }
         ensures largest { LeavesLargest (koid ∷ []) [] self.old self.new }
+        ensures waits { LeavesWaits self.old self.new }
     {
         let_go(&mut self.by_koid, &mut self.dying, koid);
         remove_dying(&mut self.by_koid, &mut self.dying);
@@ -291,14 +295,18 @@ impl Objects {
     pub fn remove_unheld(&mut self, koid: Koid)
         ensures releases { Releases [] (koid ∷ []) self.old self.new }
         ensures largest { LeavesLargest [] (koid ∷ []) self.old self.new }
+        ensures waits { LeavesWaits self.old self.new }
     {
         remove_unkept(&mut self.by_koid, &mut self.dying, koid);
         remove_dying(&mut self.by_koid, &mut self.dying);
     }
 
-    /// The process has ended, and what isn't held any more goes. It takes no memory.
+    /// The process has ended, and what isn't held any more goes, with the waits as in `release`. It
+    /// takes no memory.
     pub fn end(&mut self, pid: Koid)
-        ensures { Ends pid self.old self.new }
+        ensures ends { Ends pid self.old self.new }
+        ensures waits { IfSome (job_in (get self.old.objects pid))
+            (λ job. LeavesWaits (stopping self.old pid) self.new) }
     {
         if let Some(job) = self.job_of(pid) {
             self.stop(pid);

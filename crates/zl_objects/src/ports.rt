@@ -1,10 +1,10 @@
 //! Ports: their packets, and the places that are reserved for the packets of waits.
 
-ghost use Rattle.std.specs.Prelude.{◌≡◌, ◌↔◌, ◌≤◌, Err, IfOk, IsTrue, OnErr, OnOk, Some, filter, length, slice_get};
+ghost use Rattle.std.specs.Prelude.{◌≡◌, ◌↔◌, ◌≤◌, Err, IfOk, IsTrue, OnErr, OnOk, Some, filter, length, nat_lt, slice_get};
 ghost use Rattle.zl_rights.specs.Map.{get};
 ghost use Rattle.zl_port.specs.Packets.{MOST_USER_PACKETS, is_from, user_count, user_packet, with_packet, with_place, without_front, without_packets, without_place};
 ghost use Rattle.zl_objects.specs.Objects.{has_koids, new_object, with_new};
-ghost use Rattle.zl_objects.specs.Ports.{at_port, changing_port, has_place_body, is_port_at, new_port, packets_in, packets_of};
+ghost use Rattle.zl_objects.specs.Ports.{at_port, changing_port, has_place_body, is_port_at, new_port, packets_in, packets_of, reserved_of};
 
 use crate::object::{Body, Object};
 use crate::objects::Objects;
@@ -76,6 +76,18 @@ impl Object {
         match &mut self.body {
             Body::Port(port) => port.cancel(source, key),
             _ => 0,
+        }
+    }
+}
+
+impl Body {
+    /// Whether a place is reserved, at a port.
+    pub(crate) fn has_reserved(&self) -> bool
+        ensures { result ≡ nat_lt 0 (reserved_of self.now) }
+    {
+        match self {
+            Body::Port(port) => port.has_reserved(),
+            _ => false,
         }
     }
 }

@@ -3,16 +3,20 @@
 //! An object that may have to go is noted in `dying`, which has room for each object. It stays with
 //! its queue until it is looked at again.
 
-ghost use Rattle.std.specs.Prelude.{◌≡◌, ◌≤◌, ◌++◌, ◌∷◌, [], vec_capacity};
-ghost use Rattle.zl_rights.specs.Map.{get, update};
+ghost use Rattle.std.specs.Prelude.{◌≡◌, ◌≤◌, ◌++◌, ◌∷◌, [], nat_lt, vec_capacity};
+ghost use Rattle.zl_rights.specs.Map.{each, get, update};
 ghost use Rattle.zl_objects.specs.Objects.{has_living_child, held_once_less, is_kept};
 ghost use Rattle.zl_objects.specs.Release.{koids_of, named_in};
 ghost use Rattle.zl_objects.specs.Dying.{budget, is_last, is_unkept, left_at, unkept_at, LetsGo};
+ghost use Rattle.zl_objects.specs.Ports.{reserved_in};
+ghost use Rattle.zl_objects.specs.Waits.{ending_port, giving_back, without_port_waits};
 
 use crate::object::{Body, Object};
+use crate::waits::give_back;
 use std::collections::BTreeMap;
 use zl_channel::ChannelEnd;
 use zl_rights::{Entry, Koid};
+use zl_signals::SignalState;
 
 /// One handle less names the object. Says whether it was the only one.
 #[tactic(auto, using(crate::proofs::ByKoid::by_koid))]
@@ -107,7 +111,50 @@ fn take_unkept(by_koid: &mut BTreeMap<Koid, Object>, koid: Koid) -> Option<Objec
     }
 }
 
-/// The object goes with its queue, unless something keeps it.
+/// The places of all these waits are given back at their ports.
+fn give_all_back(by_koid: &mut BTreeMap<Koid, Object>, mut signals: SignalState)
+    ensures { by_koid.new.entries ≡ giving_back signals.waits by_koid.old.entries }
+{
+    while let Some(wait) = signals.take_wait() {
+        give_back(by_koid, wait.port);
+    }
+}
+
+/// The waits that give their packets to the port end, at all objects.
+fn end_port(by_koid: &mut BTreeMap<Koid, Object>, port: Koid)
+    ensures { by_koid.new.entries ≡ each (λ j. without_port_waits port) by_koid.old.entries }
+{
+    // It keeps each object, and is the way to write to all.
+    by_koid.retain(|_, object| {
+        object.end_port(port);
+        true
+    });
+}
+
+/// Whether it is a port where a place is reserved.
+#[tactic(auto, using(crate::proofs::ByKoid::by_koid))]
+pub fn has_reserved(by_koid: &BTreeMap<Koid, Object>, koid: Koid) -> bool
+    ensures { result ≡ nat_lt 0 (reserved_in (get by_koid.now.entries koid)) }
+{
+    match by_koid.get(&koid) {
+        Some(object) => object.body.has_reserved(),
+        None => false,
+    }
+}
+
+/// The waits at an object that has gone end. If it was a port with a reserved place, so do those
+/// that give their packets to it.
+fn end_waits(by_koid: &mut BTreeMap<Koid, Object>, koid: Koid, reserved: bool, signals: SignalState)
+    ensures { by_koid.new.entries
+        ≡ ending_port koid reserved (giving_back signals.waits by_koid.old.entries) }
+{
+    give_all_back(by_koid, signals);
+    if reserved {
+        end_port(by_koid, koid);
+    }
+}
+
+/// The object goes with its queue and its waits, unless something keeps it.
 pub fn remove_unkept(by_koid: &mut BTreeMap<Koid, Object>, dying: &mut Vec<Koid>, koid: Koid)
     requires fits { budget by_koid.old.entries dying.old.items ≤ vec_capacity dying.old }
     ensures goes { LetsGo [] by_koid.old.entries (dying.old.items ++ koid ∷ [])
@@ -116,10 +163,12 @@ pub fn remove_unkept(by_koid: &mut BTreeMap<Koid, Object>, dying: &mut Vec<Koid>
         ≤ budget by_koid.old.entries dying.old.items }
     ensures capacity { vec_capacity dying.new ≡ vec_capacity dying.old }
 {
+    let reserved = has_reserved(by_koid, koid);
     let Some(gone) = take_unkept(by_koid, koid) else {
         return;
     };
-    let Object { body, .. } = gone;
+    let Object { body, signals, .. } = gone;
+    end_waits(by_koid, koid, reserved, signals);
     if let Body::ChannelEnd { queue, .. } = body {
         let_go_queue(by_koid, dying, queue);
     }

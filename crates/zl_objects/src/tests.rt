@@ -1,3 +1,4 @@
+use crate::releasing::has_reserved;
 use crate::{Body, Objects};
 use bitflags::Flags;
 use std::alloc::{AllocError, Global};
@@ -242,5 +243,71 @@ fn packets_are_queued_and_cancelled(rt: HostRuntime) -> Result<(), Fail> {
     assert_eq!(rt; objects.cancel(port, source, 7), 1);
     assert_eq!(rt; numbers(objects.pop(port)), Some([5, 0, 6, 0]));
     assert!(rt; objects.pop(port).is_none());
+    Ok(())
+}
+
+#[test]
+fn a_port_that_goes_leaves_no_wait(rt: HostRuntime) -> Result<(), Fail> {
+    let mut objects = Objects::new(rt.alloc())?;
+    let (first, second) = new_channel(&mut objects)?;
+    let port = new_port(&mut objects)?;
+    let other = new_port(&mut objects)?;
+    watch(&mut objects, first, wait_for(port, Signals::USER_0, 5, 0))?;
+    watch(&mut objects, first, wait_for(other, Signals::USER_0, 6, 1))?;
+    watch(&mut objects, second, wait_for(port, Signals::USER_0, 7, 2))?;
+    watch(&mut objects, first, wait_for(port, Signals::USER_0, 8, 3))?;
+    objects.release(port);
+    assert!(rt; objects.kind_of(port).is_none());
+    assert!(rt; objects.unwatch_port(first, port).is_none());
+    assert!(rt; objects.unwatch_port(second, port).is_none());
+    assert_eq!(rt; key(objects.fire(first, Signals::USER_0)), Some(6));
+    assert!(rt; objects.fire(first, Signals::USER_0).is_none());
+    assert!(rt; objects.fire(second, Signals::USER_0).is_none());
+    assert_eq!(rt;
+        numbers(objects.pop(other)),
+        Some([6, 1, 0x0100_0000, 0x0100_0000])
+    );
+    Ok(())
+}
+
+/// Whether a place is reserved at the port.
+fn reserved(objects: &Objects, port: Koid) -> bool {
+    has_reserved(&objects.by_koid, port)
+}
+
+#[test]
+fn an_object_that_goes_gives_its_places_back(rt: HostRuntime) -> Result<(), Fail> {
+    let mut objects = Objects::new(rt.alloc())?;
+    let (first, second) = new_channel(&mut objects)?;
+    let port = new_port(&mut objects)?;
+    assert!(rt; !reserved(&objects, port));
+    watch(&mut objects, first, wait_for(port, Signals::USER_0, 5, 0))?;
+    watch(&mut objects, second, wait_for(port, Signals::USER_0, 6, 1))?;
+    watch(&mut objects, first, wait_for(port, Signals::USER_0, 7, 2))?;
+    objects.release(first);
+    assert!(rt; reserved(&objects, port));
+    assert_eq!(rt; key(objects.unwatch_port(second, port)), Some(6));
+    assert!(rt; !reserved(&objects, port));
+    assert!(rt; objects.pop(port).is_none());
+    Ok(())
+}
+
+/// The last handle to a port goes with the end in whose queue it stands, and so do their waits.
+#[test]
+fn waits_end_with_a_port_in_a_queue(rt: HostRuntime) -> Result<(), Fail> {
+    let mut objects = Objects::new(rt.alloc())?;
+    let (first, second) = new_channel(&mut objects)?;
+    let port = new_port(&mut objects)?;
+    let other = new_port(&mut objects)?;
+    send(rt.alloc(), &mut objects, first, port)?;
+    watch(&mut objects, first, wait_for(port, Signals::USER_0, 5, 0))?;
+    watch(&mut objects, first, wait_for(other, Signals::USER_0, 6, 1))?;
+    watch(&mut objects, second, wait_for(other, Signals::USER_0, 7, 2))?;
+    objects.release(second);
+    assert!(rt; objects.kind_of(port).is_none());
+    assert!(rt; objects.unwatch_port(first, port).is_none());
+    assert!(rt; reserved(&objects, other));
+    assert_eq!(rt; key(objects.unwatch_port(first, other)), Some(6));
+    assert!(rt; !reserved(&objects, other));
     Ok(())
 }

@@ -6,7 +6,7 @@ ghost use Rattle.zl_rights.specs.Map.{get, has_key, update};
 ghost use Rattle.zl_port.specs.Packets.{with_packet, with_place, without_place};
 ghost use Rattle.zl_signals.specs.Waits.{holds, is_at_port, is_by_handle, is_keyed};
 ghost use Rattle.zl_objects.specs.Ports.{at_port, has_place_in, is_port_at};
-ghost use Rattle.zl_objects.specs.Waits.{firing, next_in, packet_of, unwatched, unwatching, waits_in, watched, watching};
+ghost use Rattle.zl_objects.specs.Waits.{firing, next_in, packet_of, unwatched, unwatching, waits_in, watched, watching, without_port_waits};
 
 use crate::object::Object;
 use crate::objects::Objects;
@@ -43,6 +43,13 @@ impl Object {
         ensures unchanged { IfNone result (self.new ≡ self.old) }
     {
         self.signals.unwatch_port(port)
+    }
+
+    /// Takes out all waits that give their packets to the port.
+    pub(crate) fn end_port(&mut self, port: Koid)
+        ensures { self.new ≡ without_port_waits port self.old }
+    {
+        self.signals.end_port(port);
     }
 
     /// Takes out the earliest wait that was made by that handle, for a packet with the key to the
@@ -204,7 +211,7 @@ fn register(
 
 /// Gives a reserved place back at the port, if one is reserved.
 #[tactic(auto, using(crate::proofs::ByKoid::by_koid))]
-fn give_back(by_koid: &mut BTreeMap<Koid, Object>, port: Koid)
+pub fn give_back(by_koid: &mut BTreeMap<Koid, Object>, port: Koid)
     ensures { by_koid.new.entries ≡ update by_koid.old.entries port (at_port without_place) }
 {
     let Some(object) = by_koid.get_mut(&port) else {

@@ -2,7 +2,7 @@ use Rattle.std.proofs.Common.{arith, ◌∷◌, [], vec_capacity, ◌∙◌}
 use Rattle.zl_objects.specs.Dying.{LetsGo}
 use Rattle.zl_objects.proofs.Budget.{both_went}
 use Rattle.zl_objects.proofs.Law.{leaves_largest}
-use Rattle.zl_objects.proofs.Released.{cascades_of, released, starts, whole_left}
+use Rattle.zl_objects.proofs.Released.{cascades_of, released, starts, waits_left, whole_left}
 use Rattle.zl_objects.proofs.objects.Objects.release.Goals as goal
 
 pub let_go-requires : goal.let_go-requires
@@ -15,7 +15,7 @@ pub invariant_of-self : goal.invariant_of-self
 invariant_of-self c =
     let went : LetsGo (c.args.koid ∷ []) c.self.inside.by_koid.entries c.self.inside.dying.items c.remove_dying.new.by_koid.entries c.remove_dying.new.dying.items = both_went (c.args.koid ∷ []) [] _ _ _ _ _ _ c.let_go.ensures.goes c.remove_dying.ensures.goes in
     whole_left (c.args.koid ∷ []) c.self.inside.by_koid.entries c.remove_dying.new.by_koid.entries c.self.inside.next_koid (vec_capacity c.self.inside.dying) (vec_capacity c.remove_dying.new.dying) c.self.inside.dying.items c.remove_dying.new.dying.items
-    (cascades_of (c.args.koid ∷ []) c.self.inside.by_koid.entries c.remove_dying.new.by_koid.entries c.self.inside.dying.items c.remove_dying.new.dying.items went) c.self.invariant c.remove_dying.ensures.none (c.remove_dying.ensures.capacity ∙ c.let_go.ensures.capacity)
+    (cascades_of (c.args.koid ∷ []) c.self.inside.by_koid.entries c.remove_dying.new.by_koid.entries c.self.inside.dying.items c.remove_dying.new.dying.items went) (went.places c.self.invariant.places) c.self.invariant c.remove_dying.ensures.none (c.remove_dying.ensures.capacity ∙ c.let_go.ensures.capacity)
 
 pub returns-clause-releases : goal.returns-clause-releases
 returns-clause-releases c =
@@ -24,3 +24,8 @@ returns-clause-releases c =
 
 pub returns-clause-largest : goal.returns-clause-largest
 returns-clause-largest c = leaves_largest (c.args.koid ∷ []) [] c.args.self.now _ (returns-clause-releases c)
+
+pub returns-clause-waits : goal.returns-clause-waits
+returns-clause-waits c =
+    let went : LetsGo (c.args.koid ∷ []) c.self.inside.by_koid.entries c.self.inside.dying.items c.remove_dying.new.by_koid.entries c.remove_dying.new.dying.items = both_went (c.args.koid ∷ []) [] _ _ _ _ _ _ c.let_go.ensures.goes c.remove_dying.ensures.goes in
+    rw (← c.self.view_is) (waits_left (c.args.koid ∷ []) c.self.inside.by_koid.entries c.remove_dying.new.by_koid.entries c.self.inside.next_koid (cascades_of (c.args.koid ∷ []) c.self.inside.by_koid.entries c.remove_dying.new.by_koid.entries c.self.inside.dying.items c.remove_dying.new.dying.items went) (went.places c.self.invariant.places) went.thins)

@@ -2,7 +2,7 @@ use Rattle.std.proofs.Common.{arith, refl, ◌≡◌, ◌++◌, ◌∷◌, [], v
 use Rattle.zl_objects.specs.Dying.{LetsGo}
 use Rattle.zl_objects.proofs.Budget.{both_went}
 use Rattle.zl_objects.proofs.Law.{leaves_largest}
-use Rattle.zl_objects.proofs.Released.{cascades_of, released, starts, whole_left}
+use Rattle.zl_objects.proofs.Released.{cascades_of, released, starts, waits_left, whole_left}
 use Rattle.zl_objects.proofs.objects.Objects.remove_unheld.Goals as goal
 
 pub remove_unkept-requires : goal.remove_unkept-requires
@@ -15,7 +15,7 @@ pub invariant_of-self : goal.invariant_of-self
 invariant_of-self c =
     let went : LetsGo [] c.self.inside.by_koid.entries (c.self.inside.dying.items ++ c.args.koid ∷ []) c.remove_dying.new.by_koid.entries c.remove_dying.new.dying.items = both_went [] [] _ _ _ _ _ _ c.remove_unkept.ensures.goes c.remove_dying.ensures.goes in
     whole_left [] c.self.inside.by_koid.entries c.remove_dying.new.by_koid.entries c.self.inside.next_koid (vec_capacity c.self.inside.dying) (vec_capacity c.remove_dying.new.dying) c.self.inside.dying.items c.remove_dying.new.dying.items
-    (cascades_of [] c.self.inside.by_koid.entries c.remove_dying.new.by_koid.entries (c.self.inside.dying.items ++ c.args.koid ∷ []) c.remove_dying.new.dying.items went) c.self.invariant c.remove_dying.ensures.none (c.remove_dying.ensures.capacity ∙ c.remove_unkept.ensures.capacity)
+    (cascades_of [] c.self.inside.by_koid.entries c.remove_dying.new.by_koid.entries (c.self.inside.dying.items ++ c.args.koid ∷ []) c.remove_dying.new.dying.items went) (went.places c.self.invariant.places) c.self.invariant c.remove_dying.ensures.none (c.remove_dying.ensures.capacity ∙ c.remove_unkept.ensures.capacity)
 
 pub returns-clause-releases : goal.returns-clause-releases
 returns-clause-releases c =
@@ -25,3 +25,8 @@ returns-clause-releases c =
 
 pub returns-clause-largest : goal.returns-clause-largest
 returns-clause-largest c = leaves_largest [] (c.args.koid ∷ []) c.args.self.now _ (returns-clause-releases c)
+
+pub returns-clause-waits : goal.returns-clause-waits
+returns-clause-waits c =
+    let went : LetsGo [] c.self.inside.by_koid.entries (c.self.inside.dying.items ++ c.args.koid ∷ []) c.remove_dying.new.by_koid.entries c.remove_dying.new.dying.items = both_went [] [] _ _ _ _ _ _ c.remove_unkept.ensures.goes c.remove_dying.ensures.goes in
+    rw (← c.self.view_is) (waits_left [] c.self.inside.by_koid.entries c.remove_dying.new.by_koid.entries c.self.inside.next_koid (cascades_of [] c.self.inside.by_koid.entries c.remove_dying.new.by_koid.entries (c.self.inside.dying.items ++ c.args.koid ∷ []) c.remove_dying.new.dying.items went) (went.places c.self.invariant.places) went.thins)

@@ -1,0 +1,267 @@
+-- The waits that end with an object that goes: its own, and those that give their packets to it.
+use Rattle.zl_rights.proofs.Common.{◌≡◌, ◌+◌, ◌<◌, ◌≤◌, ◌⊎◌, ℕ, Bool, true, false, not, ◌==◌, List, [], ◌∷◌, drop, filter, length, refl, sym, ap, ◌∙◌, subst, cond, Option, Some, None, inl, inr, IsTrue, arith, eq-eqb, nat_lt, if◌then◌else◌, is_some, option_map, slice_get, count_by, sum_by, sum_by-cons, cases_Bool, eqb-true, false≢true, none-some, same_Some, nat_tests, Map, get, has_key, update, without, each}
+use Rattle.std.specs.Prelude.{◌-◌}
+use Rattle.zl_rights.proofs.MapLaws.{get-each, get-update}
+use Rattle.zl_table.proofs.MapEdits.{get-without}
+use Rattle.zl_signals.specs.declared.watch.Watch.{Watch}
+use Rattle.zl_signals.specs.Waits.{is_at_port}
+use Rattle.zl_port.specs.Packets.{without_place}
+use Rattle.zl_objects.specs.declared.object.Body.{Body}
+use Rattle.zl_objects.specs.declared.object.Body.TheVariants as body
+use Rattle.zl_objects.specs.declared.object.Object.{Object}
+use Rattle.zl_objects.specs.Dying.{Thins}
+use Rattle.zl_objects.specs.Ports.{at_port, changed_port, reserved_in, reserved_of, unreserved}
+use Rattle.zl_objects.specs.Waits.{AreSameButWaits, HavePlaces, bare, ending_port, ending_waits, giving_back, waits_at, waits_for, without_port_waits}
+use Rattle.zl_objects.proofs.Bodies.{Changed, changed, found_left}
+use Rattle.zl_objects.proofs.Sums.{sum_left, sum_no_more}
+
+-- ---- the steps of the code
+
+pub given_back : (xs ys : List Watch) (x : Watch) (m n : Map Object) → slice_get xs 0 ≡ Some x → ys ≡ drop 1 xs → n ≡ update m x.port (at_port without_place) → giving_back ys n ≡ giving_back xs m
+given_back [] ys x m n there rest is = absurd (none-some x there)
+given_back (y ∷ xs) ys x m n there rest is = λ i. giving_back (rest i) ((is ∙ ap (λ (z : Watch). update m z.port (at_port without_place)) (sym (same_Some y x there))) i)
+
+pub fewer_waits : (xs ys : List Watch) (x : Watch) → slice_get xs 0 ≡ Some x → ys ≡ drop 1 xs → length ys < length xs
+fewer_waits [] ys x there rest = absurd (none-some x there)
+fewer_waits (y ∷ xs) ys x there rest = let left : ys ≡ xs = rest in rw left (omega arith)
+
+pub none_to_give : (xs : List Watch) (m : Map Object) → slice_get xs 0 ≡ None → giving_back xs m ≡ m
+none_to_give [] m none = refl
+none_to_give (x ∷ xs) m none = absurd (none-some x (sym none))
+
+-- what was read of the object before it went
+pub ended_by : (m n : Map Object) (k : ℕ) (o : Object) (reserved : Bool) → get m k ≡ Some o → n ≡ without m k → reserved ≡ nat_lt 0 (reserved_in (get m k)) → ending_port k reserved (giving_back o.signals.waits n) ≡ ending_waits k o (without m k)
+ended_by m n k o reserved there left is = λ i. ending_port k ((is ∙ ap (λ q. nat_lt 0 (reserved_in q)) there) i) (giving_back o.signals.waits (left i))
+
+-- ---- nothing but waits and places changes
+
+port_bare : (o : Object) → bare (at_port without_place o) ≡ bare o
+port_bare o = ap (λ (b : Body). record (bare o) { body = b }) (by_body o.body)
+  where
+    by_body : (b : Body) → unreserved (changed_port without_place b) ≡ unreserved b
+    by_body body.RootJob = refl
+    by_body (body.Process job lives) = refl
+    by_body body.Event = refl
+    by_body (body.ChannelEnd peer queue) = refl
+    by_body (body.Port p) = refl
+
+update_bare : (m : Map Object) (k : ℕ) → AreSameButWaits m (update m k (at_port without_place))
+unfolding each update
+update_bare [] k = refl
+update_bare (e ∷ m) k = elim (cases_Bool (e.0 == k)) as (λ _. AreSameButWaits (e ∷ m) (update (e ∷ m) k (at_port without_place))) [
+  | inl here ↦ rw here (λ i. (eqb-true e.0 k here i, sym (port_bare e.1) i) ∷ each (λ j. bare) m)
+  | inr apart ↦ rw apart (λ i. (e.0, bare e.1) ∷ update_bare m k i)
+]
+
+giving_bare : (xs : List Watch) (m : Map Object) → AreSameButWaits m (giving_back xs m)
+giving_bare [] m = refl
+giving_bare (x ∷ xs) m = update_bare m x.port ∙ giving_bare xs (update m x.port (at_port without_place))
+
+each_bare : (k : ℕ) (m : Map Object) → AreSameButWaits m (each (λ j. without_port_waits k) m)
+unfolding each
+each_bare k [] = refl
+each_bare k (e ∷ m) = λ i. (e.0, bare e.1) ∷ each_bare k m i
+
+ending_port_bare : (k : ℕ) (reserved : Bool) (m : Map Object) → AreSameButWaits m (ending_port k reserved m)
+ending_port_bare k reserved m = elim reserved as (λ b. AreSameButWaits m (if b then each (λ j. without_port_waits k) m else m)) [ true ↦ each_bare k m | false ↦ refl ]
+
+-- what is left is the same but for waits
+pub ending_bare : (k : ℕ) (o : Object) (m : Map Object) → AreSameButWaits m (ending_waits k o m)
+ending_bare k o m = giving_bare o.signals.waits m ∙ ending_port_bare k (nat_lt 0 (reserved_of o.body)) (giving_back o.signals.waits m)
+
+-- ---- the waits that are left
+
+pub filter_within : {X : Type 0} (test p : X → Bool) → ((x : X) → IsTrue (test x) → IsTrue (p x)) → (xs : List X) → filter test (filter p xs) ≡ filter test xs
+filter_within test p within [] = refl
+filter_within test p within (x ∷ xs) = elim (cases_Bool (p x)) as (λ _. filter test (filter p (x ∷ xs)) ≡ filter test (x ∷ xs)) [
+  | inl passes ↦ rw passes (ap (λ (ys : List _). cond (test x) (x ∷ ys) ys) (filter_within test p within xs))
+  | inr fails ↦ elim (cases_Bool (test x)) as (λ _. filter test (filter p (x ∷ xs)) ≡ filter test (x ∷ xs)) [
+    | inl takes ↦ absurd (false≢true (sym fails ∙ within x takes))
+    | inr leaves ↦ rw (fails, leaves) (filter_within test p within xs)
+  ]
+]
+
+-- the same signals and waits as before
+record IsStill (m : Map Object) (k : ℕ) (o : Object) : Type 0 where
+  before : Object
+  there : get m k ≡ Some before
+  same : o.signals ≡ before.signals
+
+update_still : (m : Map Object) (p k : ℕ) (o : Object) → get (update m p (at_port without_place)) k ≡ Some o → IsStill m k o
+update_still m p k o at =
+    let c : Changed (at_port without_place) m p k o = changed (at_port without_place) m p k o at in
+    record {
+      before = c.before;
+      there = c.there;
+      same = ap (λ (x : Object). x.signals) c.is ∙ elim (p == k) as (λ b. (if b then at_port without_place c.before else c.before).signals ≡ c.before.signals) [ true ↦ refl | false ↦ refl ];
+    }
+
+giving_still : (xs : List Watch) (m : Map Object) (k : ℕ) (o : Object) → get (giving_back xs m) k ≡ Some o → IsStill m k o
+giving_still [] m k o at = record { before = o; there = at; same = refl }
+giving_still (x ∷ xs) m k o at =
+    let later : IsStill (update m x.port (at_port without_place)) k o = giving_still xs (update m x.port (at_port without_place)) k o at in
+    let first : IsStill m k later.before = update_still m x.port k later.before later.there in
+    record { before = first.before; there = first.there; same = later.same ∙ first.same }
+
+-- a wait at a port that is there doesn't end with k
+module _ (m m2 : Map Object) (k : ℕ) (gone : has_key m2 k ≡ false) where
+  port_thins : (n : Bool) (j : ℕ) (o : Object) → get (ending_port k n m) j ≡ Some o → m2 ≡ ending_port k n m → Thins m m2 j o
+  port_thins n j o at is = by_test n at
+    where
+      apart : (test : Watch → Bool) → ((x : Watch) → IsTrue (test x) → IsTrue (has_key m2 x.port)) → (x : Watch) → IsTrue (test x) → IsTrue (not (is_at_port k x))
+      apart test left x takes = elim (cases_Bool (x.port == k)) as (λ _. IsTrue (not (is_at_port k x))) [
+        | inl here ↦ absurd (false≢true (sym gone ∙ subst (λ (p : ℕ). IsTrue (has_key m2 p)) (eqb-true x.port k here) (left x takes)))
+        | inr other ↦ rw other refl
+      ]
+
+      by_object : (q : Option Object) → get m j ≡ q → option_map (without_port_waits k) q ≡ Some o → Thins m m2 j o
+      by_object None there read = absurd (none-some o read)
+      by_object (Some q) there read = record {
+        before = q;
+        there = there;
+        waits = λ test left.
+            ap (λ (x : Object). filter test x.signals.waits) (sym (same_Some (without_port_waits k q) o read))
+            ∙ filter_within test (λ x. not (is_at_port k x)) (apart test left) q.signals.waits;
+      }
+
+      by_test : (b : Bool) → get (if b then each (λ i. without_port_waits k) m else m) j ≡ Some o → Thins m m2 j o
+      by_test true read = by_object (get m j) refl (sym (get-each m (λ i. without_port_waits k) j) ∙ read)
+      by_test false read = record { before = o; there = read; waits = λ test left. refl }
+
+-- where k has gone, the waits of the others are left whose port isn't k
+pub ending_thins : (m : Map Object) (k : ℕ) (gone : Object) (j : ℕ) (o : Object) → has_key (ending_waits k gone (without m k)) k ≡ false → get (ending_waits k gone (without m k)) j ≡ Some o → Thins m (ending_waits k gone (without m k)) j o
+ending_thins m k gone j o out at =
+    let mid : Map Object = giving_back gone.signals.waits (without m k) in
+    let later : Thins mid (ending_waits k gone (without m k)) j o = port_thins mid (ending_waits k gone (without m k)) k out (nat_lt 0 (reserved_of gone.body)) j o at refl in
+    let first : IsStill (without m k) j later.before = giving_still gone.signals.waits (without m k) j later.before later.there in
+    record {
+      before = first.before;
+      there = (found_left m k j first.before first.there).1;
+      waits = λ test left. later.waits test left ∙ ap (λ s. filter test s.waits) first.same;
+    }
+
+-- ---- their places
+
+pub sum_out : {X : Type 0} (n : ℕ × X → ℕ) (m : Map X) (k : ℕ) (x : X) → get m k ≡ Some x → sum_by n (without m k) + n (k, x) ≤ sum_by n m
+unfolding get without
+sum_out n [] k x there = absurd (none-some x there)
+sum_out {X} n (e ∷ m) k x there = elim (cases_Bool (e.0 == k)) as (λ _. sum_by n (without (e ∷ m) k) + n (k, x) ≤ sum_by n (e ∷ m)) [
+  | inl here ↦
+      let same : e.1 ≡ x = same_Some e.1 x (rw here at there) in
+      let head : n e ≡ n (k, x) = λ i. n (eqb-true e.0 k here i, same i) in
+      rw here (omega (arith, sum_by-cons n e m, head, sum_left n m k))
+  | inr apart ↦ rw apart (omega (arith, sum_by-cons n e m, sum_by-cons n e (without m k), sum_out n m k x (rw apart at there)))
+]
+
+reserved_back : (m : Map Object) (p j : ℕ) → reserved_in (get (update m p (at_port without_place)) j) ≡ reserved_in (get m j) - cond (p == j) 1 0
+reserved_back m p j = ap reserved_in (get-update m p (at_port without_place) j) ∙ elim (p == j) as (λ b. reserved_in (if b then option_map (at_port without_place) (get m j) else get m j) ≡ reserved_in (get m j) - cond b 1 0) [
+  | true ↦ by_object (get m j)
+  | false ↦ omega arith
+]
+  where
+    by_body : (b : Body) → reserved_of (changed_port without_place b) ≡ reserved_of b - 1
+    by_body body.RootJob = refl
+    by_body (body.Process job lives) = refl
+    by_body body.Event = refl
+    by_body (body.ChannelEnd peer queue) = refl
+    by_body (body.Port port) = refl
+
+    by_object : (o : Option Object) → reserved_in (option_map (at_port without_place) o) ≡ reserved_in o - 1
+    by_object None = refl
+    by_object (Some o) = by_body o.body
+
+giving_reserved : (xs : List Watch) (m : Map Object) (j : ℕ) → reserved_in (get (giving_back xs m) j) ≡ reserved_in (get m j) - count_by (is_at_port j) xs
+giving_reserved [] m j = omega arith
+giving_reserved (x ∷ xs) m j = omega (arith, sum_by-cons (λ (y : Watch). cond (is_at_port j y) 1 0) x xs, reserved_back m x.port j, giving_reserved xs (update m x.port (at_port without_place)) j)
+
+giving_waits : (xs : List Watch) (m : Map Object) (j : ℕ) → waits_at (giving_back xs m) j ≤ waits_at m j
+giving_waits [] m j = omega arith
+giving_waits (x ∷ xs) m j = omega (arith, giving_waits xs (update m x.port (at_port without_place)) j, sum_no_more (λ (e : ℕ × Object). waits_for j e.1) m x.port (at_port without_place) (λ o. omega arith))
+
+-- no wait at the port is left, and none more at others
+none_at : (k : ℕ) (xs : List Watch) → ◌≡◌ {A = ℕ} (count_by (is_at_port k) (filter (λ x. not (is_at_port k x)) xs)) 0
+none_at k [] = refl
+none_at k (x ∷ xs) = elim (cases_Bool (x.port == k)) as (λ _. ◌≡◌ {A = ℕ} (count_by (is_at_port k) (filter (λ y. not (is_at_port k y)) (x ∷ xs))) 0) [
+  | inl here ↦ rw here (none_at k xs)
+  | inr other ↦
+      let no : ◌≡◌ {A = ℕ} (cond (x.port == k) 1 0) 0 = rw other refl in
+      rw other (omega (arith, sum_by-cons (λ (y : Watch). cond (is_at_port k y) 1 0) x (filter (λ y. not (is_at_port k y)) xs), no, none_at k xs))
+]
+
+no_more_at : (k j : ℕ) (xs : List Watch) → count_by (is_at_port j) (filter (λ x. not (is_at_port k x)) xs) ≤ count_by (is_at_port j) xs
+no_more_at k j [] = omega arith
+no_more_at k j (x ∷ xs) = elim (cases_Bool (x.port == k)) as (λ _. count_by (is_at_port j) (filter (λ y. not (is_at_port k y)) (x ∷ xs)) ≤ count_by (is_at_port j) (x ∷ xs)) [
+  | inl here ↦ rw here (omega (arith, sum_by-cons (λ (y : Watch). cond (is_at_port j y) 1 0) x xs, no_more_at k j xs))
+  | inr other ↦ rw other (omega (arith, sum_by-cons (λ (y : Watch). cond (is_at_port j y) 1 0) x (filter (λ y. not (is_at_port k y)) xs), sum_by-cons (λ (y : Watch). cond (is_at_port j y) 1 0) x xs, no_more_at k j xs))
+]
+
+each_none : (k : ℕ) (m : Map Object) → ◌≡◌ {A = ℕ} (waits_at (each (λ j. without_port_waits k) m) k) 0
+unfolding each
+each_none k [] = refl
+each_none k (e ∷ m) = omega (arith, sum_by-cons (λ (x : ℕ × Object). waits_for k x.1) (e.0, without_port_waits k e.1) (each (λ j. without_port_waits k) m), none_at k e.1.signals.waits, each_none k m)
+
+each_no_more : (k j : ℕ) (m : Map Object) → waits_at (each (λ i. without_port_waits k) m) j ≤ waits_at m j
+unfolding each
+each_no_more k j [] = omega arith
+each_no_more k j (e ∷ m) = omega (arith, sum_by-cons (λ (x : ℕ × Object). waits_for j x.1) (e.0, without_port_waits k e.1) (each (λ i. without_port_waits k) m), sum_by-cons (λ (x : ℕ × Object). waits_for j x.1) e m, no_more_at k j e.1.signals.waits, each_no_more k j m)
+
+each_reserved : (k j : ℕ) (m : Map Object) → reserved_in (get (each (λ i. without_port_waits k) m) j) ≡ reserved_in (get m j)
+each_reserved k j m = ap reserved_in (get-each m (λ i. without_port_waits k) j) ∙ by_object (get m j)
+  where
+    by_object : (o : Option Object) → reserved_in (option_map (without_port_waits k) o) ≡ reserved_in o
+    by_object None = refl
+    by_object (Some o) = refl
+
+-- places are reserved for the waits that are left
+pub ending_places : (m : Map Object) (k : ℕ) (o : Object) → get m k ≡ Some o → HavePlaces m → HavePlaces (ending_waits k o (without m k))
+ending_places m k o there have j = by_key (cases_Bool (k == j))
+  where
+    mid : Map Object
+    mid = giving_back o.signals.waits (without m k)
+
+    fewer : waits_at mid j + waits_for j o ≤ waits_at m j
+    fewer = omega (arith, giving_waits o.signals.waits (without m k) j, sum_out (λ (e : ℕ × Object). waits_for j e.1) m k o there)
+
+    reserved : reserved_in (get mid j) ≡ reserved_in (get (without m k) j) - waits_for j o
+    reserved = giving_reserved o.signals.waits (without m k) j
+
+    other : (b : Bool) → waits_at mid j ≤ reserved_in (get mid j) → waits_at (if b then each (λ i. without_port_waits k) mid else mid) j + 0 ≤ reserved_in (get (if b then each (λ i. without_port_waits k) mid else mid) j)
+    other true h = omega (arith, each_no_more k j mid, each_reserved k j mid, h)
+    other false h = omega (arith, h)
+
+    this : (b : Bool) → nat_lt 0 (reserved_of o.body) ≡ b → k ≡ j → waits_at (if b then each (λ i. without_port_waits k) mid else mid) j + 0 ≤ reserved_in (get (if b then each (λ i. without_port_waits k) mid else mid) j)
+    this true is key = subst (λ (i : ℕ). waits_at (each (λ x. without_port_waits k) mid) i + 0 ≤ reserved_in (get (each (λ x. without_port_waits k) mid) i)) key (omega (arith, each_none k mid))
+    this false is key =
+        let at : reserved_in (get m j) ≡ reserved_of o.body = ap reserved_in (ap (get m) (sym key) ∙ there) in
+        let zero : ◌≡◌ {A = ℕ} (reserved_of o.body) 0 = grind (arith, nat_tests, is) in
+        omega (arith, fewer, have j, at, zero)
+
+    by_key : IsTrue (k == j) ⊎ ((k == j) ≡ false) → waits_at (ending_waits k o (without m k)) j + 0 ≤ reserved_in (get (ending_waits k o (without m k)) j)
+    by_key (inl here) = this (nat_lt 0 (reserved_of o.body)) refl (eqb-true k j here)
+    by_key (inr apart) =
+        let left : get (without m k) j ≡ get m j = get-without m k j ∙ rw apart refl in
+        let still : reserved_in (get (without m k) j) ≡ reserved_in (get m j) = ap reserved_in left in
+        other (nat_lt 0 (reserved_of o.body)) (omega (arith, fewer, have j, reserved, still))
+
+-- k has gone
+pub ending_gone : (m : Map Object) (k : ℕ) (o : Object) → ((n : Map Object) → AreSameButWaits (without m k) n → has_key n k ≡ has_key (without m k) k) → has_key (ending_waits k o (without m k)) k ≡ false
+ending_gone m k o same = same (ending_waits k o (without m k)) (ending_bare k o (without m k)) ∙ rw (get-without m k k, eq-eqb k k refl) refl
+
+-- ---- every wait has its port
+
+wait_counts : (K : ℕ → Bool) (xs : List Watch) → ((p : ℕ) → 0 < count_by (is_at_port p) xs → IsTrue (K p)) → filter (λ x. K x.port) xs ≡ xs
+wait_counts K [] each_there = refl
+wait_counts K (x ∷ xs) each_there = rw first (ap (λ (ys : List Watch). x ∷ ys) (wait_counts K xs (λ p some. each_there p (omega (arith, some, sum_by-cons (λ (y : Watch). cond (is_at_port p y) 1 0) x xs)))))
+  where
+    one : ◌≡◌ {A = ℕ} (cond (is_at_port x.port x) 1 0) 1
+    one = rw (eq-eqb x.port x.port refl) refl
+
+    first : IsTrue (K x.port)
+    first = each_there x.port (omega (arith, one, sum_by-cons (λ (y : Watch). cond (is_at_port x.port y) 1 0) x xs))
+
+pub all_ports_there : (m : Map Object) → HavePlaces m → (k : ℕ) (o : Object) → get m k ≡ Some o → filter (λ (x : Watch). has_key m x.port) o.signals.waits ≡ o.signals.waits
+all_ports_there m have k o at = wait_counts (has_key m) o.signals.waits (λ p some. by_object p (get m p) refl (omega (arith, some, have p, sum_out (λ (e : ℕ × Object). waits_for p e.1) m k o at)))
+  where
+    by_object : (p : ℕ) (q : Option Object) → get m p ≡ q → 0 < reserved_in (get m p) → IsTrue (has_key m p)
+    by_object p None is some = absurd (let zero : ◌≡◌ {A = ℕ} (reserved_in (get m p)) 0 = ap reserved_in is in omega (arith, some, zero))
+    by_object p (Some q) is some = rw is refl

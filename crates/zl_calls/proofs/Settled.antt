@@ -10,7 +10,7 @@ use Rattle.zl_objects.specs.Objects.{queue_of}
 use Rattle.zl_objects.specs.Seen.{with_objects}
 use Rattle.zl_objects.proofs.Found.{Found, any_found, any_at}
 use Rattle.zl_objects.proofs.Law.{cascaded, get_seen, queue_named, settles_left}
-use Rattle.zl_objects.proofs.Released.{Was, cascaded_was, releases_then}
+use Rattle.zl_objects.proofs.Released.{Was, cascaded_was, releases_then, was_queue, was_seen}
 use Rattle.zl_objects.proofs.Sums.{any_counted, any_summed, counted_any, positive_part}
 use Rattle.zl_calls.specs.declared.process.Process.{Process}
 use Rattle.zl_calls.specs.calls.Process.{Drained, none_left as none_drained, one_more}
@@ -82,7 +82,7 @@ module _ (ps : List Process) (m : Map Entry) (r : Objects) (sound : IsSound ps m
             record {
               object = o;
               there = is;
-              kind = named.kind ∙ (ap (λ (x : Object). kind_of (body_value x.body)) (same_Some named.object old.before (sym named.there ∙ old.there)) ∙ ap (λ (b : Body). kind_of (body_value b)) (sym old.body));
+              kind = named.kind ∙ (ap (λ (x : Object). kind_of (body_value x.body)) (same_Some named.object old.before (sym named.there ∙ old.there)) ∙ ap kind_of (sym (was_seen r.objects e.koid o old)));
               rights = named.rights;
             }
 
@@ -110,7 +110,7 @@ module _ (ps : List Process) (m : Map Entry) (r : Objects) (sound : IsSound ps m
         (before n x within i e inside)
       where
         before : AreNamed r.objects (queue_of o.body)
-        before = let old : Was r.objects k o = was k o at in rw old.body (sound.queued k old.before old.there)
+        before = let old : Was r.objects k o = was k o at in rw (was_queue r.objects k o old) (sound.queued k old.before old.there)
 
     pub settled : IsSettled ps r r2
     unfolding is_process

@@ -18,7 +18,7 @@ returns c = record {
   no_handle = c.end-table.ensures.no_handle;
   no_last = c.end-table.ensures.no_last;
   between = c.end.new.self;
-  over = subst (λ (p : Process). ObjectEnds p.pid c.args.objects.now c.end.new.self) c.end-table.ensures.ended c.end.ensures;
+  over = subst (λ (p : Process). ObjectEnds p.pid c.args.objects.now c.end.new.self) c.end-table.ensures.ended c.end.ensures.ends;
   closes =
       let left : Drained c.loop-entry.table.entries c.loop-entry.objects c.loop-entry.objects = all_closed c.loop-entry.table c.loop-entry.objects (c.in_default.ensures {u = tt}).empty in
       rw (← c.end-table.ensures.table) (c.loop-entry.invariant.closes c.loop-entry.objects left);

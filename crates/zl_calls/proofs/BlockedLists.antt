@@ -9,7 +9,8 @@ use Rattle.zl_code.specs.declared.history.Outcome.TheVariants as outcome
 use Rattle.zl_code.specs.declared.history.TraceItem.{TraceItem}
 use Rattle.zl_code.specs.declared.history.TraceItem.TheVariants as item
 use Rattle.zl_code.proofs.Changes.{times, times-same, times-other}
-use Rattle.zl_code.proofs.Waiters.{acts_among, blocked_by, next_looks, settles_beside, tells_blocking, waits_after, waits_by, with_waiters}
+use Rattle.zl_code.proofs.StepsBeside.{acts_among, blocked_by, next_looks, settles_beside, tells_blocking, waits_by}
+use Rattle.zl_code.proofs.Waiters.{waits_after, with_waiters}
 use Rattle.zl_calls.specs.declared.process.Process.{Process}
 use Rattle.zl_calls.specs.Waking.{unless_woke}
 use Rattle.zl_calls.proofs.Answered.{IsWrite}

@@ -6,6 +6,7 @@
 
 use crate::refusal::RefusalCause;
 use crate::seen::{Seen, seen_in};
+use crate::way::{Way, way_from};
 use bitflags::Flags;
 use std::alloc::{AllocError, Global};
 use zl_abs::{AbsState, AbsVal, Cause};
@@ -13,6 +14,9 @@ use zl_code::{Ending, HandleList, Image, Instr, InstrBytes, Register, Row};
 
 /// How many registers there are.
 const REGISTERS: u8 = 32;
+
+/// How many instructions are told of the beginning of a long way, and of its end.
+const SHOWN: usize = 6;
 
 /// Adds why the image is refused at the instruction of this number: what was wanted there, and, where
 /// that matters, what the registers of the instruction hold before it.
@@ -43,9 +47,32 @@ pub fn push_refusal(
                 hint,
                 "from here more instructions may follow one another without a wait or an exit \
                  than the budget, which is {budget}"
-            )
+            )?;
+            match way_from(alloc, image, at) {
+                Some(way) => push_way(hint, &way),
+                None => Ok(()),
+            }
         }
         RefusalCause::NoMemory => Err(AllocError),
+    }
+}
+
+/// Adds the numbers of the instructions on the way, of many only the first and the last.
+fn push_way(hint: &mut String, way: &Way) -> Result<(), AllocError> {
+    let count = way.places.len();
+    let mut separator = ": ";
+    for (n, place) in way.places.iter().enumerate() {
+        if n < SHOWN || n + SHOWN >= count {
+            write!(hint, "{separator}{place}")?;
+            separator = ", ";
+        } else if n == SHOWN {
+            hint.push_str(" ..")?;
+            separator = " ";
+        }
+    }
+    match way.again {
+        Some(place) => write!(hint, " and again {place}"),
+        None => write!(hint, ", which are {count}"),
     }
 }
 

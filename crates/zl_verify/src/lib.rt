@@ -16,6 +16,7 @@ mod search;
 mod seen;
 mod steps;
 mod targets;
+mod way;
 
 pub use checked::{Checked, check};
 pub use refusal::{Refusal, RefusalCause};

@@ -183,9 +183,9 @@ impl World {
 
     /// Does the system call at which the process is, with all that follows from it.
     ///
-    /// The process has to be ready and at a call. It takes no memory at `close`, `signal`,
-    /// `signal_peer`, `wait_poll`, `port_poll` and `process_exit`; a call that was refused memory is
-    /// answered `NoMemory`. Processes that wake take none.
+    /// The process has to be ready and at a call. It takes no memory at `close`, `replace`,
+    /// `signal`, `signal_peer`, `wait_poll`, `port_poll` and `process_exit`; a call that was refused
+    /// memory is answered `NoMemory`. Processes that wake take none.
     /// Source: for each call its page of the Fuchsia documentation, as "zx_handle_close"; the order
     /// in which answers are looked for is own profile.
     pub fn perform(&mut self, pid: Pid) -> Outcome

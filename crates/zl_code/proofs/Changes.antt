@@ -156,6 +156,14 @@ times-other p k apart (q ∷ ps) = elim (cases_Bool (q == p)) as (λ _. times k 
     by_test true e = ap (λ (n : ℕ). suc n) e
     by_test false e = e
 
+-- p behind the list
+pub times-behind : (p k : ℕ) → (p == k) ≡ false → (ps : List ℕ) → times k (ps ++ (p ∷ [])) ≡ times k ps
+times-behind p k other ps = ap length (filter-append (λ q. q == k) ps (p ∷ [])) ∙ rw other (ap length (append-nil (filter (λ q. q == k) ps)))
+
+pub times-last : (p : ℕ) (ps : List ℕ) → times p ps ≡ 0 → times p (ps ++ (p ∷ [])) ≡ 1
+times-last p ps none =
+    ap length (filter-append (λ q. q == p) ps (p ∷ [])) ∙ (length-append (filter (λ q. q == p) ps) (filter (λ q. q == p) (p ∷ [])) ∙ rw (none, eq-eqb p p refl) refl)
+
 -- the list without p, where p isn't blocked after
 without_one : (w w2 : World) (p : ℕ) → w2.blocked ≡ filter (λ q. not (q == p)) w.blocked → is_process w2 is_blocked p ≡ false
     → ((k : ℕ) → (p == k) ≡ false → get w2.processes k ≡ get w.processes k) → (k : ℕ) → KeepsBlocked w w2 k
@@ -257,22 +265,14 @@ process_blocks w p q ds awaited there ready = record {
   processes = changed_update _ _ w.processes p blocked (λ x at. changed x _ refl refl (blocks awaited ds refl (rw (ap (λ (y : Process). y.state) (same_Some x q (sym at ∙ there)), ready) refl)));
   objects = unchanged _ _ w.objects w.objects refl;
   blocked = λ s k. elim (cases_Bool (p == k)) as (λ _. KeepsBlocked w (waiting w p ds (Some awaited)) k) [
-    | inl is ↦ subst (KeepsBlocked w (waiting w p ds (Some awaited))) (eqb-true p k is) (asleep (once s) (ap (state_passes is_blocked) {y = Some (blocked q)} (get-update w.processes p blocked p ∙ rw (eq-eqb p p refl, there) refl)))
-    | inr other ↦ still (times-behind k other w.blocked) (ap (state_passes is_blocked) (get-update w.processes p blocked k ∙ rw other refl))
+    | inl is ↦ subst (KeepsBlocked w (waiting w p ds (Some awaited))) (eqb-true p k is) (asleep (times-last p w.blocked (s.blocked p ∙ rw (there, ready) refl)) (ap (state_passes is_blocked) {y = Some (blocked q)} (get-update w.processes p blocked p ∙ rw (eq-eqb p p refl, there) refl)))
+    | inr other ↦ still (times-behind p k other w.blocked) (ap (state_passes is_blocked) (get-update w.processes p blocked k ∙ rw other refl))
   ];
   waits = alike refl;
 }
   where
     blocked : Process → Process
     blocked x = record x { state = Blocked awaited ds }
-
-    times-behind : (k : ℕ) → (p == k) ≡ false → (ps : List ℕ) → times k (ps ++ (p ∷ [])) ≡ times k ps
-    times-behind k other ps = ap length (filter-append (λ q. q == k) ps (p ∷ [])) ∙ rw other (ap length (append-nil (filter (λ q. q == k) ps)))
-
-    once : IsSound w → times p (w.blocked ++ (p ∷ [])) ≡ 1
-    once s =
-        let none : times p w.blocked ≡ 0 = s.blocked p ∙ rw (there, ready) refl in
-        ap length (filter-append (λ q. q == p) w.blocked (p ∷ [])) ∙ (length-append (filter (λ q. q == p) w.blocked) (filter (λ q. q == p) (p ∷ [])) ∙ rw (none, eq-eqb p p refl) refl)
 
 pub process_is_made : (start w : World) (k : ℕ) (y : Process) → IsNewProcess start w (with_process w k y) k y → is_blocked y.state ≡ false → Change start w (with_process w k y)
 unfolding is_process

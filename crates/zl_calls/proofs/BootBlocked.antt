@@ -1,5 +1,5 @@
 -- In a world that boots no process is blocked.
-use Rattle.zl_calls.proofs.Common.{◌≡◌, ◌<◌, ◌^◌, ℕ, List, [], map, refl, sym, ap, ◌∙◌, if◌then◌else◌, Bool, true, false, Option, Some, IsTrue, arith, subst, is_process, state_passes, get, Library, Objects, process_entry, world_value, AreBlocked}
+use Rattle.zl_calls.proofs.Common.{◌≡◌, ℕ, List, [], if◌then◌else◌, Bool, true, false, Option, IsTrue, arith, subst, is_process, state_passes, Library, Objects, world_value, AreBlocked}
 use Rattle.zl_code.proofs.Common.{IsBoot, IsSound, Process as ProcessValue, is_blocked}
 use Rattle.zl_code.proofs.SoundRuns.{boot_sound}
 use Rattle.zl_code.specs.declared.boot.Statement.{Statement}

@@ -28,6 +28,7 @@ pub mod TakenCalls
 pub mod Rebodied
 pub mod Queued
 pub mod Polled
+pub mod Waited
 pub mod HandleCalls
 pub mod EventCalls
 pub mod ChannelCalls
@@ -37,8 +38,9 @@ pub mod WaitCalls
 pub mod ProcessCalls
 pub mod Repacked
 pub mod PortCalls
-pub mod Performed
 pub mod BlockedLists
+pub mod Sleeping
+pub mod Performed
 pub mod Performing
 pub mod Woken
 pub mod WakeLoop

@@ -4,7 +4,6 @@ use Rattle.zl_code.proofs.Common.{Process as ProcessValue, queue_of as queue_val
 use Rattle.zl_rights.specs.declared.entry.Entry.{Entry}
 use Rattle.zl_rights.specs.Settle.{names}
 use Rattle.zl_rights.specs.World.{Message}
-use Rattle.zl_objects.specs.declared.object.Body.{Body}
 use Rattle.zl_objects.specs.declared.object.Object.{Object}
 use Rattle.zl_objects.specs.Objects.{queue_of}
 use Rattle.zl_objects.specs.Seen.{with_objects}

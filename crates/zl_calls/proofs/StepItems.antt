@@ -1,6 +1,6 @@
 -- What the item of a step tells of the process: which call it did, that it ran, or that it was stuck.
-use Rattle.zl_calls.proofs.Common.{IsSome, ◌≡◌, ℕ, true, false, Bool, List, ap, refl, sym, ◌∙◌, subst, Option, Some, None, IsTrue, IfSome, false≢true, none-some, same_Some, get, is_ready, is_process, state_passes, call_name, Library, Row, row_of, row_named, call_parts, Image, Program, Site, site_of, name_of, Step, AtCall, IsStuck, Moves, calls_at, next_for, call_in, call_for, is_ready_in, StepsTo, TakesStep, Performs, takes_memory, map, wakes, Objects, IfNone, process_entry, world_blocked, DoesNext}
-use Rattle.zl_code.proofs.Common.{Acts, Next, Cpu, World as WorldValue, Process as ProcessValue, grows, next_at}
+use Rattle.zl_calls.proofs.Common.{◌≡◌, ℕ, false, List, ap, refl, sym, ◌∙◌, subst, Option, Some, None, IsTrue, IfSome, get, is_ready, is_process, state_passes, call_name, Library, Row, row_of, row_named, call_parts, Program, Site, site_of, name_of, Step, AtCall, IsStuck, Moves, calls_at, next_for, call_in, call_for, is_ready_in, StepsTo, TakesStep, Performs, takes_memory, map, wakes, Objects, IfNone, process_entry, world_blocked, DoesNext}
+use Rattle.zl_code.proofs.Common.{Acts, Next, Cpu, World as WorldValue, Process as ProcessValue, next_at}
 use Rattle.zl_rights.specs.declared.status.Status.TheVariants as status
 use Rattle.zl_code.specs.declared.history.CallName.{CallName}
 use Rattle.zl_code.specs.declared.history.Outcome.{Outcome}
@@ -153,10 +153,10 @@ module _ (lib : Library) (ps : List Process) (r : Objects) (blocked : List ℕ) 
   not_ready_in None unready = unready
   not_ready_in (Some x) unready = tt
 
-  pub takes_step : (ps2 ps3 : List Process) (r2 r3 : Objects) (blocked3 : List ℕ) (x : TraceItem) → DoesNext lib (world_blocked ps r blocked) pid x (world_blocked ps2 r2 blocked)
-      → world_blocked ps3 r3 blocked3 ≡ wakes (world_blocked ps2 r2 blocked) → TakesStep (lab_value lib ps r blocked) pid (lab_value lib ps3 r3 blocked3) x
+  pub takes_step : (ps2 ps3 : List Process) (r2 r3 : Objects) (blocked2 blocked3 : List ℕ) (x : TraceItem) → DoesNext lib (world_blocked ps r blocked) pid x (world_blocked ps2 r2 blocked2)
+      → world_blocked ps3 r3 blocked3 ≡ wakes (world_blocked ps2 r2 blocked2) → TakesStep (lab_value lib ps r blocked) pid (lab_value lib ps3 r3 blocked3) x
   unfolding is_process
-  takes_step ps2 ps3 r2 r3 blocked3 x does awake = record {
+  takes_step ps2 ps3 r2 r3 blocked2 blocked3 x does awake = record {
     pid_is = does.pid_is;
     ready = rw (does.acted.is_there, does.acted.is_ready) refl;
     steps = record {
@@ -167,7 +167,7 @@ module _ (lib : Library) (ps : List Process) (r : Objects) (blocked : List ℕ) 
         is_ready = does.acted.is_ready;
         acted = does.acted.acted;
         acts = does.acted.acts;
-        settled = world_blocked ps2 r2 blocked;
+        settled = world_blocked ps2 r2 blocked2;
         settles = does.acted.settles;
         ends_awake = awake;
       });

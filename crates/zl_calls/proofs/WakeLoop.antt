@@ -1,8 +1,7 @@
 -- Blocked processes wake one after another, in the order of the list.
-use Rattle.zl_calls.proofs.Common.{◌≡◌, ◌<◌, ◌≤◌, ◌+◌, ◌^◌, ℕ, zero, suc, Bool, true, false, not, ◌==◌, ◌++◌, List, [], ◌∷◌, length, take, map, get_or, refl, sym, ap, ◌∙◌, subst, if◌then◌else◌, inl, inr, Some, IsTrue, arith, cases_Bool, eqb-true, eq-eqb, state_passes, get, wakes, Objects, process_entry, world_blocked, IsConsistent, AreBlocked, World}
+use Rattle.zl_calls.proofs.Common.{◌≡◌, ◌<◌, ◌≤◌, ◌+◌, ◌^◌, ℕ, zero, suc, Bool, true, false, not, ◌==◌, ◌++◌, List, [], ◌∷◌, length, take, map, get_or, refl, sym, ap, ◌∙◌, subst, if◌then◌else◌, inl, inr, Some, IsTrue, arith, cases_Bool, eq-eqb, state_passes, get, wakes, Objects, process_entry, world_blocked, IsConsistent, AreBlocked, World}
 use Rattle.std.specs.List.{filter, fold}
 use Rattle.std.specs.Prelude.{drop}
-use Rattle.std.proofs.Common.{add-one}
 use Rattle.zl_code.proofs.Common.{Process as ProcessValue, is_blocked, woken}
 use Rattle.zl_code.proofs.Changes.{times}
 use Rattle.zl_calls.specs.declared.process.Process.{Process}

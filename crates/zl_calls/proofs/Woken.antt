@@ -1,5 +1,5 @@
 -- A blocked process wakes, or stays blocked: the world afterwards, its invariant, and the list.
-use Rattle.zl_calls.proofs.Common.{◌≡◌, ℕ, Bool, true, false, not, ◌==◌, List, [], ◌∷◌, length, map, get_or, set, refl, sym, ap, ◌∙◌, subst, if◌then◌else◌, Option, Some, None, is_some, inl, inr, ◌⊎◌, IsTrue, position, cases_Bool, eqb-true, false≢true, none-some, same_Some, option_map, below_all, is_sorted, nat_cmp, Map, get, put, update, get-put, get-update, is_sorted-update, sorted_put, runs, lives, is_process, state_passes, Objects, body_value, object_entry, object_value, process_entry, process_value, state_value, world_blocked, world_value, Agrees, IsConsistent, AreBlocked, IsTable, World, PortBody}
+use Rattle.zl_calls.proofs.Common.{◌≡◌, ℕ, Bool, true, false, not, ◌==◌, List, [], ◌∷◌, length, map, get_or, set, refl, sym, ap, ◌∙◌, if◌then◌else◌, Option, Some, None, is_some, inl, inr, ◌⊎◌, IsTrue, position, cases_Bool, eqb-true, false≢true, option_map, below_all, is_sorted, nat_cmp, Map, get, put, update, get-put, get-update, is_sorted-update, sorted_put, runs, lives, is_process, Objects, body_value, object_entry, object_value, process_entry, process_value, state_value, world_blocked, world_value, Agrees, IsConsistent, PortBody}
 use Rattle.std.specs.Bool.{passes, then_some}
 use Rattle.std.proofs.lemmas.List.{length-set}
 use Rattle.std.specs.List.{filter}
@@ -8,7 +8,7 @@ use Rattle.zl_rights.proofs.Canonical.{same_map}
 use Rattle.zl_code.proofs.Common.{Process as ProcessValue, Body as BodyValue, Object as ObjectValue, State as StateValue, Ready, answered, meets, active, has_child_job, has_child_process, is_blocked, woken, made_ready}
 use Rattle.zl_rights.specs.Signals.{has_ended}
 use Rattle.zl_rights.specs.World.{Packet}
-use Rattle.zl_rights.specs.Wakes.{packet_values, with_body, woken_by, woken_from, woken_at_port}
+use Rattle.zl_rights.specs.Wakes.{packet_values, woken_by, woken_from, woken_at_port}
 use Rattle.zl_code.specs.Waiting.{body_packed, packet_taken}
 use Rattle.zl_objects.specs.declared.object.Object.{Object as OwnObject}
 use Rattle.zl_objects.specs.declared.object.Body.{Body}
@@ -22,14 +22,14 @@ use Rattle.zl_calls.specs.declared.process.State.TheVariants as state
 use Rattle.zl_calls.specs.declared.process.Process.{Process}
 use Rattle.zl_calls.specs.declared.process.SignalRegisters.{SignalRegisters}
 use Rattle.zl_calls.specs.declared.packets.PacketRegisters.{PacketRegisters}
-use Rattle.zl_calls.specs.Waking.{WakesOne, awake, destinations_of, given_awake, unless_woke, without_taken}
+use Rattle.zl_calls.specs.Waking.{WakesOne, awake, destinations_of, given_awake, without_taken}
 use Rattle.zl_calls.proofs.Answered.{IsWrite}
-use Rattle.zl_calls.proofs.BlockedLists.{still_blocked, one_awake}
+use Rattle.zl_calls.proofs.BlockedLists.{one_awake}
 use Rattle.zl_calls.proofs.Active.{signals_active}
 use Rattle.zl_calls.proofs.Packed.{repacked_next}
 use Rattle.zl_calls.proofs.SameBodies.{alike_agrees}
 use Rattle.zl_calls.proofs.Updates.{update_itself, update_seen}
-use Rattle.zl_calls.proofs.Written.{IsNext, after_is, get_after, keeps_agreeing, pid_read, recounted_next, refusal_keeps, same_counts, write_at}
+use Rattle.zl_calls.proofs.Written.{IsNext, after_is, alike_states, keeps_agreeing, pid_read, recounted_next, refusal_keeps, same_counts, write_at}
 
 -- a value that is put in the place of another
 pub put_there : {X : Type 0} (m : Map X) (k : ℕ) (x : X) (f : X → X) → IsTrue (is_sorted nat_cmp m) → get m k ≡ Some x → update m k f ≡ put m k (f x)
@@ -127,16 +127,12 @@ module _ (ps : List Process) (r : Objects) (lab : IsConsistent ps r) (pid place 
       ready_entries : map process_entry after ≡ put (map process_entry ps) pid (process_value p2)
       ready_entries = rw (← key) (after_is ps after p p2 write ∙ put_there (map process_entry ps) p.pid (process_value p) (λ _. process_value p2) lab.processes_in_order write.there)
 
-      tests_alike : (test : StateValue → Bool) → test Ready ≡ test (state_value p.state) → (k : ℕ) → is_process (world_value after r2) test k ≡ is_process (world_value ps r) test k
-      unfolding is_process
-      tests_alike test alike k = elim (cases_Bool (p.pid == k)) as (λ _. state_passes test (get (map process_entry after) k) ≡ state_passes test (get (map process_entry ps) k)) [
-        | inl here ↦ rw (get_after ps after p p2 write k, here, ← eqb-true p.pid k here, write.there, is) alike
-        | inr apart ↦ rw (get_after ps after p p2 write k, apart) refl
-      ]
+      tests_alike : (test : StateValue → Bool) → test (state_value p.state) ≡ test Ready → (k : ℕ) → is_process (world_value after r2) test k ≡ is_process (world_value ps r) test k
+      tests_alike test alike k = alike_states ps after p p2 write test (ap (λ (q : Process). test (state_value q.state)) is ∙ sym alike) r r2 k
 
       agrees_on : (k : ℕ) (b : Body) → Agrees (world_value ps r) k b → Agrees (world_value after r2) k b
       agrees_on k b = alike_agrees (world_value ps r) (world_value after r2) k b
-          (tests_alike runs (sym ((lives_on p.state was).0)) k) (tests_alike lives (sym ((lives_on p.state was).1)) k) (tests_alike has_ended (sym ((lives_on p.state was).2)) k)
+          (tests_alike runs ((lives_on p.state was).0) k) (tests_alike lives ((lives_on p.state was).1) k) (tests_alike has_ended ((lives_on p.state was).2) k)
 
       gets_awake : WakesOne pid true ps r after r2
       unfolding made_ready

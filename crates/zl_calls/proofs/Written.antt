@@ -1,8 +1,9 @@
 -- A process of the list is written: the map by pids, and what the invariant says of processes.
-use Rattle.zl_calls.proofs.Common.{Option, None, ◌≡◌, ◌<◌, ◌≤◌, ◌+◌, ℕ, Bool, false, ◌==◌, List, map, length, get_or, set, refl, sym, ap, ◌∙◌, cond, Some, inl, inr, ◌⊎◌, ◌^◌, subst, IsTrue, arith, [], ◌∷◌, position, count_by, option_map, cases_Bool, eqb-true, none-some, same_Some, slice_get-get_or, Map, get, update, has_key, is_process, state_passes, handles_to, get-update, IsTable, Inserts, is_sorted-update, has_key-update, Objects, AreKeptBut, is_kept, process_entry, process_value, world_value, IsPlaceOf, IsConsistent, AreNamed, IsNamed, Agrees, is_in_job}
+use Rattle.zl_calls.proofs.Common.{Option, None, ◌≡◌, ◌<◌, ◌≤◌, ◌+◌, ℕ, Bool, false, ◌==◌, List, map, length, get_or, set, refl, sym, ap, ◌∙◌, cond, Some, inl, inr, ◌⊎◌, ◌^◌, subst, IsTrue, arith, [], ◌∷◌, position, count_by, option_map, cases_Bool, eqb-true, none-some, same_Some, slice_get-get_or, Map, get, update, has_key, is_process, state_passes, handles_to, get-update, IsTable, Inserts, is_sorted-update, has_key-update, Objects, AreKeptBut, is_kept, process_entry, process_value, state_value, world_value, IsPlaceOf, IsConsistent, AreNamed, IsNamed, Agrees, is_in_job}
 use Rattle.zl_code.proofs.Common.{Process as ProcessValue, State as StateValue}
 use Rattle.std.specs.Prelude.{MatchOption}
 use Rattle.zl_rights.specs.declared.entry.Entry.{Entry}
+use Rattle.zl_calls.specs.declared.process.State.{State}
 use Rattle.zl_objects.specs.declared.object.Body.{Body}
 use Rattle.zl_objects.specs.declared.object.Object.{Object}
 use Rattle.zl_objects.specs.Objects.{queue_of}
@@ -89,12 +90,16 @@ module _ (before after : List Process) (p p2 : Process) (write : IsWrite before 
     | inr apart ↦ old (rw (get_after k, apart) at at)
   ]
 
-  pub same_states : p2.state ≡ p.state → (r r2 : Objects) (k : ℕ) (test : StateValue → Bool) → is_process (world_value after r2) test k ≡ is_process (world_value before r) test k
+  -- a test of the process says what it said before
+  pub alike_states : (test : StateValue → Bool) → test (state_value p2.state) ≡ test (state_value p.state) → (r r2 : Objects) (k : ℕ) → is_process (world_value after r2) test k ≡ is_process (world_value before r) test k
   unfolding is_process
-  same_states same r r2 k test = elim (cases_Bool (p.pid == k)) as (λ _. state_passes test (get (map process_entry after) k) ≡ state_passes test (get (map process_entry before) k)) [
-    | inl here ↦ rw (get_after k, here, ← eqb-true p.pid k here, write.there, same) refl
+  alike_states test alike r r2 k = elim (cases_Bool (p.pid == k)) as (λ _. state_passes test (get (map process_entry after) k) ≡ state_passes test (get (map process_entry before) k)) [
+    | inl here ↦ rw (get_after k, here, ← eqb-true p.pid k here, write.there) alike
     | inr apart ↦ rw (get_after k, apart) refl
   ]
+
+  pub same_states : p2.state ≡ p.state → (r r2 : Objects) (k : ℕ) (test : StateValue → Bool) → is_process (world_value after r2) test k ≡ is_process (world_value before r) test k
+  same_states same r r2 k test = alike_states test (ap (λ (s : State). test (state_value s)) same) r r2 k
 
   -- the invariant, from what is new in the table and in the objects, where each object says of its process what holds
   pub keeps_agreeing : (r r2 : Objects) → IsConsistent before r → ((k : ℕ) (b : Body) → Agrees (world_value before r) k b → Agrees (world_value after r2) k b) → IsTable p2.table

@@ -5,6 +5,7 @@ pub mod calls
 pub mod Acted
 pub mod Consistent
 pub mod Blocked
+pub mod Blocking
 pub mod Waking
 pub mod Acting
 pub mod Making

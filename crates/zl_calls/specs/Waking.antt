@@ -1,5 +1,5 @@
 -- How blocked processes wake. No public clause cites this module.
-use Rattle.std.specs.Prelude.{ℕ, ◌≡◌, Bool, not, ◌==◌, List, [], ◌∷◌, length, map, Option, Some, None, is_some, if◌then◌else◌, slice_get}
+use Rattle.std.specs.Prelude.{ℕ, ◌≡◌, Bool, not, ◌==◌, List, [], ◌∷◌, length, Option, Some, None, if◌then◌else◌, slice_get}
 use Rattle.std.specs.Bool.{then_some}
 use Rattle.std.specs.List.{filter}
 use Rattle.std.specs.Option.{option_map}

@@ -6,6 +6,7 @@
 //! of the written relation. Methods follow the source that their type names, where they name none.
 #![tactic(auto)]
 
+mod blocking;
 mod booting;
 mod calls;
 mod cpu;

@@ -9,6 +9,7 @@ ghost use Rattle.zl_calls.specs.World.{call_for, state_in, is_ready_in};
 ghost use Rattle.zl_calls.specs.Makes.{IsReached};
 ghost use Rattle.zl_calls.specs.Steps.{Performs, StepsTo, TakesStep, local_item, takes_memory};
 
+use crate::blocking::add_blocked;
 use crate::booting::{Made, booted};
 use crate::cpu::Cpu;
 use crate::process::Process;
@@ -177,6 +178,7 @@ impl World {
             &mut self.objects,
             pid,
         )?;
+        add_blocked(&mut self.blocked, pid, &item);
         wake(&mut self.processes, &mut self.objects, &mut self.blocked);
         Some(item)
     }
@@ -184,8 +186,8 @@ impl World {
     /// Does the system call at which the process is, with all that follows from it.
     ///
     /// The process has to be ready and at a call. It takes no memory at `close`, `replace`,
-    /// `signal`, `signal_peer`, `wait_poll`, `port_poll` and `process_exit`; a call that was refused
-    /// memory is answered `NoMemory`. Processes that wake take none.
+    /// `signal`, `signal_peer`, `wait_one`, `wait_poll`, `port_wait`, `port_poll` and `process_exit`;
+    /// a call that was refused memory is answered `NoMemory`. Processes that block or wake take none.
     /// Source: for each call its page of the Fuchsia documentation, as "zx_handle_close"; the order
     /// in which answers are looked for is own profile.
     pub fn perform(&mut self, pid: Pid) -> Outcome

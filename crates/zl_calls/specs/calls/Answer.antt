@@ -1,16 +1,18 @@
 -- How a call is refused and answered, which is alike for all calls. No public clause cites this module.
-use Rattle.zl_code.specs.Common.{Cpu, Map, get, has_key, without, answered, Site, cpu_answered}
+use Rattle.zl_code.specs.Common.{Blocked, Cpu, Map, get, has_key, without, answered, Site, cpu_answered}
 use Rattle.zl_code.specs.Local.{overwritten}
 use Rattle.std.specs.Option.{option_to_list}
-use Rattle.std.specs.Prelude.{ℕ, ℤ, ◌≡◌, ◌+◌, Bool, true, false, nat_le, List, [], ◌∷◌, ◌++◌, if◌then◌else◌, length, Option, Some, None, Result, Ok, Err, ⊤, IfOk, IfErr, OnErr}
+use Rattle.std.specs.Prelude.{ℕ, ℤ, ◌≡◌, ◌+◌, ◌<◌, ◌^◌, Bool, true, false, nat_le, List, [], ◌∷◌, ◌++◌, if◌then◌else◌, length, Option, Some, None, Result, Ok, Err, ⊤, IfOk, IfErr, OnErr}
 use Rattle.zl_rights.specs.declared.status.Status.{Status}
 use Rattle.zl_rights.specs.declared.status.Status.TheVariants as status
 use Rattle.zl_rights.specs.declared.entry.Entry.{Entry}
 use Rattle.zl_rights.specs.Numbers.{status_magnitude}
+use Rattle.zl_rights.specs.World.{Awaited}
 use Rattle.zl_code.specs.declared.history.Outcome.{Outcome}
 use Rattle.zl_code.specs.declared.history.Outcome.TheVariants as outcome
 use Rattle.zl_table.specs.Table.{Handles}
 use Rattle.zl_calls.specs.declared.process.Process.{Process}
+use Rattle.zl_calls.specs.World.{state_value}
 use Rattle.zl_objects.specs.Objects.{Objects}
 use Rattle.zl_objects.specs.Release.{Releases, koids_of}
 
@@ -102,6 +104,16 @@ pub record IsAnswered {A : Type 0} (told : A → Told) (Acts : Handles → Objec
   pub ends : o ≡ outcome.Answered (told answer).status
   pub replied : IsTold s (told answer) p p2
 
+-- A call blocks: its caller waits for this, and nothing else changes. So the caller stays at the call.
+pub record Blocks (Awaits : Handles → Objects → Awaited → Type 0) (s : Site) (p : Process) (r : Objects) (o : Outcome) (p2 : Process) (r2 : Objects) : Type 0 where
+  pub awaited : Awaited
+  pub awaits : Awaits p.table r awaited
+  pub ends : o ≡ outcome.Blocked
+  pub process : p2 ≡ record p { state = p2.state }
+  pub state : state_value p2.state ≡ Blocked awaited s.destinations
+  pub counter : p.cpu.counter < 2 ^ 32
+  pub objects : r2 ≡ r
+
 -- the answer is a status alone
 abbrev pub no_value : ⊤ → List ℕ
 no_value done = []
@@ -124,6 +136,8 @@ answered_in p destinations values answer = record p { cpu = answered p.cpu desti
 pub data Action : Type 1 where
   -- it is answered, and the caller is told so much
   answers : (A : Type 0) (told : A → Told) (Acts : Handles → Objects → A → Handles → Objects → Type 0) → Action
+  -- the same, or else its caller blocks, and waits for what the call may wait for
+  waits : (A : Type 0) (told : A → Told) (Acts : Handles → Objects → A → Handles → Objects → Type 0) (Awaits : Handles → Objects → Awaited → Type 0) → Action
   -- its caller ends with the code, and gets no answer
   exits : (code : ℤ) → Action
   -- no instruction asks for it yet

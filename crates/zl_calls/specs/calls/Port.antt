@@ -1,6 +1,7 @@
--- What calls on ports do: port_create, port_queue and port_poll. No public clause cites this module.
+-- What calls on ports do: port_create, port_queue, port_poll and port_wait. No public clause cites this module.
 use Rattle.std.specs.Prelude.{ℕ, ◌≡◌, ◌<◌, ◌+◌, ◌^◌, Bool, true, false, ◌&&◌, not, nat_le, [], ◌∷◌, List, length, Option, Some, None, Result, Ok, Err, ⊤, slice_get}
 use Rattle.std.specs.Bool.{then_some}
+use Rattle.std.specs.Result.{result_err}
 use Rattle.zl_code.specs.Common.{Map, get, is_empty}
 use Rattle.zl_rights.specs.declared.kind.Kind.TheVariants as kind
 use Rattle.zl_rights.specs.declared.status.Status.{Status}
@@ -8,7 +9,7 @@ use Rattle.zl_rights.specs.declared.status.Status.TheVariants as status
 use Rattle.zl_rights.specs.declared.entry.Entry.{Entry}
 use Rattle.zl_rights.specs.LookUp.{looked_up}
 use Rattle.zl_rights.specs.Numbers.{READ, WRITE}
-use Rattle.zl_rights.specs.World.{Packet}
+use Rattle.zl_rights.specs.World.{Awaited, Packet, PacketAt}
 use Rattle.zl_rights.specs.Wakes.{packet_values}
 use Rattle.zl_port.specs.Packets.{user_packet, with_packet, without_front}
 use Rattle.zl_code.specs.Effects.{new_entry}
@@ -88,3 +89,16 @@ PortPollDoes value t r = Does (TakesPacket t r value) false (poll_refusal t.entr
 -- its answer gives the values of a packet
 abbrev pub gives_packet : (Handles → Objects → Result Packet Status → Handles → Objects → Type 0) → Action
 gives_packet = answers (Result Packet Status) (told_by packet_values)
+
+-- ---- port_wait
+
+-- port_wait at the port at the value, where it is answered: it takes the first packet, as port_poll does
+abbrev pub PortWaitDoes : (value : ℕ) → Handles → Objects → Result Packet Status → Handles → Objects → Type 0
+PortWaitDoes value t r = Does (TakesPacket t r value) false (result_err (port_at t.entries value READ)) t r
+
+-- where it blocks: the port that the handle names has no packet, and it waits there for one
+pub record WaitsForPacket (value : ℕ) (t : Handles) (r : Objects) (awaited : Awaited) : Type 0 where
+  pub port : Entry
+  pub is_port : port_at t.entries value READ ≡ Ok port
+  pub none : slice_get (packets_in (get r.objects port.koid)) 0 ≡ None
+  pub is_awaited : awaited ≡ PacketAt port.koid

@@ -19,4 +19,7 @@ pub mod CallSites
 pub mod LocalSteps
 pub mod LeadingOn
 pub mod Counting
+pub mod Tagging
+pub mod Consuming
+pub mod Examining
 mod RowsConforms

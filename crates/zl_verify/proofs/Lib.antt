@@ -22,4 +22,5 @@ pub mod Counting
 pub mod Tagging
 pub mod Consuming
 pub mod Examining
+pub mod Fitting
 mod RowsConforms

@@ -23,4 +23,6 @@ pub mod Tagging
 pub mod Consuming
 pub mod Examining
 pub mod Fitting
+pub mod Giving
+pub mod OwnTable
 mod RowsConforms

@@ -25,4 +25,6 @@ pub mod Examining
 pub mod Fitting
 pub mod Giving
 pub mod OwnTable
+pub mod Sites
+pub mod Aligned
 mod RowsConforms

@@ -5,6 +5,9 @@ use Rattle.zl_code.specs.Tests.{Operand}
 use Rattle.zl_abs.specs.declared.value.AbsVal.{AbsVal}
 use Rattle.zl_abs.specs.declared.cause.Cause.{Cause}
 use Rattle.zl_abs.specs.Rule.{and_then}
+use Rattle.zl_abs.specs.States.{State}
+use Rattle.zl_abs.specs.Changes.{left_by}
+use Rattle.std.specs.Prelude.{Option, Some, None, is_some}
 use Rattle.zl_abs.specs.CallRules.{examined, examined_all, are_distinct, is_result}
 use Rattle.zl_abs.proofs.StateSteps.{Stands, drop_here}
 
@@ -13,6 +16,14 @@ and_then_ok x a f e = rw (sym e) refl
 
 pub and_then_err : {A B : Type 0} (x : Result A Cause) (c : Cause) (f : A → Result B Cause) → Err c ≡ x → and_then x f ≡ Err c
 and_then_err x c f e = rw (sym e) refl
+
+pub stopped_by : (t : State) (o : Option Cause) (x : Result State Cause) (f : State → Result State Cause) → left_by t o ≡ x → is_some o ≡ true → and_then x f ≡ left_by t o
+stopped_by t None x f e h = let z : true ≡ false = sym h in absurd cc
+stopped_by t (Some c) x f e h = rw (sym e) refl
+
+pub goes_on : (t : State) (o : Option Cause) (x : Result State Cause) (f : State → Result State Cause) → left_by t o ≡ x → is_some o ≡ false → and_then x f ≡ f t
+goes_on t None x f e h = rw (sym e) refl
+goes_on t (Some c) x f e h = let z : true ≡ false = h in absurd cc
 
 -- ---- operands
 

@@ -8,7 +8,7 @@ use Rattle.zl_rights.specs.Numbers.{bits, rights_of, within, same_kind, KNOWN_RI
 use Rattle.zl_abs.specs.declared.value.AbsVal.{AbsVal}
 use Rattle.zl_abs.specs.declared.value.AbsVal.TheVariants.{Word, Has, KindOf, RightsOf}
 use Rattle.zl_abs.specs.declared.cause.Cause.{Cause}
-use Rattle.zl_abs.specs.declared.ways.Ways.{Ways}
+use Rattle.zl_abs.specs.Ways.{Ways}
 use Rattle.zl_abs.specs.Values.{ANY, capped, smaller, bound_of, kind_below}
 use Rattle.zl_abs.specs.States.{State, value_at, refined, is_named_well}
 use Rattle.zl_abs.specs.Fine.{Fits, IsFine}

@@ -15,7 +15,7 @@ use Rattle.zl_abs.specs.declared.value.AbsVal.{AbsVal}
 use Rattle.zl_abs.specs.declared.value.AbsVal.TheVariants.{Word, Has, KindOf, RightsOf}
 use Rattle.zl_abs.specs.declared.cause.Cause.{Cause}
 use Rattle.zl_abs.specs.declared.cause.Cause.TheVariants as cause
-use Rattle.zl_abs.specs.declared.ways.Ways.{Ways}
+use Rattle.zl_abs.specs.Ways.{Ways}
 use Rattle.zl_abs.specs.Values.{ANY, below, capped, smaller, kind_below, is_has}
 use Rattle.zl_abs.specs.States.{State, value_at}
 use Rattle.zl_abs.specs.Rule.{and_then, word_at, passes}

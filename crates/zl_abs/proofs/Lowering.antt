@@ -5,7 +5,7 @@ use Rattle.std.proofs.lemmas.Bool.Decides.{nat_tests, Decides-eqb}
 use Rattle.zl_abs.specs.declared.value.AbsVal.{AbsVal}
 use Rattle.zl_abs.specs.declared.value.AbsVal.TheVariants.{Word, Has, KindOf, RightsOf}
 use Rattle.zl_abs.specs.declared.cause.Cause.{Cause}
-use Rattle.zl_abs.specs.declared.ways.Ways.{Ways}
+use Rattle.zl_abs.specs.Ways.{Ways}
 use Rattle.zl_abs.specs.Values.{ANY, below, is_has, bound_of, untagged, retagged}
 use Rattle.zl_abs.specs.States.{State, all_below, value_at, with_value}
 use Rattle.zl_abs.specs.Bounds.{least_from, rounded}

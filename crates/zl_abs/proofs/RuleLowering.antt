@@ -6,7 +6,7 @@ use Rattle.zl_code.specs.declared.instr.Instr.TheVariants as instr
 use Rattle.zl_code.specs.Image.{Image, instr_at}
 use Rattle.zl_abs.specs.declared.cause.Cause.{Cause}
 use Rattle.zl_abs.specs.declared.cause.Cause.TheVariants as cause
-use Rattle.zl_abs.specs.declared.ways.Ways.{Ways}
+use Rattle.zl_abs.specs.Ways.{Ways}
 use Rattle.zl_abs.specs.States.{State, all_below}
 use Rattle.zl_abs.specs.Rule.{Edge, edge_to, edges}
 use Rattle.zl_abs.specs.LocalRules.{local_rule}

@@ -7,7 +7,7 @@ use Rattle.zl_rights.specs.declared.rights.Rights.{Rights}
 use Rattle.zl_rights.specs.Numbers.{bits, rights_of, within, same_kind, KNOWN_RIGHTS}
 use Rattle.zl_abs.specs.declared.value.AbsVal.{AbsVal}
 use Rattle.zl_abs.specs.declared.value.AbsVal.TheVariants.{Word, Has, KindOf, RightsOf}
-use Rattle.zl_abs.specs.declared.ways.Ways.{Ways}
+use Rattle.zl_abs.specs.Ways.{Ways}
 use Rattle.zl_abs.specs.Values.{ANY, below, capped, smaller, kind_below}
 use Rattle.zl_abs.specs.States.{State, value_at, refined}
 use Rattle.zl_abs.specs.Rule.{word_at}

@@ -2,6 +2,7 @@ pub mod Values
 pub mod States
 pub mod Bounds
 pub mod Found
+pub mod Ways
 pub mod Rule
 pub mod Fine
 pub mod LocalRules
@@ -9,5 +10,6 @@ pub mod CallRules
 pub mod Operands
 pub mod Typing
 pub mod Successors
+pub mod Changes
 pub mod Laws
 pub mod Outcome

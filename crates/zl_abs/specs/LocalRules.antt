@@ -13,7 +13,7 @@ use Rattle.zl_abs.specs.declared.value.AbsVal.{AbsVal}
 use Rattle.zl_abs.specs.declared.value.AbsVal.TheVariants.{Word, Has, KindOf, RightsOf}
 use Rattle.zl_abs.specs.declared.cause.Cause.{Cause}
 use Rattle.zl_abs.specs.declared.cause.Cause.TheVariants as cause
-use Rattle.zl_abs.specs.declared.ways.Ways.{Ways}
+use Rattle.zl_abs.specs.Ways.{Ways}
 use Rattle.zl_abs.specs.Values.{ANY, capped, smaller, kind_below, is_has, retagged}
 use Rattle.zl_abs.specs.States.{State, value_at, with_value, refined}
 use Rattle.zl_abs.specs.Bounds.{rounded}

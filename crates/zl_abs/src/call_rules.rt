@@ -9,33 +9,36 @@ ghost use Rattle.zl_code.specs.Asked.{used};
 ghost use Rattle.zl_abs.specs.declared.cause.Cause.TheVariants as causes;
 ghost use Rattle.zl_abs.specs.Found.{bounds_in};
 ghost use Rattle.zl_abs.specs.CallRules.{are_words, call_rule, examined_all, is_full, operands_listed, stops};
+ghost use Rattle.zl_abs.specs.Changes.{left_by, ways_told};
 
 use crate::call_results::{STATUS, narrowed, new, packet, received};
-use crate::call_tests::{are_words, call, finish};
+use crate::call_tests::{are_words, call, ended, finish};
 use crate::cause::Cause;
 use crate::operand::{Kinds, Operand};
 use crate::round_up::Rounding;
 use crate::state::AbsState;
 use crate::value::AbsVal;
-use crate::ways::Ways;
+use crate::ways::Changes;
 use bitflags::Flags;
 use zl_code::{CallInstr, HandleList, Image, Register};
 use zl_rights::{Condition, Kind, Rights};
 
-/// The state after the handles of the list were examined and taken.
-fn examine_list(state: &AbsState, handles: HandleList) -> Result<AbsState, Cause>
+/// Examines the handles of the list, and takes them. Why one can't be taken, if one can't.
+fn examine_list(after: &mut AbsState, handles: HandleList) -> Option<Cause>
     requires { is_full handles.places }
-    ensures { result ≡ examined_all state.now
+    ensures { left_by after.new result ≡ examined_all after.old
         (operands_listed (Some (consumes [] TRANSFER)) (used handles.places)) }
 {
-    let mut after = *state;
     for place in 0..HandleList::MOST {
         let Some(register) = handles.get(place) else {
             continue;
         };
-        after = Operand::taken(register, Kinds::Any, Rights::TRANSFER).examine(&after)?;
+        let fault = Operand::taken(register, Kinds::Any, Rights::TRANSFER).examine(after);
+        if fault.is_some() {
+            return fault;
+        }
     }
-    Ok(after)
+    None
 }
 
 /// The rule of `chan_write`.
@@ -43,38 +46,45 @@ fn examine_list(state: &AbsState, handles: HandleList) -> Result<AbsState, Cause
 fn chan_write(
     image: &Image,
     state: &AbsState,
+    after: &mut AbsState,
     status: Register,
     channel: Register,
     address: Register,
     length: Register,
     handles: HandleList,
-) -> Result<Ways, Cause>
-    requires { is_full handles.places }
-    ensures { result ≡ call_rule [] image.now
+) -> Result<Changes, Cause>
+    requires full { is_full handles.places }
+    requires same { after.old ≡ state.now }
+    ensures { ways_told after.new result ≡ call_rule [] image.now
         (call_instr.ChanWrite status channel address length handles) state.now }
 {
     let channel = Operand::used(channel, Kinds::Only(Kind::Channel), Rights::WRITE);
-    let after = channel.examine(state)?;
-    let after = examine_list(&after, handles)?;
+    if let Some(cause) = channel.examine(after) {
+        return Err(cause);
+    }
+    if let Some(cause) = examine_list(after, handles) {
+        return Err(cause);
+    }
     let words = [address, length];
-    let after = finish(
+    let fault = finish(
         image,
         state,
-        &after,
+        after,
         &words,
         Some((address, length)),
         None,
         &[(status, STATUS)],
-    )?;
-    Ok(Ways::passing(after))
+    );
+    ended(after, fault)
 }
 
 /// The rule of `process_exit`.
-fn exit(state: &AbsState, code: Register) -> Result<Ways, Cause>
-    ensures { result ≡ (if are_words state.now (code ∷ []) then Ok stops else Err causes.NotWord) }
+fn exit(state: &AbsState, code: Register) -> Result<Changes, Cause>
+    ensures { ways_told state.now result
+        ≡ (if are_words state.now (code ∷ []) then Ok stops else Err causes.NotWord) }
 {
     if are_words(state, &[code]) {
-        Ok(Ways::stopping())
+        Ok(Changes::stopping(state))
     } else {
         Err(Cause::NotWord)
     }
@@ -87,14 +97,18 @@ pub(crate) fn call_rule(
     image: &Image,
     instr: CallInstr,
     state: &AbsState,
-) -> Result<Ways, Cause>
+    after: &mut AbsState,
+) -> Result<Changes, Cause>
     requires in_range { IsTrue (is_call_in_range instr) }
-    ensures { result ≡ call_rule (bounds_in bounds.entry) image.now instr state.now }
+    requires same { after.old ≡ state.now }
+    ensures { ways_told after.new result
+        ≡ call_rule (bounds_in bounds.entry) image.now instr state.now }
 {
     match instr {
         CallInstr::Close { status, handle } => call(
             image,
             state,
+            after,
             &[Operand::closed(handle)],
             &[],
             None,
@@ -109,6 +123,7 @@ pub(crate) fn call_rule(
         } => call(
             image,
             state,
+            after,
             &[Operand::used(handle, Kinds::Any, Rights::DUPLICATE)],
             &[],
             None,
@@ -126,6 +141,7 @@ pub(crate) fn call_rule(
         } => call(
             image,
             state,
+            after,
             &[Operand::taken(handle, Kinds::Any, Rights::empty())],
             &[],
             None,
@@ -142,6 +158,7 @@ pub(crate) fn call_rule(
         } => call(
             image,
             state,
+            after,
             &[],
             &[],
             None,
@@ -158,7 +175,9 @@ pub(crate) fn call_rule(
             address,
             length,
             handles,
-        } => chan_write(image, state, status, channel, address, length, handles),
+        } => chan_write(
+            image, state, after, status, channel, address, length, handles,
+        ),
         CallInstr::ChanReadEtc {
             status,
             channel,
@@ -174,6 +193,7 @@ pub(crate) fn call_rule(
             call(
                 image,
                 state,
+                after,
                 &[Operand::used(channel, Kinds::Only(Kind::Channel), Rights::READ)],
                 &[address, room],
                 Some((address, room)),
@@ -184,6 +204,7 @@ pub(crate) fn call_rule(
         CallInstr::EventCreate { status, event } => call(
             image,
             state,
+            after,
             &[],
             &[],
             None,
@@ -198,6 +219,7 @@ pub(crate) fn call_rule(
         } => call(
             image,
             state,
+            after,
             &[Operand::used(handle, Kinds::Any, Rights::SIGNAL)],
             &[clear, set],
             None,
@@ -212,6 +234,7 @@ pub(crate) fn call_rule(
         } => call(
             image,
             state,
+            after,
             &[Operand::used(handle, Kinds::Only(Kind::Channel), Rights::SIGNAL_PEER)],
             &[clear, set],
             None,
@@ -226,6 +249,7 @@ pub(crate) fn call_rule(
         } => call(
             image,
             state,
+            after,
             &[Operand::used(handle, Kinds::Any, Rights::WAIT)],
             &[mask],
             None,
@@ -240,6 +264,7 @@ pub(crate) fn call_rule(
         } => call(
             image,
             state,
+            after,
             &[Operand::used(handle, Kinds::Any, Rights::WAIT)],
             &[mask],
             None,
@@ -255,6 +280,7 @@ pub(crate) fn call_rule(
         } => call(
             image,
             state,
+            after,
             &[
                 Operand::used(handle, Kinds::Any, Rights::WAIT),
                 Operand::used(port, Kinds::Only(Kind::Port), Rights::WRITE),
@@ -267,6 +293,7 @@ pub(crate) fn call_rule(
         CallInstr::PortCreate { status, port } => call(
             image,
             state,
+            after,
             &[],
             &[],
             None,
@@ -281,6 +308,7 @@ pub(crate) fn call_rule(
         } => call(
             image,
             state,
+            after,
             &[Operand::used(port, Kinds::Only(Kind::Port), Rights::WRITE)],
             &[key, value],
             None,
@@ -297,6 +325,7 @@ pub(crate) fn call_rule(
         } => call(
             image,
             state,
+            after,
             &[Operand::used(port, Kinds::Only(Kind::Port), Rights::READ)],
             &[],
             None,
@@ -313,6 +342,7 @@ pub(crate) fn call_rule(
         } => call(
             image,
             state,
+            after,
             &[Operand::used(port, Kinds::Only(Kind::Port), Rights::READ)],
             &[],
             None,
@@ -327,6 +357,7 @@ pub(crate) fn call_rule(
         } => call(
             image,
             state,
+            after,
             &[
                 Operand::used(port, Kinds::Only(Kind::Port), Rights::WRITE),
                 Operand::used(source, Kinds::Any, Rights::empty()),
@@ -344,6 +375,7 @@ pub(crate) fn call_rule(
         } => call(
             image,
             state,
+            after,
             &[Operand::used(job, Kinds::Only(Kind::Job), Rights::MANAGE_PROCESS)],
             &[program],
             None,
@@ -358,6 +390,7 @@ pub(crate) fn call_rule(
         } => call(
             image,
             state,
+            after,
             &[
                 Operand::used(process, Kinds::Only(Kind::Process), Rights::WRITE),
                 Operand::taken(handle, Kinds::Any, Rights::TRANSFER),
@@ -367,10 +400,11 @@ pub(crate) fn call_rule(
             None,
             &[(status, STATUS)],
         ),
-        CallInstr::ProcessExit { code } => exit(state, code),
+        CallInstr::ProcessExit { code } => exit(after, code),
         CallInstr::TaskKill { status, task } => call(
             image,
             state,
+            after,
             &[Operand::used(task, Kinds::Tasks, Rights::DESTROY)],
             &[],
             None,
@@ -380,6 +414,7 @@ pub(crate) fn call_rule(
         CallInstr::JobCreate { status, job, child } => call(
             image,
             state,
+            after,
             &[Operand::used(job, Kinds::Only(Kind::Job), Rights::MANAGE_JOB)],
             &[],
             None,
@@ -395,6 +430,7 @@ pub(crate) fn call_rule(
         } => call(
             image,
             state,
+            after,
             &[Operand::used(job, Kinds::Only(Kind::Job), Rights::SET_POLICY)],
             &[mode, condition, action],
             None,

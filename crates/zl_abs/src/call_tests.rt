@@ -2,24 +2,28 @@
 
 ghost use Rattle.std.specs.Prelude.{◌≡◌, []};
 ghost use Rattle.zl_abs.specs.CallRules.{answers, are_distinct, are_words, examined_all, finished, has_one, is_declared, is_result, passing, range_fits, state_after, uses};
+ghost use Rattle.zl_abs.specs.Changes.{left_by, ways_told};
 
 use crate::cause::Cause;
+use crate::change::Change;
 use crate::operand::Operand;
 use crate::state::AbsState;
 use crate::value::{AbsVal, is_register};
-use crate::ways::Ways;
+use crate::ways::Changes;
 use zl_code::{Image, Register};
 use zl_rights::Condition;
 
-/// The state after the operands were examined, from left to right.
-fn examine_all(state: &AbsState, operands: &[Operand]) -> Result<AbsState, Cause>
-    ensures { result ≡ examined_all state.now operands.now }
+/// Examines the operands, from left to right. Why one can't be, if one can't.
+fn examine_all(after: &mut AbsState, operands: &[Operand]) -> Option<Cause>
+    ensures { left_by after.new result ≡ examined_all after.old operands.now }
 {
-    let mut after = *state;
     for operand in operands {
-        after = operand.examine(&after)?;
+        let fault = operand.examine(after);
+        if fault.is_some() {
+            return fault;
+        }
     }
-    Ok(after)
+    None
 }
 
 /// Whether the registers hold words.
@@ -85,58 +89,75 @@ fn has_one(state: &AbsState, results: &[(Register, AbsVal)]) -> bool
         .any(|(register, _)| state.get(*register).is_has())
 }
 
-/// The state after the destinations were written.
-fn answer(state: &AbsState, results: &[(Register, AbsVal)]) -> Result<AbsState, Cause>
-    ensures { result ≡ answers state.now results.now }
+/// Writes the destinations. Why they can't be written, if they can't.
+fn answer(after: &mut AbsState, results: &[(Register, AbsVal)]) -> Option<Cause>
+    ensures { left_by after.new result ≡ answers after.old results.now }
 {
     if !are_distinct(results) {
-        Err(Cause::IllegalOp)
-    } else if has_one(state, results) {
-        Err(Cause::Leak)
+        Some(Cause::IllegalOp)
+    } else if has_one(after, results) {
+        Some(Cause::Leak)
     } else {
-        Ok(state.with_all(results))
+        after.write_all(results);
+        None
     }
 }
 
-/// The state after a call whose operands passed, and left `after` of the state.
+/// Ends a call whose operands passed, and left `after` of the state. Why it can't be answered, if
+/// it can't.
 pub(crate) fn finish(
     image: &Image,
     state: &AbsState,
-    after: &AbsState,
+    after: &mut AbsState,
     words: &[Register],
     range: Option<(Register, Register)>,
     condition: Option<Condition>,
     results: &[(Register, AbsVal)],
-) -> Result<AbsState, Cause>
-    ensures { result ≡ finished image.now state.now after.now
+) -> Option<Cause>
+    ensures { left_by after.new result ≡ finished image.now state.now after.old
         (uses [] words.now range condition results.now) }
 {
     if !are_words(state, words) {
-        Err(Cause::NotWord)
+        Some(Cause::NotWord)
     } else if !is_range_there(image, state, range) {
-        Err(Cause::MemoryRange)
+        Some(Cause::MemoryRange)
     } else if !is_declared(image, condition) {
-        Err(Cause::UndeclaredNeed)
+        Some(Cause::UndeclaredNeed)
     } else {
         answer(after, results)
     }
 }
 
-/// The rule of a call by what it uses: its operands, its words, of these the range of the memory, the
-/// condition of what it makes, and its destinations with what they get.
+/// What is different behind a call that left this state, if nothing is at fault.
+pub(crate) fn ended(after: &AbsState, fault: Option<Cause>) -> Result<Changes, Cause>
+    ensures { ways_told after.now result ≡ passing (left_by after.now fault) }
+{
+    match fault {
+        Some(cause) => Err(cause),
+        None => Ok(Changes::passing(after, Change::Same)),
+    }
+}
+
+/// The rule of a call by what it uses: its operands, its words, of these the range of the memory,
+/// the condition of what it makes, and its destinations with what they get. `after` becomes the
+/// state behind the call.
 pub(crate) fn call(
     image: &Image,
     state: &AbsState,
+    after: &mut AbsState,
     operands: &[Operand],
     words: &[Register],
     range: Option<(Register, Register)>,
     condition: Option<Condition>,
     results: &[(Register, AbsVal)],
-) -> Result<Ways, Cause>
-    ensures { result ≡ passing (state_after image.now state.now
+) -> Result<Changes, Cause>
+    requires same { after.old ≡ state.now }
+    ensures { ways_told after.new result ≡ passing (state_after image.now state.now
         (uses operands.now words.now range condition results.now)) }
 {
-    let after = examine_all(state, operands)?;
-    let after = finish(image, state, &after, words, range, condition, results)?;
-    Ok(Ways::passing(after))
+    if let Some(cause) = examine_all(after, operands) {
+        return Err(cause);
+    }
+    let fault = finish(image, state, after, words, range, condition, results);
+    ended(after, fault)
 }

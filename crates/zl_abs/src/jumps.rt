@@ -1,36 +1,40 @@
 //! The rules of the jumps, and what a test teaches.
 
-ghost use Rattle.std.specs.Prelude.{◌≡◌};
+ghost use Rattle.std.specs.Prelude.{◌≡◌, Some, true};
 ghost use Rattle.zl_rights.specs.Numbers.{within, KNOWN_RIGHTS};
 ghost use Rattle.zl_abs.specs.LocalRules.{becomes, below_ways, equal_ways, has_ways, kind_numbered, kind_ways, known_kind, known_other, known_rights, known_there, known_zero, unless, zero_ways};
+ghost use Rattle.zl_abs.specs.Changes.{changed, changed_if, is_learned, ways_by, ways_told};
 
 use crate::cause::Cause;
+use crate::change::Change;
 use crate::state::AbsState;
 use crate::value::{AbsVal, is_kind, is_kind_below};
-use crate::ways::Ways;
+use crate::ways::Changes;
 use bitflags::Flags;
 use zl_code::Register;
 use zl_rights::{Kind, Rights};
 
-/// The state where the register, which has this value, turns out to be 0; nothing where it can't.
-fn known_zero(state: &AbsState, register: Register, value: &AbsVal) -> Option<AbsState>
-    ensures { result ≡ known_zero state.now register value.now }
+/// What is different where the register, which has this value, turns out to be 0; nothing where it
+/// can't.
+fn known_zero(state: &AbsState, register: Register, value: &AbsVal) -> Option<Change>
+    ensures known { changed_if state.now result ≡ known_zero state.now register value.now }
+    ensures learned { is_learned result ≡ true }
 {
     match value {
         AbsVal::Has { maybe, .. } => {
             if *maybe {
-                Some(state.refined(register, AbsVal::Word(0)))
+                Some(Change::Refined(register, AbsVal::Word(0)))
             } else {
                 None
             }
         }
-        _ => Some(*state),
+        _ => Some(Change::Same),
     }
 }
 
-/// The state where it turns out to have a handle.
-fn known_there(state: &AbsState, register: Register, value: &AbsVal) -> Option<AbsState>
-    ensures { result ≡ known_there state.now register value.now }
+/// What is different where it turns out to have a handle.
+fn known_there(state: &AbsState, register: Register, value: &AbsVal) -> Option<Change>
+    ensures { changed_if state.now result ≡ known_there state.now register value.now }
 {
     match value {
         AbsVal::Has { kind, rights, .. } => {
@@ -39,21 +43,22 @@ fn known_there(state: &AbsState, register: Register, value: &AbsVal) -> Option<A
                 kind: *kind,
                 rights: *rights,
             };
-            Some(state.refined(register, there))
+            Some(Change::Refined(register, there))
         }
-        AbsVal::Word(most) => { if *most == 0 { None } else { Some(*state) } }
-        _ => Some(*state),
+        AbsVal::Word(most) => { if *most == 0 { None } else { Some(Change::Same) } }
+        _ => Some(Change::Same),
     }
 }
 
-/// The state where its handle turns out to be of the kind.
+/// What is different where its handle turns out to be of the kind.
 fn known_kind(
     state: &AbsState,
     register: Register,
     kind: Option<Kind>,
     value: &AbsVal,
-) -> Option<AbsState>
-    ensures { result ≡ known_kind state.now register kind value.now }
+) -> Option<Change>
+    ensures known { changed_if state.now result ≡ known_kind state.now register kind value.now }
+    ensures learned { is_learned result ≡ true }
 {
     let Some(kind) = kind else {
         return None;
@@ -70,7 +75,7 @@ fn known_kind(
                     kind: Some(kind),
                     rights: *rights,
                 };
-                Some(state.refined(register, of_kind))
+                Some(Change::Refined(register, of_kind))
             } else {
                 None
             }
@@ -79,12 +84,12 @@ fn known_kind(
     }
 }
 
-/// The state where it turns out to have no handle of the kind.
-fn known_other(state: &AbsState, kind: Option<Kind>, value: &AbsVal) -> Option<AbsState>
-    ensures { result ≡ known_other state.now kind value.now }
+/// What is different where it turns out to have no handle of the kind.
+fn known_other(state: &AbsState, kind: Option<Kind>, value: &AbsVal) -> Option<Change>
+    ensures { changed_if state.now result ≡ known_other state.now kind value.now }
 {
     let Some(kind) = kind else {
-        return Some(*state);
+        return Some(Change::Same);
     };
     match value {
         AbsVal::Has {
@@ -95,10 +100,10 @@ fn known_other(state: &AbsState, kind: Option<Kind>, value: &AbsVal) -> Option<A
             if !*maybe && is_kind(kind, *known) {
                 None
             } else {
-                Some(*state)
+                Some(Change::Same)
             }
         }
-        _ => Some(*state),
+        _ => Some(Change::Same),
     }
 }
 
@@ -109,9 +114,9 @@ fn are_known_rights(bits: u32) -> bool
     Rights::from_bits_retain(bits).within(Rights::all())
 }
 
-/// The state where its handle turns out to have the rights.
-fn known_rights(state: &AbsState, register: Register, bits: u32, value: AbsVal) -> Option<AbsState>
-    ensures { result ≡ known_rights state.now register bits value }
+/// What is different where its handle turns out to have the rights.
+fn known_rights(state: &AbsState, register: Register, bits: u32, value: AbsVal) -> Option<Change>
+    ensures { changed_if state.now result ≡ known_rights state.now register bits value }
 {
     match value {
         AbsVal::Has { kind, rights, .. } => {
@@ -121,7 +126,7 @@ fn known_rights(state: &AbsState, register: Register, bits: u32, value: AbsVal) 
                     kind,
                     rights: rights.union(Rights::from_bits_retain(bits)),
                 };
-                Some(state.refined(register, with_rights))
+                Some(Change::Refined(register, with_rights))
             } else {
                 None
             }
@@ -130,12 +135,31 @@ fn known_rights(state: &AbsState, register: Register, bits: u32, value: AbsVal) 
     }
 }
 
-/// The state of an edge, if it is followed, where the register is this number.
-fn becoming(register: Register, number: u32, state: Option<AbsState>) -> Option<AbsState>
-    ensures { result ≡ becomes register number state }
+/// What is different where the register is this number besides.
+fn with_number(state: &AbsState, register: Register, number: u32, change: &Change) -> Change
+    requires { is_learned (Some change.now) ≡ true }
+    ensures { Some (changed state.now result)
+        ≡ becomes register number (Some (changed state.now change.now)) }
 {
-    match state {
-        Some(state) => Some(state.refined(register, AbsVal::Word(u64::from(number)))),
+    let word = AbsVal::Word(u64::from(number));
+    match change {
+        Change::Refined(first, known) => Change::RefinedBoth(*first, *known, register, word),
+        _ => Change::Refined(register, word),
+    }
+}
+
+/// The same on an edge, if it is followed.
+fn becoming(
+    state: &AbsState,
+    register: Register,
+    number: u32,
+    change: Option<Change>,
+) -> Option<Change>
+    requires { is_learned change ≡ true }
+    ensures { changed_if state.now result ≡ becomes register number (changed_if state.now change) }
+{
+    match change {
+        Some(change) => Some(with_number(state, register, number, &change)),
         None => None,
     }
 }
@@ -146,8 +170,8 @@ pub(crate) fn jump_equal(
     register: Register,
     number: u32,
     value: AbsVal,
-) -> Result<Ways, Cause>
-    ensures { result ≡ equal_ways state.now register number value }
+) -> Result<Changes, Cause>
+    ensures { ways_told state.now result ≡ equal_ways state.now register number value }
 {
     match value {
         AbsVal::Has { .. } => Err(Cause::NotWord),
@@ -155,18 +179,18 @@ pub(crate) fn jump_equal(
             let jumped = if most < u64::from(number) {
                 None
             } else {
-                becoming(register, number, Some(*state))
+                becoming(state, register, number, Some(Change::Same))
             };
             let passed = if most == 0 && number == 0 {
                 None
             } else {
-                Some(*state)
+                Some(Change::Same)
             };
-            Ok(Ways { jumped, passed })
+            Ok(Changes { jumped, passed })
         }
-        AbsVal::RightsOf(_) => Ok(Ways {
-            jumped: becoming(register, number, Some(*state)),
-            passed: Some(*state),
+        AbsVal::RightsOf(_) => Ok(Changes {
+            jumped: becoming(state, register, number, Some(Change::Same)),
+            passed: Some(Change::Same),
         }),
         AbsVal::KindOf(tagged) => Ok(kind_ways(state, register, number, tagged)),
     }
@@ -181,30 +205,39 @@ fn kind_numbered(number: u32) -> Option<Kind>
 
 /// Jumps where the register, which has the number of the kind of the handle in `tagged`, is this
 /// number.
-fn kind_ways(state: &AbsState, register: Register, number: u32, tagged: Register) -> Ways
-    ensures { result ≡ kind_ways state.now register number tagged }
+fn kind_ways(state: &AbsState, register: Register, number: u32, tagged: Register) -> Changes
+    ensures { ways_by state.now result ≡ kind_ways state.now register number tagged }
 {
     let value = state.get(tagged);
     if number == 0 {
-        Ways {
-            jumped: becoming(register, 0, known_zero(state, tagged, &value)),
+        Changes {
+            jumped: becoming(state, register, 0, known_zero(state, tagged, &value)),
             passed: known_there(state, tagged, &value),
         }
     } else {
         let kind = kind_numbered(number);
-        Ways {
-            jumped: becoming(register, number, known_kind(state, tagged, kind, &value)),
+        Changes {
+            jumped: becoming(
+                state,
+                register,
+                number,
+                known_kind(state, tagged, kind, &value),
+            ),
             passed: known_other(state, kind, &value),
         }
     }
 }
 
 /// Jumps where the register, which has this value, is 0.
-pub(crate) fn jump_zero(state: &AbsState, register: Register, value: AbsVal) -> Result<Ways, Cause>
-    ensures { result ≡ zero_ways state.now register value }
+pub(crate) fn jump_zero(
+    state: &AbsState,
+    register: Register,
+    value: AbsVal,
+) -> Result<Changes, Cause>
+    ensures { ways_told state.now result ≡ zero_ways state.now register value }
 {
     match value {
-        AbsVal::Has { .. } => Ok(Ways {
+        AbsVal::Has { .. } => Ok(Changes {
             jumped: known_zero(state, register, &value),
             passed: known_there(state, register, &value),
         }),
@@ -213,8 +246,12 @@ pub(crate) fn jump_zero(state: &AbsState, register: Register, value: AbsVal) -> 
 }
 
 /// Jumps where the register is below the number.
-pub(crate) fn jump_below(state: &AbsState, register: Register, number: u32) -> Result<Ways, Cause>
-    ensures { result ≡ below_ways state.now register number }
+pub(crate) fn jump_below(
+    state: &AbsState,
+    register: Register,
+    number: u32,
+) -> Result<Changes, Cause>
+    ensures { ways_told state.now result ≡ below_ways state.now register number }
 {
     let most = state.word(register)?;
     let number = u64::from(number);
@@ -223,42 +260,46 @@ pub(crate) fn jump_below(state: &AbsState, register: Register, number: u32) -> R
     } else {
         let below = number - 1;
         let bound = if most <= below { most } else { below };
-        Some(state.refined(register, AbsVal::Word(bound)))
+        Some(Change::Refined(register, AbsVal::Word(bound)))
     };
-    let passed = if most < number { None } else { Some(*state) };
-    Ok(Ways { jumped, passed })
+    let passed = if most < number {
+        None
+    } else {
+        Some(Change::Same)
+    };
+    Ok(Changes { jumped, passed })
 }
 
 /// Jumps where all the bits are in the register, which has this value.
-pub(crate) fn jump_has(state: &AbsState, bits: u32, value: AbsVal) -> Result<Ways, Cause>
-    ensures { result ≡ has_ways state.now bits value }
+pub(crate) fn jump_has(state: &AbsState, bits: u32, value: AbsVal) -> Result<Changes, Cause>
+    ensures { ways_told state.now result ≡ has_ways state.now bits value }
 {
     match value {
         AbsVal::Has { .. } => Err(Cause::NotWord),
         AbsVal::RightsOf(tagged) => {
             let jumped = if bits == 0 {
-                Some(*state)
+                Some(Change::Same)
             } else {
                 known_rights(state, tagged, bits, state.get(tagged))
             };
-            Ok(Ways {
+            Ok(Changes {
                 jumped,
-                passed: Some(*state),
+                passed: Some(Change::Same),
             })
         }
-        _ => Ok(Ways {
-            jumped: Some(*state),
-            passed: Some(*state),
+        _ => Ok(Changes {
+            jumped: Some(Change::Same),
+            passed: Some(Change::Same),
         }),
     }
 }
 
 /// The same jump where the test fails.
-pub(crate) fn turned(ways: Result<Ways, Cause>) -> Result<Ways, Cause>
-    ensures { result ≡ unless ways }
+pub(crate) fn turned(state: &AbsState, changes: Result<Changes, Cause>) -> Result<Changes, Cause>
+    ensures { ways_told state.now result ≡ unless (ways_told state.now changes) }
 {
-    match ways {
-        Ok(ways) => Ok(ways.turned()),
+    match changes {
+        Ok(changes) => Ok(changes.turned(state)),
         Err(cause) => Err(cause),
     }
 }

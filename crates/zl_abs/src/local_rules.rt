@@ -4,13 +4,15 @@ ghost use Rattle.std.specs.Prelude.{◌≡◌, ◌≤◌, slice_get};
 ghost use Rattle.zl_abs.specs.Values.{smaller};
 ghost use Rattle.zl_abs.specs.Found.{bounds_in};
 ghost use Rattle.zl_abs.specs.LocalRules.{adds, adds_number, computes, copies, in_memory, loads, local_rule, may_move, meets, mixes, shifted, shifts_down, shifts_up, slot_fault, stores, swaps_in, takes};
+ghost use Rattle.zl_abs.specs.Changes.{ways_told};
 
 use crate::cause::Cause;
+use crate::change::Change;
 use crate::jumps::{jump_below, jump_equal, jump_has, jump_zero, turned};
 use crate::round_up::Rounding;
 use crate::state::AbsState;
 use crate::value::{AbsVal, is_kind_below, is_register};
-use crate::ways::Ways;
+use crate::ways::Changes;
 use zl_code::{Image, LocalInstr, Register, SlotArray};
 
 /// The register becomes a word up to the next bound from the number on.
@@ -19,19 +21,24 @@ fn compute(
     state: &AbsState,
     register: Register,
     number: u64,
-) -> Result<Ways, Cause>
-    ensures { result ≡ computes (bounds_in bounds.entry) state.now register number }
+) -> Result<Changes, Cause>
+    ensures { ways_told state.now result ≡ computes (bounds_in bounds.entry) state.now register number }
 {
-    Ways::writing(state, register, AbsVal::Word(bounds.round_up(number)))
+    Changes::writing(state, register, AbsVal::Word(bounds.round_up(number)))
 }
 
 /// The register becomes any word, computed from two.
-fn mix(state: &AbsState, register: Register, left: Register, right: Register) -> Result<Ways, Cause>
-    ensures { result ≡ mixes state.now register left right }
+fn mix(
+    state: &AbsState,
+    register: Register,
+    left: Register,
+    right: Register,
+) -> Result<Changes, Cause>
+    ensures { ways_told state.now result ≡ mixes state.now register left right }
 {
     state.word(left)?;
     state.word(right)?;
-    Ways::writing(state, register, AbsVal::Word(u64::MAX))
+    Changes::writing(state, register, AbsVal::Word(u64::MAX))
 }
 
 /// Whether so many bytes from base and offset on lie in the memory, where the base is at most this.
@@ -51,13 +58,13 @@ fn load(
     register: Register,
     base: Register,
     offset: u32,
-) -> Result<Ways, Cause>
+) -> Result<Changes, Cause>
     requires { bytes ≤ 8 }
-    ensures { result ≡ loads image.now state.now bytes bound register base offset }
+    ensures { ways_told state.now result ≡ loads image.now state.now bytes bound register base offset }
 {
     let most = state.word(base)?;
     if is_in_memory(image, most, offset, bytes) {
-        Ways::writing(state, register, AbsVal::Word(bound))
+        Changes::writing(state, register, AbsVal::Word(bound))
     } else {
         Err(Cause::MemoryRange)
     }
@@ -71,25 +78,25 @@ fn store(
     base: Register,
     source: Register,
     offset: u32,
-) -> Result<Ways, Cause>
+) -> Result<Changes, Cause>
     requires { bytes ≤ 8 }
-    ensures { result ≡ stores image.now state.now bytes base source offset }
+    ensures { ways_told state.now result ≡ stores image.now state.now bytes base source offset }
 {
     let most = state.word(base)?;
     state.word(source)?;
     if is_in_memory(image, most, offset, bytes) {
-        Ok(Ways::passing(*state))
+        Ok(Changes::passing(state, Change::Same))
     } else {
         Err(Cause::MemoryRange)
     }
 }
 
 /// The register becomes a copy of a word or of a tag.
-fn copy(state: &AbsState, register: Register, source: Register) -> Result<Ways, Cause>
-    ensures { result ≡ copies state.now register source }
+fn copy(state: &AbsState, register: Register, source: Register) -> Result<Changes, Cause>
+    ensures { ways_told state.now result ≡ copies state.now register source }
 {
     state.word(source)?;
-    Ways::writing(state, register, state.get(source))
+    Changes::writing(state, register, state.get(source))
 }
 
 /// Whether a register may be taken: it has a handle, or 0 in its place.
@@ -104,8 +111,8 @@ fn may_move(value: &AbsVal) -> bool
 }
 
 /// What was in the source goes to the register.
-fn take(state: &AbsState, register: Register, source: Register) -> Result<Ways, Cause>
-    ensures { result ≡ takes state.now register source }
+fn take(state: &AbsState, register: Register, source: Register) -> Result<Changes, Cause>
+    ensures { ways_told state.now result ≡ takes state.now register source }
 {
     let value = state.get(source);
     if is_register(register, source) {
@@ -115,7 +122,7 @@ fn take(state: &AbsState, register: Register, source: Register) -> Result<Ways, 
     } else if state.get(register).is_has() {
         Err(Cause::Leak)
     } else {
-        Ok(Ways::passing(state.moved(register, source, value)))
+        Ok(Changes::passing(state, Change::Moved(register, source, value)))
     }
 }
 
@@ -151,8 +158,8 @@ fn swap(
     register: Register,
     place: Register,
     array: u32,
-) -> Result<Ways, Cause>
-    ensures { result ≡ swaps_in state.now register place (slice_get image.now.slots array) }
+) -> Result<Changes, Cause>
+    ensures { ways_told state.now result ≡ swaps_in state.now register place (slice_get image.now.slots array) }
 {
     let Some(array) = image.slots().get(array as usize) else {
         return Err(Cause::IllegalOp);
@@ -169,7 +176,7 @@ fn swap(
                 kind: array.kind,
                 rights: array.rights,
             };
-            Ok(Ways::passing(state.with(register, value)))
+            Ok(Changes::passing(state, Change::Written(register, value)))
         }
     }
 }
@@ -195,8 +202,8 @@ fn add(
     register: Register,
     left: Register,
     right: Register,
-) -> Result<Ways, Cause>
-    ensures { result ≡ adds (bounds_in bounds.entry) state.now register left right }
+) -> Result<Changes, Cause>
+    ensures { ways_told state.now result ≡ adds (bounds_in bounds.entry) state.now register left right }
 {
     let left = state.word(left)?;
     let right = state.word(right)?;
@@ -210,8 +217,8 @@ fn add_number(
     register: Register,
     left: Register,
     number: u32,
-) -> Result<Ways, Cause>
-    ensures { result ≡ adds_number (bounds_in bounds.entry) state.now register left number }
+) -> Result<Changes, Cause>
+    ensures { ways_told state.now result ≡ adds_number (bounds_in bounds.entry) state.now register left number }
 {
     let left = state.word(left)?;
     compute(
@@ -229,8 +236,8 @@ fn and(
     register: Register,
     left: Register,
     right: Register,
-) -> Result<Ways, Cause>
-    ensures { result ≡ meets (bounds_in bounds.entry) state.now register left right }
+) -> Result<Changes, Cause>
+    ensures { ways_told state.now result ≡ meets (bounds_in bounds.entry) state.now register left right }
 {
     let left = state.word(left)?;
     let right = state.word(right)?;
@@ -238,11 +245,11 @@ fn and(
 }
 
 /// The register becomes the bits of a word moved up.
-fn shift_left(state: &AbsState, register: Register, source: Register) -> Result<Ways, Cause>
-    ensures { result ≡ shifts_up state.now register source }
+fn shift_left(state: &AbsState, register: Register, source: Register) -> Result<Changes, Cause>
+    ensures { ways_told state.now result ≡ shifts_up state.now register source }
 {
     state.word(source)?;
-    Ways::writing(state, register, AbsVal::Word(u64::MAX))
+    Changes::writing(state, register, AbsVal::Word(u64::MAX))
 }
 
 /// The register becomes the bits of a word moved down.
@@ -252,8 +259,8 @@ fn shift_right(
     register: Register,
     source: Register,
     places: u32,
-) -> Result<Ways, Cause>
-    ensures { result ≡ shifts_down (bounds_in bounds.entry) state.now register source places }
+) -> Result<Changes, Cause>
+    ensures { ways_told state.now result ≡ shifts_down (bounds_in bounds.entry) state.now register source places }
 {
     let most = state.word(source)?;
     compute(bounds, state, register, shift_down(most, places))
@@ -266,14 +273,14 @@ pub(crate) fn local_rule(
     image: &Image,
     local: LocalInstr,
     state: &AbsState,
-) -> Result<Ways, Cause>
-    ensures { result ≡ local_rule (bounds_in bounds.entry) image.now local state.now }
+) -> Result<Changes, Cause>
+    ensures { ways_told state.now result ≡ local_rule (bounds_in bounds.entry) image.now local state.now }
 {
     match local {
         LocalInstr::Const {
             destination,
             number,
-        } => Ways::writing(state, destination, AbsVal::Word(u64::from(number))),
+        } => Changes::writing(state, destination, AbsVal::Word(u64::from(number))),
         LocalInstr::Move {
             destination,
             source,
@@ -347,10 +354,10 @@ pub(crate) fn local_rule(
             source,
             offset,
         } => store(image, state, 8, base, source, offset),
-        LocalInstr::Jump { .. } => Ok(Ways::passing(*state).turned()),
+        LocalInstr::Jump { .. } => Ok(Changes::passing(state, Change::Same).turned(state)),
         LocalInstr::JumpZero { register, .. } => jump_zero(state, register, state.get(register)),
         LocalInstr::JumpNotZero { register, .. } => {
-            turned(jump_zero(state, register, state.get(register)))
+            turned(state, jump_zero(state, register, state.get(register)))
         }
         LocalInstr::JumpEqual {
             register,
@@ -361,7 +368,10 @@ pub(crate) fn local_rule(
             register,
             number,
             ..
-        } => turned(jump_equal(state, register, number, state.get(register))),
+        } => turned(
+            state,
+            jump_equal(state, register, number, state.get(register)),
+        ),
         LocalInstr::JumpBelow {
             register,
             number,
@@ -371,10 +381,10 @@ pub(crate) fn local_rule(
             register,
             number,
             ..
-        } => turned(jump_below(state, register, number)),
+        } => turned(state, jump_below(state, register, number)),
         LocalInstr::JumpHas { register, bits, .. } => jump_has(state, bits, state.get(register)),
         LocalInstr::JumpHasNot { register, bits, .. } => {
-            turned(jump_has(state, bits, state.get(register)))
+            turned(state, jump_has(state, bits, state.get(register)))
         }
     }
 }

@@ -5,6 +5,7 @@ ghost use Rattle.zl_rights.specs.Numbers.{bits};
 ghost use Rattle.zl_code.specs.Refusals.{needs, taking};
 ghost use Rattle.zl_abs.specs.Operands.{kinds_of};
 ghost use Rattle.zl_abs.specs.CallRules.{fault_of, takes_any, examined};
+ghost use Rattle.zl_abs.specs.Changes.{left_by};
 
 use crate::cause::Cause;
 use crate::state::AbsState;
@@ -139,17 +140,14 @@ impl Operand {
         }
     }
 
-    /// The state after the operand was examined, and taken where it is consumed.
-    pub fn examine(&self, state: &AbsState) -> Result<AbsState, Cause>
-        ensures { result ≡ examined state.now self.now }
+    /// Examines the operand, and takes it where it is consumed. Why it can't be, if it can't.
+    pub fn examine(&self, state: &mut AbsState) -> Option<Cause>
+        ensures { left_by state.new result ≡ examined state.old self.now }
     {
-        if let Some(cause) = self.fault(state.get(self.register)) {
-            return Err(cause);
+        let fault = self.fault(state.get(self.register));
+        if fault.is_none() && self.is_taken {
+            state.write(self.register, AbsVal::Word(0));
         }
-        if self.is_taken {
-            Ok(state.with(self.register, AbsVal::Word(0)))
-        } else {
-            Ok(*state)
-        }
+        fault
     }
 }

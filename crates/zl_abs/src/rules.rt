@@ -1,11 +1,10 @@
 //! The rule of each instruction, with its edges.
 
-ghost use Rattle.std.specs.Prelude.{◌≡◌, ◌+◌, ◌<◌, length};
-ghost use Rattle.zl_code.specs.Limits.{most_instructions};
+ghost use Rattle.std.specs.Prelude.{◌≡◌};
 ghost use Rattle.zl_abs.specs.Bounds.{bounds_of};
 ghost use Rattle.zl_abs.specs.Found.{bounds_in};
-ghost use Rattle.zl_abs.specs.Rule.{edge_to, edges};
-ghost use Rattle.zl_abs.specs.Successors.{edges_told, edge_told};
+ghost use Rattle.zl_abs.specs.Successors.{edges_told, edge_in};
+ghost use Rattle.zl_abs.specs.Changes.{step_in, steps_told};
 ghost use Rattle.zl_abs.specs.Typing.{rule, rule_with, target_of};
 
 use crate::bounds::Bounds;
@@ -14,7 +13,7 @@ use crate::cause::Cause;
 use crate::local_rules::local_rule;
 use crate::round_up::Rounding;
 use crate::state::AbsState;
-use crate::ways::Ways;
+use crate::steps::{Step, Steps, steps_from};
 use zl_code::{Image, LocalInstr};
 
 /// An edge: the instruction to which it leads, and what is known there. Own profile.
@@ -33,33 +32,19 @@ pub struct Successors {
     pub next: Option<Edge>,
 }
 
-/// The edge, if it is followed, or the cause, if it leads out of the code.
-fn edge_to(
-    image: &Image,
-    cause: Cause,
-    target: usize,
-    state: Option<AbsState>,
-) -> Result<Option<Edge>, Cause>
-    ensures { edge_told result ≡ edge_to (length image.now.code) cause target state }
+/// The edge in full, if it is followed.
+fn edge_of(state: &AbsState, step: &Option<Step>) -> Option<Edge>
+    ensures { edge_in result ≡ step_in state.now step.now }
 {
-    let Some(state) = state else {
-        return Ok(None);
+    let Some(step) = step else {
+        return None;
     };
-    if target < image.len() {
-        Ok(Some(Edge { target, state }))
-    } else {
-        Err(cause)
-    }
-}
-
-/// The edges that are followed from an instruction at this place, which may jump to this target.
-fn edges(image: &Image, place: usize, target: u32, ways: Ways) -> Result<Successors, Cause>
-    requires { place < most_instructions }
-    ensures { edges_told result ≡ edges (length image.now.code) place target ways }
-{
-    let jump = edge_to(image, Cause::BadJump, target as usize, ways.jumped)?;
-    let next = edge_to(image, Cause::FallsOff, place + 1, ways.passed)?;
-    Ok(Successors { jump, next })
+    let mut state = *state;
+    state.change(step.change);
+    Some(Edge {
+        target: step.target,
+        state,
+    })
 }
 
 /// Where the instruction may jump.
@@ -82,8 +67,49 @@ fn target_of(local: &LocalInstr) -> u32
 }
 
 /// The edges that are followed from the instruction of this number in this state, or why its rule
-/// doesn't hold there.
+/// doesn't hold there. The state becomes what they change.
 #[tactic(auto, using(crate::proofs::RuleSteps::call_in_range, crate::proofs::RuleSteps::unknown_there, crate::proofs::RuleSteps::nothing_there))]
+fn steps_rounding(
+    bounds: Rounding<'_>,
+    image: &Image,
+    at: usize,
+    state: &mut AbsState,
+) -> Result<Steps, Cause>
+    ensures { steps_told state.new result
+        ≡ rule_with (bounds_in bounds.entry) image.now at state.old }
+{
+    let length = image.len();
+    if let Some(local) = image.local_at(at) {
+        let target = target_of(&local);
+        let changes = local_rule(bounds, image, local, state);
+        return steps_from(image, state, at, target, changes);
+    }
+    if let Some(call) = image.call_at(at) {
+        let before = *state;
+        let changes = call_rule(bounds, image, call, &before, state);
+        return steps_from(image, state, at, 0, changes);
+    }
+    if at < length {
+        Err(Cause::IllegalOp)
+    } else {
+        Err(Cause::FallsOff)
+    }
+}
+
+/// The edges in full, or why the rule doesn't hold.
+fn edges_of(state: &AbsState, steps: Result<Steps, Cause>) -> Result<Successors, Cause>
+    ensures { edges_told result ≡ steps_told state.now steps }
+{
+    match steps {
+        Ok(steps) => Ok(Successors {
+            jump: edge_of(state, &steps.jump),
+            next: edge_of(state, &steps.next),
+        }),
+        Err(cause) => Err(cause),
+    }
+}
+
+/// The same with the states at their ends.
 fn transfer_rounding(
     bounds: Rounding<'_>,
     image: &Image,
@@ -92,21 +118,22 @@ fn transfer_rounding(
 ) -> Result<Successors, Cause>
     ensures { edges_told result ≡ rule_with (bounds_in bounds.entry) image.now at state.now }
 {
-    let length = image.len();
-    if let Some(local) = image.local_at(at) {
-        let target = target_of(&local);
-        let ways = local_rule(bounds, image, local, state)?;
-        return edges(image, at, target, ways);
-    }
-    if let Some(call) = image.call_at(at) {
-        let ways = call_rule(bounds, image, call, state)?;
-        return edges(image, at, 0, ways);
-    }
-    if at < length {
-        Err(Cause::IllegalOp)
-    } else {
-        Err(Cause::FallsOff)
-    }
+    let mut after = *state;
+    let steps = steps_rounding(bounds, image, at, &mut after);
+    edges_of(&after, steps)
+}
+
+/// What `transfer_by` says, with no state at the end of an edge: there stands what the state became,
+/// with the change of the edge. Where the rule doesn't hold, the state is of no use. Own profile.
+pub fn step_by(
+    bounds: &Bounds,
+    image: &Image,
+    at: usize,
+    state: &mut AbsState,
+) -> Result<Steps, Cause>
+    ensures { steps_told state.new result ≡ rule_with bounds.now image.now at state.old }
+{
+    steps_rounding(Rounding::List(bounds), image, at, state)
 }
 
 /// The edges that are followed from the instruction of this number in this state, or why its rule

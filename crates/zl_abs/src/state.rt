@@ -7,8 +7,10 @@ ghost use Rattle.zl_abs.specs.Values.{untagged, retagged};
 ghost use Rattle.zl_abs.specs.States.{all_below, all_joined, value_at, with_value, with_all, refined, starts_from, start_value, start_state};
 ghost use Rattle.zl_abs.specs.LocalRules.{moved};
 ghost use Rattle.zl_abs.specs.Rule.{word_at};
+ghost use Rattle.zl_abs.specs.Changes.{changed};
 
 use crate::cause::{Cause, Conflict};
+use crate::change::Change;
 use crate::value::AbsVal;
 use std::marker::Model;
 use zl_code::{Image, Register, Start};
@@ -87,34 +89,38 @@ impl AbsState {
         }
     }
 
-    /// The state where more is known of the register. Tags on it stay.
-    pub(crate) fn refined(&self, register: Register, value: AbsVal) -> AbsState
-        ensures { result ≡ refined self.now register value }
+    /// More is known of the register. Tags on it stay.
+    fn refine(&mut self, register: Register, value: AbsVal)
+        ensures { self.new ≡ refined self.old register value }
     {
-        let mut state = *self;
-        state.registers[usize::from(register.number())] = value;
-        state
+        self.registers[usize::from(register.number())] = value;
     }
 
-    /// The state after the register was written: no tag names it any more.
+    /// The register is written: no tag names it any more.
     #[tactic(auto, unfolding(crate::specs::States::with_value))]
+    pub(crate) fn write(&mut self, register: Register, value: AbsVal)
+        ensures { self.new ≡ with_value self.old register value }
+    {
+        self.refine(register, value);
+        untag(&mut self.registers, register);
+    }
+
+    /// The state after the register was written.
     pub(crate) fn with(&self, register: Register, value: AbsVal) -> AbsState
         ensures { result ≡ with_value self.now register value }
     {
-        let mut state = self.refined(register, value);
-        untag(&mut state.registers, register);
+        let mut state = *self;
+        state.write(register, value);
         state
     }
 
-    /// The state after the registers were written, one after another.
-    pub(crate) fn with_all(&self, results: &[(Register, AbsVal)]) -> AbsState
-        ensures { result ≡ with_all self.now results.now }
+    /// The registers are written, one after another.
+    pub(crate) fn write_all(&mut self, results: &[(Register, AbsVal)])
+        ensures { self.new ≡ with_all self.old results.now }
     {
-        let mut state = *self;
         for (register, value) in results {
-            state = state.with(*register, *value);
+            self.write(*register, *value);
         }
-        state
     }
 
     /// Becomes the least state above itself and the other, and answers whether it rose: whether the
@@ -128,13 +134,33 @@ impl AbsState {
         raise_all(&mut self.registers, &other.registers)
     }
 
-    /// The state after the value of `source` went to `destination`, and its tags with it.
-    pub(crate) fn moved(&self, destination: Register, source: Register, value: AbsVal) -> AbsState
-        ensures { result ≡ moved self.now destination source value }
+    /// The value of `source` goes to `destination`, and its tags with it.
+    fn move_value(&mut self, destination: Register, source: Register, value: AbsVal)
+        ensures { self.new ≡ moved self.old destination source value }
     {
-        let mut state = self.with(destination, value);
-        retag(&mut state.registers, source, destination);
-        state.refined(source, AbsVal::Word(0))
+        self.write(destination, value);
+        retag(&mut self.registers, source, destination);
+        self.refine(source, AbsVal::Word(0));
+    }
+
+    /// Becomes the state at the end of an edge.
+    pub fn change(&mut self, change: Change)
+        ensures { self.new ≡ changed self.old change }
+    {
+        match change {
+            Change::Same => {}
+            Change::Written(register, value) => self.write(register, value),
+            Change::Refined(register, value) => self.refine(register, value),
+            Change::RefinedBoth(first, value, second, other) => {
+                self.refine(first, value);
+                self.refine(second, other);
+            }
+            Change::Moved(destination, source, value) => self.move_value(
+                destination,
+                source,
+                value,
+            ),
+        }
     }
 }
 

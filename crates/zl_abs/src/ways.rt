@@ -2,60 +2,62 @@ ghost use Rattle.std.specs.Prelude.{◌≡◌};
 ghost use Rattle.zl_abs.specs.Rule.{passes, writes};
 ghost use Rattle.zl_abs.specs.LocalRules.{turned};
 ghost use Rattle.zl_abs.specs.CallRules.{stops};
+ghost use Rattle.zl_abs.specs.Changes.{changed, ways_by, ways_told};
 
 use crate::cause::Cause;
+use crate::change::Change;
 use crate::state::AbsState;
 use crate::value::AbsVal;
 use zl_code::Register;
 
-/// The states at the ends of the edges that are followed from an instruction.
+/// What is different at the ends of the edges that are followed from an instruction.
 #[derive(Clone, Copy)]
-pub(crate) struct Ways {
+pub(crate) struct Changes {
     /// Where it jumps.
-    pub jumped: Option<AbsState>,
+    pub jumped: Option<Change>,
     /// Where it goes on to the next instruction.
-    pub passed: Option<AbsState>,
+    pub passed: Option<Change>,
 }
 
-impl Ways {
-    /// The next instruction stands there with this state.
-    pub fn passing(state: AbsState) -> Ways
-        ensures { result ≡ passes state }
+impl Changes {
+    /// The next instruction stands there with this change of the state.
+    pub fn passing(state: &AbsState, change: Change) -> Changes
+        ensures { ways_by state.now result ≡ passes (changed state.now change) }
     {
-        Ways {
+        Changes {
             jumped: None,
-            passed: Some(state),
+            passed: Some(change),
         }
     }
 
     /// No edge is followed.
-    pub fn stopping() -> Ways
-        ensures { result ≡ stops }
+    pub fn stopping(state: &AbsState) -> Changes
+        ensures { ways_by state.now result ≡ stops }
     {
-        Ways {
+        Changes {
             jumped: None,
             passed: None,
         }
     }
 
     /// The edges exchanged.
-    pub fn turned(self) -> Ways
-        ensures { result ≡ turned self }
+    pub fn turned(self, state: &AbsState) -> Changes
+        ensures { ways_by state.now result ≡ turned (ways_by state.now self) }
     {
-        Ways {
+        Changes {
             jumped: self.passed,
             passed: self.jumped,
         }
     }
 
     /// The register is written, which must not have a handle.
-    pub fn writing(state: &AbsState, register: Register, value: AbsVal) -> Result<Ways, Cause>
-        ensures { result ≡ writes state.now register value }
+    pub fn writing(state: &AbsState, register: Register, value: AbsVal) -> Result<Changes, Cause>
+        ensures { ways_told state.now result ≡ writes state.now register value }
     {
         if state.get(register).is_has() {
             Err(Cause::Leak)
         } else {
-            Ok(Ways::passing(state.with(register, value)))
+            Ok(Changes::passing(state, Change::Written(register, value)))
         }
     }
 }

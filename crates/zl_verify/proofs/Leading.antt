@@ -4,10 +4,10 @@ use Rattle.std.specs.Prelude.{Result, Ok, Err, if◌then◌else◌}
 use Rattle.std.specs.Option.{option_to_list}
 use Rattle.zl_code.specs.Image.{Image, call_at}
 use Rattle.zl_abs.specs.declared.cause.Cause.{Cause}
-use Rattle.zl_abs.specs.declared.rules.Edge.{Edge}
-use Rattle.zl_abs.specs.declared.rules.Successors.{Successors}
+use Rattle.zl_abs.specs.declared.steps.Step.{Step}
+use Rattle.zl_abs.specs.declared.steps.Steps.{Steps}
 use Rattle.zl_abs.specs.Rule.{Edge as Lead}
-use Rattle.zl_abs.specs.Successors.{edge_in}
+use Rattle.zl_abs.specs.Changes.{step_in}
 use Rattle.zl_abs.specs.States.{State}
 use Rattle.zl_abs.specs.Typing.{rule, IsAbove, AllLead, Holds, IsTyping}
 use Rattle.zl_verify.specs.Lists.{at}
@@ -19,15 +19,15 @@ use Rattle.zl_verify.proofs.Places.{mapped}
 
 -- ---- one instruction
 
-ends : (x y : Option Edge) → option_to_list (target_in x) ++ option_to_list (target_in y) ≡ map (λ e. e.0) (edge_in x ++ edge_in y)
-ends None None = refl
-ends None (Some y) = refl
-ends (Some x) None = refl
-ends (Some x) (Some y) = refl
+ends : (t : State) (x y : Option Step) → option_to_list (target_in x) ++ option_to_list (target_in y) ≡ map (λ e. e.0) (step_in t x ++ step_in t y)
+ends t None None = refl
+ends t None (Some y) = refl
+ends t (Some x) None = refl
+ends t (Some x) (Some y) = refl
 
-pub leads_told : (i : Image) (n : ℕ) (s : State) (x : Successors) → is_pause (call_at i n) ≡ false → Ok (edge_in x.jump ++ edge_in x.next) ≡ rule i n s
+pub leads_told : (i : Image) (n : ℕ) (s t : State) (x : Steps) → is_pause (call_at i n) ≡ false → Ok (step_in t x.jump ++ step_in t x.next) ≡ rule i n s
     → option_to_list (target_in x.jump) ++ option_to_list (target_in x.next) ≡ leads_by i n (Some s)
-leads_told i n s x p h = rw (p, ← h) (ends x.jump x.next)
+leads_told i n s t x p h = rw (p, ← h) (ends t x.jump x.next)
 
 pub leads_nowhere : (i : Image) (n : ℕ) (s : State) (c : Cause) → is_pause (call_at i n) ≡ false → Err c ≡ rule i n s → [] ≡ leads_by i n (Some s)
 leads_nowhere i n s c p h = rw (p, ← h) refl

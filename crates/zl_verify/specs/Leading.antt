@@ -1,7 +1,7 @@
 -- Where the instructions of a typing lead, as the code keeps it. No public clause cites this module.
 use Rattle.std.specs.Prelude.{ℕ, ◌≡◌, List, length, Option, Some, None}
 use Rattle.zl_code.specs.Image.{Image}
-use Rattle.zl_abs.specs.declared.rules.Edge.{Edge}
+use Rattle.zl_abs.specs.declared.steps.Step.{Step}
 use Rattle.zl_abs.specs.States.{State}
 use Rattle.zl_verify.specs.Lists.{at}
 use Rattle.zl_verify.specs.Numbers.{places_at}
@@ -9,7 +9,7 @@ use Rattle.zl_verify.specs.declared.steps.Targets.{Targets}
 use Rattle.zl_verify.specs.Steps.{leads}
 
 -- where the edge leads, if it is followed
-abbrev pub target_in : Option Edge → Option ℕ
+abbrev pub target_in : Option Step → Option ℕ
 target_in None = None
 target_in (Some e) = Some e.target
 

@@ -9,6 +9,7 @@ ghost use Rattle.zl_verify.specs.Checks.{IsLeastTyping, IsRefused};
 
 use crate::refusal::{Refusal, RefusalCause};
 use crate::search::{Fault, solve};
+use crate::seen::Seen;
 use crate::steps::{first_over, numbers};
 use crate::targets::targets_of;
 use std::alloc::Global;
@@ -72,8 +73,6 @@ fn bound(
         Some(at) => Err(Fault {
             at,
             cause: RefusalCause::Budget,
-            known: None,
-            other: None,
         }),
     }
 }
@@ -107,7 +106,7 @@ pub fn check(alloc: Global, image: Image) -> Result<Checked, Refusal>
     let Ok(bounds) = Bounds::of(alloc, &image) else {
         return Err(refuse(image, Fault::at_once(RefusalCause::NoMemory)));
     };
-    let states = match solve(alloc, &bounds, &image) {
+    let states = match solve(alloc, &bounds, &image, &mut Seen::NOTHING) {
         Ok(states) => states,
         Err(fault) => return Err(refuse(image, fault)),
     };

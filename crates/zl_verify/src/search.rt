@@ -6,16 +6,17 @@ ghost use Rattle.std.specs.Result.{is_ok};
 ghost use Rattle.zl_code.specs.Limits.{most_instructions};
 ghost use Rattle.zl_abs.specs.Bounds.{RoundAlike, bounds_of};
 ghost use Rattle.zl_abs.specs.States.{start_state};
-ghost use Rattle.zl_abs.specs.Successors.{edge_in};
+ghost use Rattle.zl_abs.specs.Changes.{step_in};
 ghost use Rattle.zl_verify.specs.Lists.{at};
 ghost use Rattle.zl_verify.specs.Search.{put, raised, raised_all, turned, cleared, started};
 ghost use Rattle.zl_verify.specs.Checks.{IsLeastTyping, IsRefused, is_of_rules};
 
 use crate::edges::edges_at;
 use crate::refusal::RefusalCause;
+use crate::seen::Seen;
 use std::alloc::{AllocError, Global};
 use std::marker::Model;
-use zl_abs::{AbsState, Bounds, Cause, Edge, Successors};
+use zl_abs::{AbsState, Bounds, Cause, Step, Steps};
 use zl_code::Image;
 
 /// Why there is no typing, and at which instruction that was seen.
@@ -23,10 +24,6 @@ use zl_code::Image;
 pub(crate) struct Fault {
     pub at: usize,
     pub cause: RefusalCause,
-    /// What was known at the instruction, if something was.
-    pub known: Option<AbsState>,
-    /// What came to it along another way, and has no join with what was known.
-    pub other: Option<AbsState>,
 }
 
 impl Fault {
@@ -35,12 +32,7 @@ impl Fault {
         ensures at { result.at ≡ 0 }
         ensures cause { result.cause ≡ cause }
     {
-        Fault {
-            at: 0,
-            cause,
-            known: None,
-            other: None,
-        }
+        Fault { at: 0, cause }
     }
 }
 
@@ -153,70 +145,83 @@ impl Search {
 
     /// The state of an edge that is followed comes to its end.
     #[tactic(auto, unfolding(crate::specs::Search::raised_all))]
-    fn follow(&mut self, edge: &Option<Edge>) -> Result<(), Fault>
+    fn follow(
+        &mut self,
+        edge: &Option<Step>,
+        state: &AbsState,
+        seen: &mut Seen,
+    ) -> Result<(), Fault>
         ensures raised { then_some (is_ok result) self.new
-            ≡ raised_all self.old (edge_in edge.now) }
+            ≡ raised_all self.old (step_in state.now edge.now) }
         ensures cause { IfErr result (λ fault. is_of_rules fault.cause ≡ true) }
     {
         let Some(edge) = edge else {
             return Ok(());
         };
-        if self.raise(edge.target, &edge.state) {
-            Ok(())
-        } else {
-            Err(Fault {
-                at: edge.target,
-                cause: RefusalCause::JoinConflict,
-                known: self.known_at(edge.target),
-                other: Some(edge.state),
-            })
+        let mut state = *state;
+        state.change(edge.change);
+        if self.raise(edge.target, &state) {
+            return Ok(());
         }
+        seen.known = self.known_at(edge.target);
+        seen.other = Some(state);
+        Err(Fault {
+            at: edge.target,
+            cause: RefusalCause::JoinConflict,
+        })
     }
 
     /// The states of all edges that are followed come to their ends.
-    fn arrive(&mut self, edges: &Successors) -> Result<(), Fault>
-        ensures raised { then_some (is_ok result) self.new
-            ≡ raised_all self.old (edge_in edges.now.jump ++ edge_in edges.now.next) }
+    fn arrive(&mut self, edges: &Steps, state: &AbsState, seen: &mut Seen) -> Result<(), Fault>
+        ensures raised { then_some (is_ok result) self.new ≡ raised_all self.old
+            (step_in state.now edges.now.jump ++ step_in state.now edges.now.next) }
         ensures cause { IfErr result (λ fault. is_of_rules fault.cause ≡ true) }
     {
-        match self.follow(&edges.jump) {
-            Ok(()) => self.follow(&edges.next),
+        match self.follow(&edges.jump, state, seen) {
+            Ok(()) => self.follow(&edges.next, state, seen),
             Err(fault) => Err(fault),
         }
     }
 
     /// An instruction is looked at once. Not where its rule doesn't hold, or an edge can't be
     /// followed.
-    fn turn(&mut self, bounds: &Bounds, image: &Image, place: usize) -> Result<(), Fault>
+    fn turn(
+        &mut self,
+        bounds: &Bounds,
+        image: &Image,
+        place: usize,
+        seen: &mut Seen,
+    ) -> Result<(), Fault>
         requires inside { place < length self.old.states }
         requires alike { RoundAlike bounds.now (bounds_of image.now.code) }
         ensures turned { then_some (is_ok result) self.new ≡ turned image.now self.old place }
         ensures cause { IfErr result (λ fault. is_of_rules fault.cause ≡ true) }
     {
         self.waiting[place] = false;
-        let Some(state) = self.states[place] else {
+        let Some(mut state) = self.states[place] else {
             return Ok(());
         };
-        let edges = match edges_at(bounds, image, place, &state) {
+        let edges = match edges_at(bounds, image, place, &mut state) {
             Ok(edges) => edges,
             Err(cause) => {
+                seen.known = self.known_at(place);
                 return Err(Fault {
                     at: place,
                     cause: RefusalCause::Rule(cause),
-                    known: Some(state),
-                    other: None,
                 });
             }
         };
-        self.arrive(&edges)
+        self.arrive(&edges, &state, seen)
     }
 }
 
-/// The least typing of the image. Bounds of words are rounded up by `bounds`.
+/// The least typing of the image. Bounds of words are rounded up by `bounds`. Of an image that has no
+/// typing, `seen` gets what was known where that was seen.
 pub(crate) fn solve(
     alloc: Global,
     bounds: &Bounds,
     image: &Image,
+    seen: &mut Seen,
 ) -> Result<Vec<Option<AbsState>>, Fault>
     requires alike { RoundAlike bounds.now (bounds_of image.now.code) }
     ensures long { IfOk result (λ states. length states.items ≡ length image.now.code) }
@@ -233,7 +238,7 @@ pub(crate) fn solve(
     while search.place() < length {
         let place = search.place();
         if search.is_waiting(place) {
-            match search.turn(bounds, image, place) {
+            match search.turn(bounds, image, place, seen) {
                 Ok(()) => {}
                 Err(fault) => return Err(fault),
             }

@@ -12,17 +12,23 @@ pub struct Seen {
     pub other: Option<AbsState>,
 }
 
+impl Seen {
+    /// Before a search.
+    pub(crate) const NOTHING: Seen = Seen {
+        known: None,
+        other: None,
+    };
+}
+
 /// What `check` saw of an image that has no typing, for a person: it is found anew. Nothing for
 /// other images, and where memory is refused. Own profile.
 pub fn seen_in(alloc: Global, image: &Image) -> Option<Seen> {
     let Ok(bounds) = Bounds::of(alloc, image) else {
         return None;
     };
-    match solve(alloc, &bounds, image) {
+    let mut seen = Seen::NOTHING;
+    match solve(alloc, &bounds, image, &mut seen) {
         Ok(_) => None,
-        Err(fault) => Some(Seen {
-            known: fault.known,
-            other: fault.other,
-        }),
+        Err(_) => Some(seen),
     }
 }

@@ -10,7 +10,7 @@ ghost use Rattle.zl_verify.specs.Leading.{target_in, AreTargets};
 use crate::edges::edges_at;
 use crate::steps::Targets;
 use std::alloc::{AllocError, Global};
-use zl_abs::{AbsState, Bounds, Edge};
+use zl_abs::{AbsState, Bounds, Step};
 use zl_code::{CallInstr, Image};
 
 /// Whether the count of instructions begins anew at this one: a wait or an exit.
@@ -32,7 +32,7 @@ fn is_wait_or_exit(call: &CallInstr) -> bool
     )
 }
 
-fn target_of(edge: &Option<Edge>) -> Option<usize>
+fn target_of(edge: &Option<Step>) -> Option<usize>
     ensures { result ≡ target_in edge.now }
 {
     match edge {
@@ -50,7 +50,8 @@ fn targets_in(bounds: &Bounds, image: &Image, place: usize, state: &AbsState) ->
     if is_pause(image, place) {
         return Targets::NONE;
     }
-    match edges_at(bounds, image, place, state) {
+    let mut state = *state;
+    match edges_at(bounds, image, place, &mut state) {
         Ok(edges) => Targets {
             jump: target_of(&edges.jump),
             next: target_of(&edges.next),

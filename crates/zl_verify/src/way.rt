@@ -5,6 +5,7 @@ ghost use Rattle.zl_verify.specs.Lists.{at};
 ghost use Rattle.zl_verify.specs.Checks.{IsLeastTyping};
 
 use crate::search::solve;
+use crate::seen::Seen;
 use crate::steps::{Targets, numbers};
 use crate::targets::targets_of;
 use std::alloc::Global;
@@ -26,7 +27,7 @@ pub(crate) fn way_from(alloc: Global, image: &Image, first: usize) -> Option<Way
     let Ok(bounds) = Bounds::of(alloc, image) else {
         return None;
     };
-    match solve(alloc, &bounds, image) {
+    match solve(alloc, &bounds, image, &mut Seen::NOTHING) {
         Ok(states) => way_in(alloc, &bounds, image, &states, first),
         Err(_) => None,
     }

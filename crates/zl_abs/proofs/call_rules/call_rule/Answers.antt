@@ -1,4 +1,7 @@
-use Rattle.std.proofs.Common.{◌∙◌}
+use Rattle.std.proofs.Common.{◌∙◌, List, ap}
+use Rattle.zl_code.specs.declared.instr.CallInstr.TheVariants as call
+use Rattle.zl_abs.specs.declared.value.AbsVal.{AbsVal}
+use Rattle.zl_abs.specs.Found.{bounds_in}
 use Rattle.zl_code.specs.Instructions.{row_of}
 use Rattle.zl_code.specs.Spells.{call_parts}
 use Rattle.zl_abs.specs.CallRules.{call_rule, uses_of}
@@ -67,4 +70,8 @@ returns-in-ChanReadEtc c =
     rw c.in-ChanReadEtc.is ((rw (c.used-in-ChanReadEtc.ensures, c.received-results.ensures.value) at c.call-in-ChanReadEtc.ensures) ∙ read_rule _ c.args.image.now c.args.state.now r.status r.channel r.address r.room r.bytes r.handles r.first r.places)
 
 pub returns-in-ProcessExit : goal.returns-in-ProcessExit
-returns-in-ProcessExit c = rw c.in-ProcessExit.is (c.exit.ensures ∙ exit_rule _ c.args.image.now c.args.state.now c.in-ProcessExit.code)
+returns-in-ProcessExit c =
+    rw c.in-ProcessExit.is (
+    c.exit.ensures
+    ∙ (exit_rule (bounds_in c.args.bounds) c.args.image.now _ c.in-ProcessExit.code
+    ∙ ap (λ (s : List AbsVal). call_rule (bounds_in c.args.bounds) c.args.image.now (call.ProcessExit c.in-ProcessExit.code) s) c.requires.same))

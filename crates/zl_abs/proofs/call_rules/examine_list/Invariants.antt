@@ -7,5 +7,5 @@ use Rattle.zl_abs.proofs.call_rules.examine_list.Given as goal
 
 abbrev pub invariant-loop-place : goal.invariant-loop-place
 invariant-loop-place l =
-    examined_all l.state (operands_listed (Some (consumes [] TRANSFER)) (used l.handles.places))
+    examined_all l.initial.after (operands_listed (Some (consumes [] TRANSFER)) (used l.handles.places))
     ≡ examined_all l.after (operands_listed (Some (consumes [] TRANSFER)) (used (drop l.place l.handles.places)))

@@ -1,6 +1,0 @@
-use Rattle.std.proofs.Common.{◌≡◌, drop}
-use Rattle.zl_abs.specs.States.{with_all}
-use Rattle.zl_abs.proofs.state.AbsState.with_all.Given as goal
-
-abbrev pub invariant-loop-register : goal.invariant-loop-register
-invariant-loop-register l = with_all l.fn.self l.results ≡ with_all l.state (drop l.register-index l.results)

@@ -10,7 +10,8 @@ use Rattle.zl_code.specs.declared.history.Outcome.{Outcome}
 use Rattle.zl_rights.specs.declared.kind.Kind.{Kind}
 use Rattle.zl_rights.specs.Numbers.{SIGNAL_PEER, USER_SIGNALS, WAIT, WRITE}
 use Rattle.zl_rights.specs.Packets.{is_from, user_packet}
-use Rattle.zl_code.specs.CallTable.{choosing, signal_peer, wait_async, port_create, port_queue, port_wait, port_poll, port_cancel}
+use Rattle.zl_code.specs.CallTable.{choosing, signal_peer, wait_async, port_create, port_queue, port_wait, port_poll, port_cancel, job_create}
+use Rattle.zl_code.specs.Jobs.{job_within}
 use Rattle.zl_code.specs.Waiting.{source_at, wait_of, registered, without_keyed, is_by_handle}
 use Rattle.zl_rights.specs.World.{Wait}
 use Rattle.std.proofs.lemmas.Bool.{not-true}
@@ -347,6 +348,11 @@ module _ (lib : Library) (w : World) (p : ℕ) (q : Process) (there : get w.proc
         changes = λ vs gets. changes u (without_keyed u p source k key) _ (keyed_end w u p source k key)
             (one w (without_keyed u p source k key) _ (packets_are_changed w (without_keyed u p source k key) k (filter (λ x. not (is_from (source_at w p source) key x)))));
       }
+  laws (job_create j) after left passes =
+      let u = left_by (job_create j) in
+      let some_room = room_and w p 1 (has_koids w 1) (listed_none lib w p (job_create j) passes).1.1.0 in
+      let room = room_for u after left 1 (new_entry w.next_koid kind.Job ∷ []) some_room (omega arith) in
+      record { room = room; changes = one_made u after left (may_take (taken_handles (job_create j)) refl after left) (job_within (object_at w p j) (body_of w (object_at w p j))) refl tt room }
   laws (signal h clear set) after left passes =
       let u = left_by (signal h clear set) in
       record {

@@ -14,6 +14,7 @@ use Rattle.zl_code.specs.declared.history.Outcome.TheVariants as outcome
 use Rattle.zl_code.specs.Image.{Library}
 use Rattle.zl_code.specs.Tests.{answer_if, entry_at, object_at, body_of, may_change, has_room, has_koids, copy_of, contains, is_too_large, has_place_for, peer_at, queue_at, first_bytes, first_handles, sizes_of, entries_at}
 use Rattle.zl_code.specs.Effects.{on_object, with_object, new_entry, object_changed, message_sent, message_read, told_of, without_waits, signed_word}
+use Rattle.zl_code.specs.Jobs.{is_dead, is_deepest, job_within}
 use Rattle.zl_code.specs.Waiting.{is_mask, active_at, is_active_at, signal_awaited, may_register, wait_of, registered, without_keyed, packets_at, is_full, packet_awaited, first_values, source_at, is_cancelled, packet_queued, packet_taken, packets_cancelled}
 
 -- ---- what it asks for
@@ -41,6 +42,7 @@ pub data Request : Type 0 where
   -- the packets are those that came by the handle source
   port_cancel : (port source key : ℕ) → Request
   process_exit : (code : ℕ) → Request
+  job_create : (j : ℕ) → Request
 
 -- the request of a call, from the values of its operands, the number in the instruction, and the bytes and the handles that a message is to have; a call that isn't listed here isn't built yet
 abbrev pub request_of : CallName → List ℕ → ℕ → (bytes hs : List ℕ) → Option Request
@@ -82,6 +84,7 @@ asks (port_wait port) = (78, port ∷ [])
 asks (port_poll port) = (79, port ∷ [])
 asks (port_cancel port source key) = (80, port ∷ source ∷ [])
 asks (process_exit code) = (83, [])
+asks (job_create j) = (85, j ∷ [])
 
 -- the values of the handles in its list, where it has one
 abbrev pub lists : Request → List ℕ
@@ -149,6 +152,11 @@ listed lib w p (port_cancel port source key) =
     answer_if (not (is_cancelled w p port source key)) status.NotFound
     ∷ []
 listed lib w p (process_exit code) = []
+listed lib w p (job_create j) =
+    answer_if (is_deepest (body_of w (object_at w p j))) status.OutOfRange
+    ∷ answer_if (is_dead (body_of w (object_at w p j))) status.BadState
+    ∷ answer_if (not (has_room w p 1 && has_koids w 1)) status.NoResources
+    ∷ []
 
 -- ---- the handles that it makes
 
@@ -160,6 +168,7 @@ new_handles w p chan_create = new_entry w.next_koid kind.Channel ∷ new_entry (
 new_handles w p (chan_read_etc c address room places) = first_handles (queue_at w p c)
 new_handles w p event_create = new_entry w.next_koid kind.Event ∷ []
 new_handles w p port_create = new_entry w.next_koid kind.Port ∷ []
+new_handles w p (job_create j) = new_entry w.next_koid kind.Job ∷ []
 new_handles w p _ = []
 
 -- the process whose table new handles enter; the caller's, at each call of today
@@ -202,6 +211,7 @@ effect lib w taken p (port_poll port) = on_object taken (object_at w p port) pac
 effect lib w taken p (port_cancel port source key) =
     on_object (without_keyed taken p source (object_at w p port) key) (object_at w p port) (packets_cancelled (source_at w p source) key)
 effect lib w taken p (process_exit code) = taken
+effect lib w taken p (job_create j) = with_object taken (job_within (object_at w p j) (body_of w (object_at w p j)))
 
 -- the bytes that the call stores in its caller's memory, and the address of the first
 abbrev pub stored_by : World → ℕ → Request → ℕ × List ℕ

@@ -14,7 +14,7 @@ pub use Rattle.zl_calls.specs.World.{IsPlaceOf, call_for, call_in, is_ready_in, 
 pub use Rattle.zl_calls.specs.Acting.{DoesNext, IsActed}
 pub use Rattle.zl_calls.specs.Blocked.{AreBlocked, IsWhole}
 pub use Rattle.zl_calls.specs.calls.Answer.{unbuilt, Action, Does, IsAnswered, IsRefusedBy, Replies, answers, exits, has_room_in, no_value, one_value, status_of, told_by, values_of}
-pub use Rattle.zl_code.specs.Effects.{may_get_all, new_entry, object_changed, signed_word}
+pub use Rattle.zl_code.specs.Effects.{may_get_all, new_entry, object_changed, signed_word, with_process}
 unfoldable pub use Rattle.zl_code.specs.Effects.{on_object}
 pub use Rattle.zl_code.specs.Tests.{faults, koid_in, may_change, parent_of, policy_in, settable_of}
 pub use Rattle.zl_rights.specs.Counts.{queued_to}
@@ -30,6 +30,6 @@ pub use Rattle.zl_calls.specs.Program.{program_value}
 pub use Rattle.zl_calls.specs.Steps.{Performs, StepsTo, TakesStep, takes_memory}
 pub use Rattle.zl_calls.specs.calls.Process.{Drained, Ends}
 pub use Rattle.zl_code.proofs.Common.{World}
-pub use Rattle.zl_code.specs.Boot.{MOST_GRANTS, MOST_KOIDS, MOST_PROCESSES, all_known, handle_given, handles_given, is_job, may_start_with, process_with_all, rights_given, started_process, with_process}
+pub use Rattle.zl_code.specs.Boot.{MOST_GRANTS, MOST_KOIDS, MOST_PROCESSES, all_known, handle_given, handles_given, is_job, may_start_with, process_with_all, rights_given, started_process}
 pub use Rattle.zl_rights.specs.Settle.{IsHeld, names, state_without}
 pub use Rattle.zl_rights.specs.Signals.{is_job_below, is_process_of}

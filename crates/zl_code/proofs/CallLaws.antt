@@ -1,5 +1,5 @@
 -- What each call says where it isn't refused: its new handles have room, and it is made of these changes.
-use Rattle.zl_code.proofs.Common.{◌<◌, All, Body, Bool, ChannelEnd, EventBody, HandlesAreNamed, HandlesAreSound, IsSound, IsTrue, Library, List, Map, None, Object, Option, PortBody, Process, Ready, Request, SIGNAL, Some, World, [], and_from, and_parts, answer_if, ap, arith, bits, by_look_up, cases_Bool, chan_create, chan_read_etc, chan_write, copy_of, default_rights_of, dup, effect, entry_at, eq-eqb, event_create, examined, false, first_some, get, handle_operands, handles_in, handles_to, has_key, has_koids, has_room, inl, inr, insert_all, is_some, kind_of, queue_of, leb-true, length, listed, may_choose, may_get, may_get_all, nat_le, new_handles, none-some, not, object_at, on_object, operand, raisable, refl, refusal, remove_all, replace, rights_of, row_of, runs, same_Some, signal, subst, sym, taken_handles, true, with_effect, with_object, within, without, ℕ, ◌+◌, ◌&&◌, ◌^◌, ◌||◌, ◌∙◌, ◌∷◌, ◌≡◌, ◌≤◌, ⊤, not-false, or_parts, Packet, settable_of, by_policy, new_entry, object_changed, gets_all, true≢false, false≢true, body_in, body_of, HasPeer, IsSoundWait, is_port_there, is_empty, slice_index_or, eqb-true, on_process, ◌==◌, drop, filter, is_end_if_there, takes, ◌++◌, if◌then◌else◌, Ok, Err}
+use Rattle.zl_code.proofs.Common.{JobBody, ProcessBody, is_job_body, created_process, with_process, get-put, ne_eqb, ◌<◌, All, Body, Bool, ChannelEnd, EventBody, HandlesAreNamed, HandlesAreSound, IsSound, IsTrue, Library, List, Map, None, Object, Option, PortBody, Process, Ready, Request, SIGNAL, Some, World, [], and_from, and_parts, answer_if, ap, arith, bits, by_look_up, cases_Bool, chan_create, chan_read_etc, chan_write, copy_of, default_rights_of, dup, effect, entry_at, eq-eqb, event_create, examined, false, first_some, get, handle_operands, handles_in, handles_to, has_key, has_koids, has_room, inl, inr, insert_all, is_some, kind_of, queue_of, leb-true, length, listed, may_choose, may_get, may_get_all, nat_le, new_handles, none-some, not, object_at, on_object, operand, raisable, refl, refusal, remove_all, replace, rights_of, row_of, runs, same_Some, signal, subst, sym, taken_handles, true, with_effect, with_object, within, without, ℕ, ◌+◌, ◌&&◌, ◌^◌, ◌||◌, ◌∙◌, ◌∷◌, ◌≡◌, ◌≤◌, ⊤, not-false, or_parts, Packet, settable_of, by_policy, new_entry, object_changed, gets_all, true≢false, false≢true, body_in, body_of, HasPeer, IsSoundWait, is_port_there, is_empty, slice_index_or, eqb-true, on_process, ◌==◌, drop, filter, is_end_if_there, takes, ◌++◌, if◌then◌else◌, Ok, Err}
 use Rattle.zl_rights.specs.declared.kind.Kind.TheVariants as kind
 use Rattle.zl_rights.specs.declared.entry.Entry.{Entry}
 use Rattle.zl_rights.specs.declared.status.Status.{Status}
@@ -8,9 +8,9 @@ use Rattle.zl_rights.specs.LookUp.{granted}
 use Rattle.zl_rights.proofs.Narrowed.{narrowed_within}
 use Rattle.zl_code.specs.declared.history.Outcome.{Outcome}
 use Rattle.zl_rights.specs.declared.kind.Kind.{Kind}
-use Rattle.zl_rights.specs.Numbers.{SIGNAL_PEER, USER_SIGNALS, WAIT, WRITE}
+use Rattle.zl_rights.specs.Numbers.{MANAGE_PROCESS, SIGNAL_PEER, USER_SIGNALS, WAIT, WRITE}
 use Rattle.zl_rights.specs.Packets.{is_from, user_packet}
-use Rattle.zl_code.specs.CallTable.{choosing, signal_peer, wait_async, port_create, port_queue, port_wait, port_poll, port_cancel, job_create}
+use Rattle.zl_code.specs.CallTable.{choosing, signal_peer, wait_async, port_create, port_queue, port_wait, port_poll, port_cancel, process_create, job_create}
 use Rattle.zl_code.specs.Jobs.{job_within}
 use Rattle.zl_code.specs.Waiting.{source_at, wait_of, registered, without_keyed, is_by_handle}
 use Rattle.zl_rights.specs.World.{Wait}
@@ -20,7 +20,7 @@ use Rattle.zl_code.specs.Effects.{message_read, storing, without_waits}
 use Rattle.zl_code.specs.Local.{overwritten}
 use Rattle.zl_code.specs.Tests.{operand_of, koid_in, entries_at, first_bytes, first_handles, peer_at, peer_in, queue_at}
 use Rattle.zl_code.proofs.MapKept.{changed}
-use Rattle.zl_code.proofs.Changes.{AreUnmade, computes, message_comes, message_goes, signals_change, Changes, stays, changes, join, one, object_changes, object_is_made, ends_are_made, packets_are_changed, process_changes, wait_begins, keyed_end, waits_end}
+use Rattle.zl_code.proofs.Changes.{AreUnmade, process_is_made, computes, message_comes, message_goes, signals_change, Changes, stays, changes, join, one, object_changes, object_is_made, ends_are_made, packets_are_changed, process_changes, wait_begins, keyed_end, waits_end}
 use Rattle.zl_code.specs.Refusals.{condition_of}
 use Rattle.zl_code.proofs.Entering.{IsFine, HaveRoom, MayTake, IsLeft, all_enter, get_without, gone_without, copy_is_fine, one_copy, entry_is_fine, length_without, new_is_fine, removed_last}
 use Rattle.zl_code.proofs.Messages.{may_be_sent, received_are_fine, two_entries, both_are_fine}
@@ -163,7 +163,7 @@ module _ (lib : Library) (w : World) (p : ℕ) (q : Process) (there : get w.proc
     -- the new handles enter, in a world whose processes are those of u
     enter : (v : World) → v.processes ≡ u.processes → MayTake w v.waits p after → (es : List Entry) (vs : List ℕ) → (IsSound w → HaveRoom after es) → IsTrue (may_get_all after es vs) → All (IsFine w v.objects) es → Changes w v (insert_all v p es vs)
     enter v same may es vs room gets fine =
-        all_enter w v p after es vs (ap (λ m. get m p) same ∙ left.is_there) (ap runs (left.state ∙ ready)) gets room may fine
+        all_enter w v p after es vs (λ s. ap (λ m. get m p) same ∙ left.is_there) (ap runs (left.state ∙ ready)) gets room may fine
 
     -- the values that were chosen
     chosen : (es : List Entry) (vs : List ℕ) → IsTrue (gets_all (get u.processes p) es vs) → IsTrue (may_get_all after es vs)
@@ -231,11 +231,17 @@ module _ (lib : Library) (w : World) (p : ℕ) (q : Process) (there : get w.proc
         | inr other ↦ other
       ]
 
+  -- a call that takes no handle away leaves the table as it was
+  none_left : (hs : List ℕ) → hs ≡ [] → (after : Process) → IsLeft w (remove_all w p hs) p q after → after ≡ q
+  unfolding remove_all
+  none_left [] none after left = same_Some after q (sym left.is_there ∙ there)
+  none_left (h ∷ hs) none after left = absurd (false≢true (ap is_empty none))
+
   -- handles may enter where the call takes none away
   may_take : (hs : List ℕ) → hs ≡ [] → (after : Process) → IsLeft w (remove_all w p hs) p q after → MayTake w (remove_all w p hs).waits p after
   unfolding remove_all
   may_take [] none after left =
-      let same : after ≡ q = same_Some after q (sym left.is_there ∙ there) in
+      let same = none_left [] refl after left in
       record { free = λ s v free. unmade s v (rw same at free); last = λ s v is. rw same ((s.tables p q there).free v (rw same at is)).1 }
   may_take (h ∷ hs) none after left = absurd (false≢true (ap is_empty none))
 
@@ -260,6 +266,54 @@ module _ (lib : Library) (w : World) (p : ℕ) (q : Process) (there : get w.proc
     where
       u : World
       u = remove_all w p (h ∷ [])
+
+  -- the job in which a process is to be is one
+  has_job : (job program : ℕ) → refusal lib w p (process_create job program) ≡ None → IsGranted (kind.Job ∷ []) MANAGE_PROCESS (entry_at w p job)
+  unfolding row_of refusal handle_operands examined operand
+  has_job job program passes = is_granted w p (kind.Job ∷ []) MANAGE_PROCESS (entry_at w p job) (first_is_none _ _ (first_is_none _ _ passes))
+
+  job_there : (b : Body) → IsTrue (takes (kind.Job ∷ []) (kind_of b)) → IsTrue (is_job_body (Some b))
+  job_there (JobBody parent depth policy killed) fits = refl
+  job_there _ fits = absurd (false≢true fits)
+
+  -- a process is made, and the first handle to it
+  process_made : (job program : ℕ) (vs : List ℕ) → refusal lib w p (process_create job program) ≡ None → HaveRoom q (new_entry w.next_koid kind.Process ∷ [])
+      → IsTrue (gets_all (get (left_by (process_create job program)).processes p) (new_entry w.next_koid kind.Process ∷ []) vs)
+      → Changes w (left_by (process_create job program)) (insert_all (with_process (with_object (left_by (process_create job program)) (ProcessBody (object_at w p job))) w.next_koid (created_process lib program)) p (new_entry w.next_koid kind.Process ∷ []) vs)
+  unfolding taken_handles handle_operands row_of remove_all with_object
+  process_made job program vs passes room gets =
+      changes w made _ (object_is_made w w (ProcessBody (object_at w p job)) refl tt)
+      (changes made begun _ (process_is_made w made w.next_koid (created_process lib program) (record {
+        free = λ s. no_process s (get w.processes w.next_koid) refl;
+        given = omega arith;
+        empty = refl;
+        nothing_last = refl;
+        object = λ s. (object_at w p job, rw (get-put w.objects w.next_koid new_object w.next_koid, eq-eqb w.next_koid w.next_koid refl) refl, in_job s);
+      }) refl)
+      (all_enter w begun p q (new_entry w.next_koid kind.Process ∷ []) vs (λ s. get-put w.processes w.next_koid (created_process lib program) p ∙ rw (ne_eqb w.next_koid p (λ e. apart s e)) there) (ap runs ready) (rw there at gets) (λ s. room)
+      (record { free = λ s v none. unmade s v none; last = λ s v is. ((s.tables p q there).free v is).1 }) (new_is_fine w w (ProcessBody (object_at w p job)) w.next_koid refl)))
+    where
+      made : World
+      made = with_object w (ProcessBody (object_at w p job))
+
+      new_object : Object
+      new_object = record { body = ProcessBody (object_at w p job); raised = 0 }
+
+      begun : World
+      begun = with_process made w.next_koid (created_process lib program)
+
+      no_process : IsSound w → (o : Option Process) → get w.processes w.next_koid ≡ o → o ≡ None
+      no_process s None is = refl
+      no_process s (Some x) is = let below : w.next_koid < w.next_koid = s.processes w.next_koid (ap is_some is) in absurd (omega arith)
+
+      apart : IsSound w → w.next_koid ≡ p → ⊥
+      apart s e = let below : p < w.next_koid = s.processes p (ap is_some there) in omega (arith, e, below)
+
+      in_job : IsSound w → IsTrue (is_job_body (body_in (get made.objects (object_at w p job))))
+      in_job s =
+          let (o, at, fits) = named_object w p job (kind.Job ∷ []) MANAGE_PROCESS (has_job job program passes) s.named in
+          let below : object_at w p job < w.next_koid = s.objects.below (object_at w p job) (ap is_some at) in
+          rw (get-put w.objects w.next_koid new_object (object_at w p job), ne_eqb w.next_koid (object_at w p job) (λ e. omega (arith, e, below)), at) (job_there o.body fits)
 
   -- the port that a wait names is there
   has_port : (h port key mask : ℕ) → refusal lib w p (wait_async h port key mask) ≡ None → IsGranted (kind.Port ∷ []) WRITE (entry_at w p port)
@@ -348,6 +402,12 @@ module _ (lib : Library) (w : World) (p : ℕ) (q : Process) (there : get w.proc
         changes = λ vs gets. changes u (without_keyed u p source k key) _ (keyed_end w u p source k key)
             (one w (without_keyed u p source k key) _ (packets_are_changed w (without_keyed u p source k key) k (filter (λ x. not (is_from (source_at w p source) key x)))));
       }
+  laws (process_create job program) after left passes =
+      let u = left_by (process_create job program) in
+      let some_room = room_and w p 1 (has_koids w 1) (listed_none lib w p (process_create job program) passes).1.1.1.0 in
+      let room = room_for u after left 1 (new_entry w.next_koid kind.Process ∷ []) some_room (omega arith) in
+      let same : after ≡ q = none_left (taken_handles (process_create job program)) refl after left in
+      record { room = room; changes = λ vs gets. process_made job program vs passes (subst (λ (x : Process). HaveRoom x (new_entry w.next_koid kind.Process ∷ [])) same room) gets }
   laws (job_create j) after left passes =
       let u = left_by (job_create j) in
       let some_room = room_and w p 1 (has_koids w 1) (listed_none lib w p (job_create j) passes).1.1.0 in

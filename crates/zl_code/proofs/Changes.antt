@@ -28,9 +28,9 @@ pub data WaitsChange (start w w2 : World) : Type 0 where
 
 -- e may enter the table of x, the process p, at the value v; after is the world in which it stands there
 pub record MayEnter (start after : World) (p : ℕ) (x : Process) (v : ℕ) (e : Entry) : Type 0 where
-  pub value : IsTrue (may_get x v)
+  pub value : IsSound start → IsTrue (may_get x v)
   pub room : IsSound start → length x.handles < 1024
-  pub running : IsTrue (runs x.state)
+  pub running : IsSound start → IsTrue (runs x.state)
   pub unmade : IsSound start → AreUnmade after.waits p v
   pub rights : HandlesAreSound start → IsTrue (has_default_rights e)
   pub names : HandlesAreNamed start → names_its_object after.objects e

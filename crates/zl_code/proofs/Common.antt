@@ -6,8 +6,8 @@ unfoldable pub use Rattle.zl_code.specs.Common.{boot_effect, boot_fault, call_pa
 pub use Rattle.std.proofs.Common.{MatchResult, T, add-zero, max, min, slice_index_or}
 pub use Rattle.std.proofs.lemmas.Bool.{le-ltb, ltb-false, not-false, or_parts}
 pub use Rattle.std.proofs.lemmas.List.{drop-drop, drop_all, get_or-take, get_or_past, map_more, take_rest}
-pub use Rattle.zl_code.specs.Boot.{IsBooted, MOST_GRANTS, MOST_KOIDS, MOST_PROCESSES, all_known, gives_no_handle, handle_given, handles_given, is_job, may_start_with, process_with_all, started_process, values_given, with_process}
-pub use Rattle.zl_code.specs.Effects.{gets_all, may_get_after, may_get_all, new_entry, object_changed, process_ended}
+pub use Rattle.zl_code.specs.Boot.{IsBooted, MOST_GRANTS, MOST_KOIDS, MOST_PROCESSES, all_known, gives_no_handle, handle_given, handles_given, is_job, may_start_with, process_with_all, started_process, values_given}
+pub use Rattle.zl_code.specs.Effects.{gets_all, may_get_after, may_get_all, new_entry, object_changed, process_ended, with_process}
 unfoldable pub use Rattle.zl_code.specs.Effects.{on_object}
 pub use Rattle.zl_code.specs.Sound.{HasItsObject, HasPeer, IsSoundTable, IsSoundWait, KeepsProcesses, is_blocked, is_end_if_there, is_port_there, is_value}
 pub use Rattle.zl_code.specs.Spells.{Last, Numbers, Parts, Places, Room, allows, are_parts_in_range, are_places, ascend_from, code_pieces, count_at, ending_bytes, fault_by, has_length, has_rights, header, is_32_bits, is_call_in_range, is_ending_clear, is_header_in_range, is_last_in_range, is_local_in_range, is_needs_byte, is_packed, is_raw_at, is_room, is_unused_zero, kind_at, kind_byte, last_bytes, length_at, magic, names_registers, parts_bytes, registers_at, rights_allowed, slot_pieces, slots_at, start_pieces, starts_at}

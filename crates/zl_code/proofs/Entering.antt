@@ -87,7 +87,7 @@ changed_table : (w : World) (p : ℕ) (q : Process) (f : Process → Process) �
 unfolding on_process
 changed_table w p q f there = get-update w.processes p f p ∙ rw (eq-eqb p p refl, there) refl
 
-pub all_enter : (start u : World) (p : ℕ) (q : Process) (es : List Entry) (vs : List ℕ) → get u.processes p ≡ Some q → IsTrue (runs q.state) → IsTrue (may_get_all q es vs)
+pub all_enter : (start u : World) (p : ℕ) (q : Process) (es : List Entry) (vs : List ℕ) → (IsSound start → get u.processes p ≡ Some q) → IsTrue (runs q.state) → IsTrue (may_get_all q es vs)
     → (IsSound start → HaveRoom q es) → MayTake start u.waits p q → All (IsFine start u.objects) es → Changes start u (insert_all u p es vs)
 unfolding insert_all on_process
 all_enter start u p q [] vs there running gets room may fine = stays u
@@ -96,10 +96,17 @@ all_enter start u p q (e ∷ es) (v ∷ vs) there running gets room may fine =
     let both = and_parts (may_get q v) (may_get_all (process_with v e q) es vs) gets in
     let longer : length (put q.handles v e) ≤ suc (length q.handles) = length_put q.handles v e in
     let head = All-head (IsFine start u.objects) e es fine in
-    let enters : MayEnter start (on_process u p (process_with v e)) p q v e = record { value = both.0; room = λ s. omega (arith, room s); running = running; unmade = λ s. may.free s v (unused_value s both.0); rights = head.rights; names = head.names } in
+    let enters : (x : Process) → get u.processes p ≡ Some x → MayEnter start (on_process u p (process_with v e)) p x v e = λ x at. record {
+      value = λ s. subst (λ (y : Process). IsTrue (may_get y v)) (same_Some q x (sym (there s) ∙ at)) both.0;
+      room = λ s. subst (λ (y : Process). length y.handles < 1024) (same_Some q x (sym (there s) ∙ at)) (omega (arith, room s));
+      running = λ s. subst (λ (y : Process). IsTrue (runs y.state)) (same_Some q x (sym (there s) ∙ at)) running;
+      unmade = λ s. may.free s v (unused_value s both.0);
+      rights = head.rights;
+      names = head.names;
+    } in
     changes u (on_process u p (process_with v e)) _
-    (process_changes start u p (process_with v e) (λ x at. changed x _ refl refl (handle_enters v e refl (subst (λ (y : Process). MayEnter start (on_process u p (process_with v e)) p y v e) (same_Some q x (sym there ∙ at)) enters))) (λ x. refl))
-    (all_enter start (on_process u p (process_with v e)) p (process_with v e q) es vs (changed_table u p q (process_with v e) there) running both.1 (λ s. omega (arith, room s, longer)) (record { free = λ s j none. may.free s j (free_before j none); last = λ s j is. absurd (none-some j is) }) (All-tail (IsFine start u.objects) e es fine))
+    (process_changes start u p (process_with v e) (λ x at. changed x _ refl refl (handle_enters v e refl (enters x at))) (λ x. refl))
+    (all_enter start (on_process u p (process_with v e)) p (process_with v e q) es vs (λ s. changed_table u p q (process_with v e) (there s)) running both.1 (λ s. omega (arith, room s, longer)) (record { free = λ s j none. may.free s j (free_before j none); last = λ s j is. absurd (none-some j is) }) (All-tail (IsFine start u.objects) e es fine))
   where
     -- what is free after v was taken was free before
     free_before : (j : ℕ) → has_key (put q.handles v e) j ≡ false → has_key q.handles j ≡ false

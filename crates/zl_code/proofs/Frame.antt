@@ -1,12 +1,12 @@
 -- The step of a process leaves the others alone, keeps what their tables name, and changes no policy.
-use Rattle.zl_code.proofs.Common.{◌≡◌, ◌<◌, ◌≤◌, arith, inl, inr, ℕ, Bool, true, false, ◌==◌, List, [], ◌∷◌, refl, ap, sym, subst, ◌∙◌, Option, Some, None, if◌then◌else◌, option_map, cases_Bool, eqb-true, is_some, none-some, same_Some, meets, fold, Map, get, World, Process, State, Created, Ready, Blocked, Gone, Ended, Object, Body, PortBody, process_settled, state_without, Settles, without_others, wakes, fired, answered, active, packet_values, with_body, woken_if_there, woken_from, woken_at_port, woken_by, woken_by_first, Awaited, SignalOf, PacketAt, Packet, Library, Site, Request, Choice, Refused, WantsMemory, Values, CallBy, after_refusal, after_ok, ok_outcome, taken, taken_handles, with_effect, effect, close, replied, on_process, on_object, with_object, insert_all, remove_all, process_with, process_without, process_ended, ended, Next, Moves, AtCall, IsStuck, Acts, Step, next_for, HasGivenKoids, IsSound, get-update, get-put, get-each, get-where_key-in, get-where_key-out, where_key, ChannelEnd}
+use Rattle.zl_code.proofs.Common.{ne_eqb, created_process, ◌≡◌, ◌<◌, ◌≤◌, arith, inl, inr, ℕ, Bool, true, false, ◌==◌, List, [], ◌∷◌, refl, ap, sym, subst, ◌∙◌, Option, Some, None, if◌then◌else◌, option_map, cases_Bool, eqb-true, is_some, none-some, same_Some, meets, fold, Map, get, World, Process, State, Created, Ready, Blocked, Gone, Ended, Object, Body, PortBody, process_settled, state_without, Settles, without_others, wakes, fired, answered, active, packet_values, with_body, woken_if_there, woken_from, woken_at_port, woken_by, woken_by_first, Awaited, SignalOf, PacketAt, Packet, Library, Site, Request, Choice, Refused, WantsMemory, Values, CallBy, after_refusal, after_ok, ok_outcome, taken, taken_handles, with_effect, effect, replied, on_process, on_object, with_object, insert_all, remove_all, process_with, process_without, process_ended, ended, Next, Moves, AtCall, IsStuck, Acts, Step, next_for, HasGivenKoids, IsSound, get-update, get-put, get-each, get-where_key-in, get-where_key-out, where_key, ChannelEnd}
 use Rattle.zl_rights.specs.declared.entry.Entry.{Entry}
 use Rattle.zl_rights.specs.Wakes.{made_ready, woken}
 use Rattle.zl_rights.specs.declared.status.Status.TheVariants as status
 use Rattle.zl_code.specs.declared.history.Outcome.{Outcome}
 use Rattle.zl_code.specs.declared.history.Outcome.TheVariants as outcome
 use Rattle.zl_code.specs.declared.history.TraceItem.{TraceItem}
-use Rattle.zl_code.specs.CallTable.{awaited_by}
+use Rattle.zl_code.specs.CallTable.{awaited_by, process_create}
 use Rattle.zl_code.specs.Effects.{body_after_read, body_with_message, storing, waiting}
 use Rattle.zl_code.specs.Frame.{OthersMake, left_alone, woken as is_woken, dropped, LeavesOthers, policy_of}
 use Rattle.zl_code.proofs.Changes.{ObjectChange, signals_change, packets_change, message_comes, message_goes, Change, kept}
@@ -48,10 +48,10 @@ module _ (p q : ℕ) (apart : (p == q) ≡ false) where
   waiting_other w ds None = refl
   waiting_other w ds (Some awaited) = on_other w _
 
-  effect_other : (lib : Library) (w u : World) (request : Request) → Same (effect lib w u p request) u
+  effect_other : (lib : Library) (w u : World) (request : Request) → (w.next_koid == q) ≡ false → Same (effect lib w u p request) u
   unfolding effect with_object on_object
-  effect_other lib w u (close h) = refl
-  effect_other lib w u _ = refl
+  effect_other lib w u (process_create job program) old = get-put u.processes w.next_koid (created_process lib program) q ∙ rw old refl
+  effect_other lib w u _ old = refl
 
   replied_other : (w u : World) (s : Site) (answer : _) (values : List ℕ) → Same u w → Same (replied u p s answer values) w
   unfolding replied
@@ -62,26 +62,26 @@ module _ (p q : ℕ) (apart : (p == q) ≡ false) where
   refused_other w s (outcome.Ended code) = ended_other w code
   refused_other w s outcome.Blocked = refl
 
-  done_other : (lib : Library) (w : World) (s : Site) (vs : List ℕ) → Same (with_effect lib w (taken w p s) p s.request vs) w
-  done_other lib w s vs = stored_other _ _ ∙ (enter_other _ _ _ ∙ (effect_other lib w (taken w p s) s.request ∙ leave_other w (taken_handles s.request)))
+  done_other : (lib : Library) (w : World) (s : Site) (vs : List ℕ) → (w.next_koid == q) ≡ false → Same (with_effect lib w (taken w p s) p s.request vs) w
+  done_other lib w s vs old = stored_other _ _ ∙ (enter_other _ _ _ ∙ (effect_other lib w (taken w p s) s.request old ∙ leave_other w (taken_handles s.request)))
 
-  ok_other : (lib : Library) (w : World) (s : Site) (vs : List ℕ) (o : Outcome) → Same (after_ok lib w p s vs o) w
-  ok_other lib w s vs (outcome.Answered answer) = replied_other w _ s _ _ (done_other lib w s vs)
-  ok_other lib w s vs (outcome.Ended code) = ended_other _ code ∙ done_other lib w s vs
-  ok_other lib w s vs outcome.Blocked = waiting_other w s.destinations (awaited_by w p s.request)
+  ok_other : (lib : Library) (w : World) (s : Site) (vs : List ℕ) (o : Outcome) → (w.next_koid == q) ≡ false → Same (after_ok lib w p s vs o) w
+  ok_other lib w s vs (outcome.Answered answer) old = replied_other w _ s _ _ (done_other lib w s vs old)
+  ok_other lib w s vs (outcome.Ended code) old = ended_other _ code ∙ done_other lib w s vs old
+  ok_other lib w s vs outcome.Blocked old = waiting_other w s.destinations (awaited_by w p s.request)
 
-  call_other : (lib : Library) (w : World) (s : Site) (choice : Choice) (r : Option Outcome) (answer : Outcome) (w2 : World) → CallBy lib w p s choice r answer w2 → Same w2 w
-  call_other lib w s Refused None answer w2 c = absurd c
-  call_other lib w s Refused (Some o) answer w2 c = rw c.1 (refused_other w s o)
-  call_other lib w s WantsMemory None answer w2 c = rw c.2 (refused_other w s (outcome.Answered status.NoMemory))
-  call_other lib w s WantsMemory (Some o) answer w2 c = absurd c
-  call_other lib w s (Values vs) None answer w2 c = rw c.2 (ok_other lib w s vs (ok_outcome w p s.request))
-  call_other lib w s (Values vs) (Some o) answer w2 c = absurd c
+  call_other : (lib : Library) (w : World) (s : Site) (choice : Choice) (r : Option Outcome) (answer : Outcome) (w2 : World) → (w.next_koid == q) ≡ false → CallBy lib w p s choice r answer w2 → Same w2 w
+  call_other lib w s Refused None answer w2 old c = absurd c
+  call_other lib w s Refused (Some o) answer w2 old c = rw c.1 (refused_other w s o)
+  call_other lib w s WantsMemory None answer w2 old c = rw c.2 (refused_other w s (outcome.Answered status.NoMemory))
+  call_other lib w s WantsMemory (Some o) answer w2 old c = absurd c
+  call_other lib w s (Values vs) None answer w2 old c = rw c.2 (ok_other lib w s vs (ok_outcome w p s.request) old)
+  call_other lib w s (Values vs) (Some o) answer w2 old c = absurd c
 
-  act_other : (lib : Library) (w : World) (n : Next) (x : TraceItem) (w2 : World) → Acts lib w p n x w2 → Same w2 w
-  act_other lib w (Moves c) x w2 a = rw a.1 (on_other w _)
-  act_other lib w (AtCall call s) x w2 (o, e, c) = call_other lib w s c.0 _ o w2 c.1
-  act_other lib w IsStuck x w2 a = rw a.1 (ended_other w _)
+  act_other : (lib : Library) (w : World) (n : Next) (x : TraceItem) (w2 : World) → (w.next_koid == q) ≡ false → Acts lib w p n x w2 → Same w2 w
+  act_other lib w (Moves c) x w2 old a = rw a.1 (on_other w _)
+  act_other lib w (AtCall call s) x w2 old (o, e, c) = call_other lib w s c.0 _ o w2 old c.1
+  act_other lib w IsStuck x w2 old a = rw a.1 (ended_other w _)
 
 -- ---- what settling and waking do
 
@@ -191,11 +191,12 @@ waking_becomes : (q : ℕ) (x : Process) (w : World) → get w.processes q ≡ S
 unfolding wakes fired
 waking_becomes q x w there = turns_becomes q x (fired w) w.blocked there
 
-step_becomes : (lib : Library) (w : World) (p : ℕ) (item : TraceItem) (after : World) → Step lib w p item after → (q : ℕ) (x : Process) → (p == q) ≡ false → get w.processes q ≡ Some x → Becomes q x after
-step_becomes lib w p item after step q x apart there =
+step_becomes : (lib : Library) (w : World) (p : ℕ) (item : TraceItem) (after : World) → IsSound w → Step lib w p item after → (q : ℕ) (x : Process) → (p == q) ≡ false → get w.processes q ≡ Some x → Becomes q x after
+step_becomes lib w p item after sound step q x apart there =
+    let below : q < w.next_koid = sound.processes q (ap is_some there) in
     rw step.ends_awake
     (becomes_then q x step.settled _
-    (settled_becomes q x step.acted step.settled step.settles (act_other p q apart lib w (next_for lib step.process) item step.acted step.acts ∙ there))
+    (settled_becomes q x step.acted step.settled step.settles (act_other p q apart lib w (next_for lib step.process) item step.acted (ne_eqb w.next_koid q (λ e. omega (arith, e, below))) step.acts ∙ there))
     (λ y at. waking_becomes q y step.settled at))
 
 -- ---- what their tables name
@@ -252,9 +253,9 @@ policies_settled start u v (K, largest, is) s = rw is (record { grown = s.grown;
 
 pub step_leaves_others : (lib : Library) (w : World) (p : ℕ) (item : TraceItem) (after : World) → IsSound w → Step lib w p item after → LeavesOthers w p after
 step_leaves_others lib w p item after sound step = record {
-  processes = λ q x apart there living. let b = step_becomes lib w p item after step q x apart there in (b.process, b.there, b.made);
+  processes = λ q x apart there living. let b = step_becomes lib w p item after sound step q x apart there in (b.process, b.there, b.made);
   objects = λ q v x e apart there living at.
-      let b = step_becomes lib w p item after step q x apart there in
+      let b = step_becomes lib w p item after sound step q x apart there in
       (step_handles_named lib w p item after sound.objects sound.named step).tables q v b.process e b.there (ap (λ (m : Map Entry). get m v) (table_same x b.process b.made) ∙ at);
   policies = λ j o o2 has at at2. policies.same j o2 at2 o at;
 }

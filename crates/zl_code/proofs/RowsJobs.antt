@@ -1,20 +1,22 @@
 -- Each cause of the calls on jobs and processes, by computation in small worlds.
-use Rattle.zl_code.proofs.Common.{◌≡◌, ℕ, ◌+◌, ◌^◌, [], ◌∷◌, refl, Some, None, true, false, event_create, World, Map, Body, EventBody, JobBody, ProcessBody, Ready, body_of, Refused, WantsMemory, Values}
-use Rattle.zl_rights.specs.Numbers.{MANAGE_JOB, default_rights_of, condition_number}
+use Rattle.zl_code.proofs.Common.{◌≡◌, ℕ, ◌^◌, Bool, true, false, [], ◌∷◌, refl, replicate, Some, None, negsuc, get, Program, World, Map, Body, Created, Gone, JobBody, ProcessBody, body_of, close, refusal, Request, Library, Choice, WantsMemory, Values}
+use Rattle.zl_rights.specs.Numbers.{MANAGE_JOB, MANAGE_PROCESS, default_rights_of, condition_number}
 use Rattle.zl_rights.specs.declared.kind.Kind.TheVariants as kind
 use Rattle.zl_rights.specs.declared.status.Status.TheVariants as status
-use Rattle.zl_rights.specs.declared.entry.Entry.{Entry}
 use Rattle.zl_rights.specs.declared.policy.Action.{Action}
 use Rattle.zl_rights.specs.declared.policy.Action.TheVariants as action
+use Rattle.zl_rights.specs.declared.policy.Condition.{Condition}
 use Rattle.zl_rights.specs.declared.policy.Condition.TheVariants as condition
+use Rattle.zl_code.specs.declared.history.CallName.{CallName}
 use Rattle.zl_code.specs.declared.history.CallName.TheVariants as name
+use Rattle.zl_code.specs.declared.history.Outcome.{Outcome}
 use Rattle.zl_code.specs.declared.history.Outcome.TheVariants as outcome
 use Rattle.zl_code.specs.declared.history.TraceItem.TheVariants as item
-use Rattle.zl_code.specs.CallTable.{job_create}
+use Rattle.zl_code.specs.CallTable.{job_create, process_create}
 use Rattle.zl_code.specs.Request.{Site, site}
 use Rattle.zl_code.specs.Tests.{entry_at}
-use Rattle.zl_code.proofs.Running.{computing}
-use Rattle.zl_code.proofs.RowsWords.{Refuses, Passes, world_of, process_of, entry_of, event_with, job_with, FIRST_RIGHTS, times, told, item_of, after, turn_of}
+use Rattle.zl_code.proofs.Running.{Acted, call_by, computing, settle_by}
+use Rattle.zl_code.proofs.RowsWords.{Refuses, Passes, world_of, process_of, entry_of, event_with, job_with, FIRST_RIGHTS, times, told, after, state_of, turn_of}
 
 -- ---- the words of the rows
 
@@ -84,3 +86,98 @@ rows_of_job_create_2 :
     × (entry_at with_child 2 8 ≡ Some (entry_of kind.Job 5 JOB_RIGHTS))
 unfolding computing
 rows_of_job_create_2 = (refl, refl)
+
+-- ---- process_create
+
+-- program 0 is raw, program 1 checked; both of them need to make events
+abbrev library : Library
+library = program_that false ∷ program_that true ∷ []
+  where
+    program_that : Bool → Program
+    program_that checked =
+        record { checked = checked; image = record { raw = true; memory = 3; budget = 1; needs = condition.NewEvent ∷ []; starts = []; slots = []; code = [] } }
+
+-- process 2 of the world is refused so, where these programs are there
+abbrev RefusesIn : World → Request → Outcome → Type 0
+RefusesIn w request answer = refusal library w 2 request ≡ Some answer
+
+-- it isn't
+abbrev PassesIn : World → Request → Type 0
+PassesIn w request = refusal library w 2 request ≡ None
+
+-- process 2 does the call at these registers, where these programs are there
+abbrev turn_in : CallName → Site → World → Choice → Acted
+turn_in call s w choice = settle_by 4 (call_by library w 2 call s choice (refusal library w 2 s.request))
+
+-- by the handle at the value 7; the status goes to register 0, the new handle to register 2
+abbrev making : ℕ → Site
+making = λ program. site (process_create 7 program) [] (0 ∷ 2 ∷ [])
+
+-- process 2 in a job with this policy, with all rights to job 4, in which nothing is set
+abbrev caller_under : Condition → Action → World
+caller_under = λ c a. record (beside_job (JobBody 1 2 [] false)) {
+  objects =
+      (1, record { body = JobBody 0 1 ((condition_number c, a) ∷ []) false; raised = 0 })
+      ∷ (2, record { body = ProcessBody 1; raised = 0 })
+      ∷ (4, record { body = JobBody 1 2 [] false; raised = 0 })
+      ∷ [];
+}
+
+rows_of_process_create :
+    -- The value 5 isn't live.
+    (RefusesIn (beside_job (JobBody 1 2 [] false)) (process_create 5 0) (outcome.Answered status.BadHandle))
+    -- The handle names an event.
+    × (RefusesIn (world_of [] (process_of [] ((7, event_with FIRST_RIGHTS) ∷ []) None)) (process_create 7 0) (outcome.Answered status.WrongType))
+    -- The handle has no right to make processes.
+    × (RefusesIn (world_of [] (process_of [] ((7, job_with MANAGE_JOB) ∷ []) None)) (process_create 7 0) (outcome.Answered status.AccessDenied))
+    -- That right alone will do.
+    × (PassesIn (world_of [] (process_of [] ((7, job_with MANAGE_PROCESS) ∷ []) None)) (process_create 7 0))
+    -- The policy of the caller's job denies it, before anything that is listed.
+    × (RefusesIn (caller_under condition.NewProcess action.Deny) (process_create 7 2) (outcome.Answered status.AccessDenied))
+    -- Or it kills for it.
+    × (RefusesIn (caller_under condition.NewProcess action.Kill) (process_create 7 2) (outcome.Ended (negsuc 1025)))
+    -- There is no program 2, which comes before the dead job.
+    × (RefusesIn (beside_job (JobBody 1 2 [] true)) (process_create 7 2) (outcome.Answered status.InvalidArgs))
+    -- A dead job comes before its policy.
+    × (RefusesIn (beside_job (JobBody 1 2 denying true)) (process_create 7 1) (outcome.Answered status.BadState))
+    -- What the checked program needs is denied in the job, which comes before the koids.
+    × (RefusesIn (record (beside_job (JobBody 1 2 denying false)) { next_koid = 2 ^ 62 }) (process_create 7 1) (outcome.Answered status.NotSupported))
+    -- The needs of the raw program are ignored.
+    × (PassesIn (beside_job (JobBody 1 2 denying false)) (process_create 7 0))
+    -- The policy of the caller's own job doesn't decide what is needed.
+    × (PassesIn (caller_under condition.NewEvent action.Deny) (process_create 7 1))
+    -- No koid is left.
+    × (RefusesIn (record (beside_job (JobBody 1 2 [] false)) { next_koid = 2 ^ 62 }) (process_create 7 1) (outcome.Answered status.NoResources))
+    -- The table is full.
+    × (RefusesIn (world_of [] (process_of [] (times 1024 (job_with JOB_RIGHTS)) None)) (process_create 7 0) (outcome.Answered status.NoResources))
+    -- The new handle goes to its register.
+    × (told (turn_in name.ProcessCreate (making 0) (beside_job (JobBody 1 2 [] false)) (Values (8 ∷ [])))
+    ≡ Some (item.Call 2 name.ProcessCreate (outcome.Answered status.Ok), 0 ∷ 7 ∷ 8 ∷ 0 ∷ 0 ∷ 0 ∷ []))
+    -- It may want memory.
+    × (told (turn_in name.ProcessCreate (making 0) (beside_job (JobBody 1 2 [] false)) WantsMemory)
+    ≡ Some (item.Call 2 name.ProcessCreate (outcome.Answered status.NoMemory), 4 ∷ 7 ∷ 0 ∷ 0 ∷ 0 ∷ 0 ∷ []))
+unfolding computing
+rows_of_process_create = (refl, refl, refl, refl, refl, refl, refl, refl, refl, refl, refl, refl, refl, refl, refl)
+
+-- the world after it
+abbrev with_created : World
+with_created = after (beside_job (JobBody 1 2 [] false)) (turn_in name.ProcessCreate (making 1) (beside_job (JobBody 1 2 [] false)) (Values (8 ∷ [])))
+
+-- the world after its handle was closed
+abbrev dropped : World
+dropped = after with_created (turn_of 2 name.Close (site (close 8) [] (0 ∷ [])) with_created (Values []))
+
+rows_of_process_create_2 :
+    -- The new process stands in the job, and hasn't started.
+    (body_of with_created 5 ≡ Some (ProcessBody 4))
+    × (state_of with_created 5 ≡ Some Created)
+    -- It has the memory that its program asks for, and its registers are 0.
+    × (get with_created.processes 5
+    ≡ Some (record { program = 1; cpu = record { counter = 0; registers = replicate 32 0; memory = 0 ∷ 0 ∷ 0 ∷ []; slots = [] }; state = Created; handles = []; last = None }))
+    -- Its handle has the rights of a first handle.
+    × (entry_at with_created 2 8 ≡ Some (entry_of kind.Process 5 (default_rights_of kind.Process)))
+    -- Without a handle to it, it is gone.
+    × (state_of dropped 5 ≡ Some Gone)
+    × (body_of dropped 5 ≡ None)
+unfolding computing
+rows_of_process_create_2 = (refl, refl, refl, refl, refl, refl)

@@ -39,11 +39,11 @@ handle_in : (start after : World) (p : ℕ) (x : Process) (v : ℕ) (e : Entry) 
 handle_in start after p x v e s may t = record {
   few = let longer : length (put x.handles v e) ≤ suc (length x.handles) = length_put x.handles v e in omega (arith, may.room s);
   values = λ j h. elim (cases_Bool (v == j)) as (λ _. IsTrue (is_value j)) [
-    | inl here ↦ rw (← eqb-true v j here) (value_given x v t may.value).0
+    | inl here ↦ rw (← eqb-true v j here) (value_given x v t (may.value s)).0
     | inr other ↦ t.values j (rw (get-put x.handles v e j, other) at h)
   ];
   free = λ j h. absurd (none-some j h);
-  idle = λ h. absurd (true≢false (sym may.running ∙ h));
+  idle = λ h. absurd (true≢false (sym (may.running s) ∙ h));
 }
 
 handle_out : (x : Process) (v : ℕ) → has_key x.handles v ≡ true → IsSoundTable (runs x.state) x.handles x.last → IsSoundTable (runs x.state) (without x.handles v) (Some v)

@@ -157,7 +157,7 @@ boot_changes lib w (statement.Process job program word handles) vs given fine ma
       object = λ s. (job, rw (get-put w.objects w.next_koid new_object w.next_koid, eq-eqb w.next_koid w.next_koid refl) refl, rw same_job can.in_job);
     }) refl)
     (subst (λ (x : World). Changes w begun x) (made_with_all made w.next_koid first es vs ∙ ap (with_process made w.next_koid) (started_with_all es vs vs word (created_process lib program)))
-    (all_enter w begun w.next_koid first es vs there refl (rw (started_may_get es vs vs word (created_process lib program)) may) (λ s. omega (arith, can.few, handles_at_most w.objects handles)) (record { free = λ s v none. nothing_made w w.next_koid v s (no_process s (get w.processes w.next_koid) refl); last = λ s v is. absurd (none-some v is) })
+    (all_enter w begun w.next_koid first es vs (λ s. there) refl (rw (started_may_get es vs vs word (created_process lib program)) may) (λ s. omega (arith, can.few, handles_at_most w.objects handles)) (record { free = λ s v none. nothing_made w w.next_koid v s (no_process s (get w.processes w.next_koid) refl); last = λ s v is. absurd (none-some v is) })
     (given_are_fine w made.objects handles (λ k o at. stays k (rw at refl) ∙ at) can.rights))))
   where
     made : World

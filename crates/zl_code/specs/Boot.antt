@@ -3,7 +3,7 @@ use Rattle.std.specs.Prelude.{ℕ, ◌+◌, ◌≡◌, ◌<◌, ◌≤◌, Bool,
 use Rattle.std.specs.Bool.{then_some}
 use Rattle.std.specs.List.{list_all}
 use Rattle.std.specs.Option.{option_to_list}
-use Rattle.zl_rights.specs.Common.{rights_of, default_rights_of, Map, get, put, has_key, World, Process, Object, Body, JobBody, ProcessBody, ChannelEnd, EventBody, PortBody, kind_of, is_empty, Settles}
+use Rattle.zl_rights.specs.Common.{rights_of, default_rights_of, Map, get, has_key, World, Process, Object, Body, JobBody, ProcessBody, ChannelEnd, EventBody, PortBody, kind_of, is_empty, Settles}
 use Rattle.zl_rights.specs.declared.kind.Kind.{Kind}
 use Rattle.zl_code.specs.First.{first_some}
 use Rattle.zl_rights.specs.declared.entry.Entry.{Entry}
@@ -15,7 +15,7 @@ use Rattle.zl_code.specs.declared.boot.BootCause.TheVariants as cause
 use Rattle.zl_code.specs.Image.{Library}
 use Rattle.zl_code.specs.Tests.{body_in, body_of}
 use Rattle.zl_code.specs.Handles.{has_default_rights}
-use Rattle.zl_code.specs.Effects.{with_object, process_with, may_get_all}
+use Rattle.zl_code.specs.Effects.{with_object, with_process, process_with, may_get_all}
 use Rattle.zl_code.specs.Starting.{created_process, started_with}
 
 -- ---- limits
@@ -111,10 +111,6 @@ process_with_all (e ∷ es) (v ∷ vs) q = process_with_all es vs (process_with 
 -- a ready process that runs the program, with the handles at these values, and with the word
 abbrev pub started_process : Library → ℕ → List Entry → List ℕ → ℕ → Process
 started_process lib program es vs word = started_with vs word (process_with_all es vs (created_process lib program))
-
--- the world with the process k
-abbrev pub with_process : World → ℕ → Process → World
-with_process w k process = record w { processes = put w.processes k process }
 
 -- the world after the statement, where its handles get the values vs
 unfoldable pub boot_effect : Library → World → Statement → List ℕ → World

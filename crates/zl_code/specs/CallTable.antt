@@ -1,6 +1,6 @@
 -- The table of calls, column by column: all that the definitions say of one call alone, beside its row of the table of instructions.
-use Rattle.std.specs.Prelude.{ℕ, ◌+◌, ◌^◌, ◌&&◌, ◌||◌, not, nat_le, List, [], ◌∷◌, ◌++◌, length, Option, Some, None}
-use Rattle.zl_rights.specs.Common.{World, ChannelEnd, EventBody, PortBody, has_key, is_empty}
+use Rattle.std.specs.Prelude.{ℕ, ◌+◌, ◌^◌, ◌&&◌, ◌||◌, not, nat_le, List, [], ◌∷◌, ◌++◌, length, Option, Some, None, is_some, slice_get}
+use Rattle.zl_rights.specs.Common.{World, ChannelEnd, EventBody, PortBody, ProcessBody, has_key, is_empty}
 use Rattle.zl_rights.specs.declared.kind.Kind.TheVariants as kind
 use Rattle.zl_rights.specs.declared.status.Status.{Status}
 use Rattle.zl_rights.specs.declared.status.Status.TheVariants as status
@@ -13,8 +13,9 @@ use Rattle.zl_code.specs.declared.history.Outcome.{Outcome}
 use Rattle.zl_code.specs.declared.history.Outcome.TheVariants as outcome
 use Rattle.zl_code.specs.Image.{Library}
 use Rattle.zl_code.specs.Tests.{answer_if, entry_at, object_at, body_of, may_change, has_room, has_koids, copy_of, contains, is_too_large, has_place_for, peer_at, queue_at, first_bytes, first_handles, sizes_of, entries_at}
-use Rattle.zl_code.specs.Effects.{on_object, with_object, new_entry, object_changed, message_sent, message_read, told_of, without_waits, signed_word}
-use Rattle.zl_code.specs.Jobs.{is_dead, is_deepest, job_within}
+use Rattle.zl_code.specs.Effects.{on_object, with_object, with_process, new_entry, object_changed, message_sent, message_read, told_of, without_waits, signed_word}
+use Rattle.zl_code.specs.Starting.{created_process}
+use Rattle.zl_code.specs.Jobs.{is_dead, is_deepest, job_within, lacks_need}
 use Rattle.zl_code.specs.Waiting.{is_mask, active_at, is_active_at, signal_awaited, may_register, wait_of, registered, without_keyed, packets_at, is_full, packet_awaited, first_values, source_at, is_cancelled, packet_queued, packet_taken, packets_cancelled}
 
 -- ---- what it asks for
@@ -41,6 +42,8 @@ pub data Request : Type 0 where
   port_poll : (port : ℕ) → Request
   -- the packets are those that came by the handle source
   port_cancel : (port source key : ℕ) → Request
+  -- a process in the job that is to run the program with this number
+  process_create : (job program : ℕ) → Request
   process_exit : (code : ℕ) → Request
   job_create : (j : ℕ) → Request
 
@@ -83,6 +86,7 @@ asks (port_queue port key value) = (77, port ∷ [])
 asks (port_wait port) = (78, port ∷ [])
 asks (port_poll port) = (79, port ∷ [])
 asks (port_cancel port source key) = (80, port ∷ source ∷ [])
+asks (process_create job program) = (81, job ∷ [])
 asks (process_exit code) = (83, [])
 asks (job_create j) = (85, j ∷ [])
 
@@ -151,6 +155,12 @@ listed lib w p (port_poll port) =
 listed lib w p (port_cancel port source key) =
     answer_if (not (is_cancelled w p port source key)) status.NotFound
     ∷ []
+listed lib w p (process_create job program) =
+    answer_if (not (is_some (slice_get lib program))) status.InvalidArgs
+    ∷ answer_if (is_dead (body_of w (object_at w p job))) status.BadState
+    ∷ answer_if (lacks_need w (object_at w p job) (slice_get lib program)) status.NotSupported
+    ∷ answer_if (not (has_room w p 1 && has_koids w 1)) status.NoResources
+    ∷ []
 listed lib w p (process_exit code) = []
 listed lib w p (job_create j) =
     answer_if (is_deepest (body_of w (object_at w p j))) status.OutOfRange
@@ -168,6 +178,7 @@ new_handles w p chan_create = new_entry w.next_koid kind.Channel ∷ new_entry (
 new_handles w p (chan_read_etc c address room places) = first_handles (queue_at w p c)
 new_handles w p event_create = new_entry w.next_koid kind.Event ∷ []
 new_handles w p port_create = new_entry w.next_koid kind.Port ∷ []
+new_handles w p (process_create job program) = new_entry w.next_koid kind.Process ∷ []
 new_handles w p (job_create j) = new_entry w.next_koid kind.Job ∷ []
 new_handles w p _ = []
 
@@ -210,6 +221,8 @@ effect lib w taken p (port_wait port) = on_object taken (object_at w p port) pac
 effect lib w taken p (port_poll port) = on_object taken (object_at w p port) packet_taken
 effect lib w taken p (port_cancel port source key) =
     on_object (without_keyed taken p source (object_at w p port) key) (object_at w p port) (packets_cancelled (source_at w p source) key)
+effect lib w taken p (process_create job program) =
+    with_process (with_object taken (ProcessBody (object_at w p job))) w.next_koid (created_process lib program)
 effect lib w taken p (process_exit code) = taken
 effect lib w taken p (job_create j) = with_object taken (job_within (object_at w p j) (body_of w (object_at w p j)))
 

@@ -44,6 +44,10 @@ with_object w b = record w {
   next_koid = w.next_koid + 1;
 }
 
+-- the world with the process k
+abbrev pub with_process : World → ℕ → Process → World
+with_process w k process = record w { processes = put w.processes k process }
+
 -- a process that lives ends with the code and closes its handles; one that has ended stays
 abbrev pub process_ended : ℤ → Process → Process
 process_ended code q = if lives q.state then record q { state = Ended code; handles = []; last = None } else q

@@ -100,6 +100,6 @@ results (d ∷ ds) vs f s xs arrays slots g h states (inside, more) distinct fre
     let lt : d.0 < length s = subst (λ n. d.0 < n) (sym states.long) inside in
     rw (written_next xs d.0 (map (λ x. x.0) ds) vs)
     (results ds (more_values vs) mid (with_value s d.0 d.1) (slice_set xs d.0 (first_value vs)) arrays slots g
-      (enters h states d.0 lt unheld.0 d.1 (first_value vs) mid here)
-      (still_states h states d.0 lt unheld.0 d.1 (first_value vs) mid here)
-      more apart.1 (still_free s d.0 d.1 ds apart.0 unheld.1) later)
+    (enters h states d.0 lt unheld.0 d.1 (first_value vs) mid here)
+    (still_states h states d.0 lt unheld.0 d.1 (first_value vs) mid here)
+    more apart.1 (still_free s d.0 d.1 ds apart.0 unheld.1) later)

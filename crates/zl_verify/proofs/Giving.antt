@@ -121,9 +121,11 @@ handles_fit [] [] (v ∷ vs) q s xs sound may a = cc
 handles_fit ((r, Has maybe kind rights) ∷ ds) (e ∷ es) [] q s xs sound may a = cc
 handles_fit ((r, Has maybe kind rights) ∷ ds) (e ∷ es) (v ∷ vs) q s xs sound may (fits, more) =
     let two = both (may_get q v) (may_get_all (process_with v e q) es vs) may in
-    let (some, most, unused) = fresh_value q v sound two.0 in
-    (get (process_with v e q).handles, inr (e, omega arith, some, unused, fits, getting v e q),
-      handles_fit ds es vs (process_with v e q) _ _ (free_with q v e) two.1 more)
+    let (some, most, unused) = fresh_value q v sound two.0 in (
+      get (process_with v e q).handles,
+      inr (e, omega arith, some, unused, fits, getting v e q),
+      handles_fit ds es vs (process_with v e q) _ _ (free_with q v e) two.1 more,
+    )
 handles_fit [] (e ∷ es) vs q s xs sound may a = absurd a
 handles_fit ((r, Has maybe kind rights) ∷ ds) [] vs q s xs sound may a = absurd a
 handles_fit ((r, Word n) ∷ ds) [] vs q s xs sound may a = absurd a
@@ -200,9 +202,12 @@ any_handle = Has true None (rights_of 0)
 pub no_triples_fit : (n a : ℕ) (f : Table) (s : State) (xs : List ℕ) → a + 3 * n ≤ length s → length xs ≡ length s → f 0 ≡ None → Fits f s xs (triple_results a n) [] f
 no_triples_fit zero a f s xs room wide none = refl
 no_triples_fit (suc n) a f s xs room wide none =
-    let long = long_after a s any_handle in
-    (f, inl (refl, refl, refl), reports f a s xs (omega arith) wide f (triple_results (a + 3) n) [] true None (rights_of 0) 0 0 0 (omega arith) (omega arith) (rw none refl) (rw none refl)
-      (no_triples_fit n (a + 3) f (after_triple a s any_handle) (written_triple a xs 0 0 0) (omega arith) (wide_after a xs 0 0 0 ∙ (wide ∙ sym long)) none))
+    let long = long_after a s any_handle in (
+      f,
+      inl (refl, refl, refl),
+      reports f a s xs (omega arith) wide f (triple_results (a + 3) n) [] true None (rights_of 0) 0 0 0 (omega arith) (omega arith) (rw none refl) (rw none refl)
+          (no_triples_fit n (a + 3) f (after_triple a s any_handle) (written_triple a xs 0 0 0) (omega arith) (wide_after a xs 0 0 0 ∙ (wide ∙ sym long)) none),
+    )
 
 pub triples_fit : (n a : ℕ) (es : List Entry) (vs : List ℕ) (q : Process) (s : State) (xs : List ℕ) → a + 3 * n ≤ length s → length xs ≡ length s → length es ≤ n
     → get q.handles 0 ≡ None → IsFreeLast q → may_get_all q es vs ≡ true → AllByRecursion HasFewRights es
@@ -214,13 +219,15 @@ triples_fit (suc n) a (e ∷ es) [] q s xs room wide few none sound may fewer = 
 triples_fit (suc n) a (e ∷ es) (v ∷ vs) q s xs room wide few none sound may (rights, fewer) =
     let two = both (may_get q v) (may_get_all (process_with v e q) es vs) may in
     let (some, most, unused) = fresh_value q v sound two.0 in
-    let long = long_after a s any_handle in
-    (get (process_with v e q).handles, inr (e, omega arith, some, unused, (refl, within_none (bits e.rights)), getting v e q),
+    let long = long_after a s any_handle in (
+      get (process_with v e q).handles,
+      inr (e, omega arith, some, unused, (refl, within_none (bits e.rights)), getting v e q),
       reports (get (process_with v e q).handles) a s xs (omega arith) wide (get (getting_all es vs (process_with v e q)).handles) (triple_results (a + 3) n) (told_of es vs) true None (rights_of 0) v (kind_number e.kind) (bits e.rights) (kind_few e.kind) rights
-        (rw there refl) (rw there refl)
-        (triples_fit n (a + 3) es vs (process_with v e q) (after_triple a s any_handle) (written_triple a xs v (kind_number e.kind) (bits e.rights))
+          (rw there refl) (rw there refl)
+          (triples_fit n (a + 3) es vs (process_with v e q) (after_triple a s any_handle) (written_triple a xs v (kind_number e.kind) (bits e.rights))
           (omega arith) (wide_after a xs v (kind_number e.kind) (bits e.rights) ∙ (wide ∙ sym long)) (omega arith)
-          (zero_with some) (free_with q v e) two.1 fewer))
+          (zero_with some) (free_with q v e) two.1 fewer),
+    )
   where
     there : get (process_with v e q).handles v ≡ Some e
     there = ap (λ f. f v) (getting v e q) ∙ added_itself v e (get q.handles)

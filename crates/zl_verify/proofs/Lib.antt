@@ -27,4 +27,6 @@ pub mod Giving
 pub mod OwnTable
 pub mod Sites
 pub mod Aligned
+pub mod Standing
+pub mod Calm
 mod RowsConforms

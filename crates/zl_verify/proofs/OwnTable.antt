@@ -70,7 +70,7 @@ pub losing_seen : (f : Table) (xs : List ℕ) (os : List Operand) (seen : List �
 losing_seen f xs [] seen q e = e
 losing_seen f xs (o ∷ os) seen q e = by o.is_taken
     (losing_seen f xs os (slice_index xs o.value ∷ seen) (process_without (slice_index xs o.value) q)
-      (losing (slice_index xs o.value) q ∙ (ap (removed (slice_index xs o.value)) e ∙ unseen_more f seen (slice_index xs o.value))))
+    (losing (slice_index xs o.value) q ∙ (ap (removed (slice_index xs o.value)) e ∙ unseen_more f seen (slice_index xs o.value))))
     (losing_seen f xs os seen q e)
   where
     rest : List Operand

@@ -8,3 +8,4 @@ pub mod Checks
 pub mod Names
 pub mod Conforms
 pub mod LocalLaws
+pub mod CallLaws

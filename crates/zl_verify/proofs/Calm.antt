@@ -1,0 +1,124 @@
+-- What calls tell their callers fits registers: active signals, sizes of messages, and packets.
+use Rattle.std.proofs.Common.{◌≡◌, ℕ, ◌+◌, ◌<◌, ◌≤◌, Bool, true, false, not, ◌==◌, List, [], ◌∷◌, length, refl, sym, ap, ◌∙◌, subst, IsTrue, Option, Some, None, arith}
+use Rattle.std.specs.Prelude.{bit_or, bit_and, slice_index, if◌then◌else◌}
+use Rattle.std.specs.List.{AllByRecursion, list_all}
+use Rattle.std.proofs.lemmas.Nat.{and_le_l, or_lt}
+use Rattle.zl_rights.specs.declared.entry.Entry.{Entry}
+use Rattle.zl_rights.specs.declared.kind.Kind.{Kind}
+use Rattle.zl_rights.specs.declared.kind.Kind.TheVariants as kind
+use Rattle.zl_rights.specs.Common.{bits, within, default_rights_of, get, World, Object, Body, ChannelEnd, EventBody, PortBody, JobBody, ProcessBody, queue_of}
+use Rattle.zl_rights.specs.World.{Message, Packet}
+use Rattle.zl_rights.specs.Signals.{active, active_of, implied, signal_if, is_empty, has_child_job, has_child_process, is_process, has_ended}
+use Rattle.zl_rights.specs.Map.{has_key}
+use Rattle.zl_rights.specs.Numbers.{READABLE, WRITABLE, PEER_CLOSED, TERMINATED, NO_JOBS, NO_PROCESSES}
+use Rattle.zl_code.specs.Tests.{body_in, body_of, object_at, queue_in, queue_at, first_bytes, first_handles}
+use Rattle.zl_code.specs.Waiting.{packets_in, packets_at, active_at}
+use Rattle.zl_code.specs.Handles.{has_default_rights}
+use Rattle.zl_code.specs.Sound.{IsSound, raisable}
+use Rattle.zl_abs.specs.Values.{ANY}
+use Rattle.zl_abs.proofs.Order.{is_within, both}
+use Rattle.zl_verify.specs.CallLaws.{IsSizedMessage, IsSizedPacket, QueuesAreSized}
+use Rattle.zl_verify.proofs.Giving.{HasFewRights}
+
+-- ---- signals
+
+both_few : (a b : ℕ) → a ≤ 0xffff_ffff → b ≤ 0xffff_ffff → bit_or a b ≤ 0xffff_ffff
+both_few a b h k = let e : bit_or a b < 0x1_0000_0000 = or_lt 32 a b (omega arith) (omega arith) in omega arith
+
+pub within_few : (part whole most : ℕ) → within part whole ≡ true → whole ≤ most → part ≤ most
+within_few part whole most h le =
+    let same : bit_and whole part ≡ part = is_within part whole h in
+    let less : bit_and whole part ≤ whole = and_le_l whole part in
+    omega arith
+
+raisable_few : (b : Body) → raisable b ≤ 0xffff_ffff
+raisable_few (ChannelEnd peer queue) = omega arith
+raisable_few EventBody = omega arith
+raisable_few (PortBody packets) = omega arith
+raisable_few (JobBody parent depth policy killed) = omega arith
+raisable_few (ProcessBody job) = omega arith
+
+one_few : (s : ℕ) (b : Bool) → s ≤ 0xffff_ffff → signal_if s b ≤ 0xffff_ffff
+one_few s true h = h
+one_few s false h = omega arith
+
+implied_few : (w : World) (k : ℕ) (b : Body) → implied w k b ≤ 0xffff_ffff
+implied_few w k (ChannelEnd peer queue) = both_few (signal_if READABLE (not (is_empty queue))) _ (one_few READABLE (not (is_empty queue)) (omega arith)) (by (has_key w.objects peer))
+  where
+    by : (b : Bool) → (if b then WRITABLE else PEER_CLOSED) ≤ 0xffff_ffff
+    by true = omega arith
+    by false = omega arith
+implied_few w k EventBody = omega arith
+implied_few w k (PortBody packets) = omega arith
+implied_few w k (JobBody parent depth policy killed) =
+    both_few (signal_if TERMINATED killed) _ (one_few TERMINATED killed (omega arith))
+    (both_few (signal_if NO_JOBS (not (has_child_job w k))) (signal_if NO_PROCESSES (not (has_child_process w k))) (one_few NO_JOBS (not (has_child_job w k)) (omega arith)) (one_few NO_PROCESSES (not (has_child_process w k)) (omega arith)))
+implied_few w k (ProcessBody job) = one_few TERMINATED (is_process w has_ended k) (omega arith)
+
+pub signals_few : (w : World) → IsSound w → (k : ℕ) → active w k ≤ 0xffff_ffff
+unfolding active
+signals_few w sound k = by (get w.objects k) refl
+  where
+    by : (o : Option Object) → get w.objects k ≡ o → active_of w k o ≤ 0xffff_ffff
+    by None is = omega arith
+    by (Some o) is = both_few o.raised (implied w k o.body) (within_few o.raised (raisable o.body) 0xffff_ffff (sound.raised k o is) (raisable_few o.body)) (implied_few w k o.body)
+
+-- ---- messages and packets
+
+module _ (w : World) (sized : QueuesAreSized w) where
+  queued_sized : (k : ℕ) → AllByRecursion IsSizedMessage (queue_in (body_of w k))
+  queued_sized k = by (get w.objects k) refl
+    where
+      by : (o : Option Object) → get w.objects k ≡ o → AllByRecursion IsSizedMessage (queue_in (body_in o))
+      by None is = tt
+      by (Some o) is = sized.messages k o is
+
+  packets_sized : (k : ℕ) → AllByRecursion IsSizedPacket (packets_in (body_of w k))
+  packets_sized k = by (get w.objects k) refl
+    where
+      by : (o : Option Object) → get w.objects k ≡ o → AllByRecursion IsSizedPacket (packets_in (body_in o))
+      by None is = tt
+      by (Some o) is = sized.packets k o is
+
+  pub packets_at_sized : (p h : ℕ) → AllByRecursion IsSizedPacket (packets_at w p h)
+  packets_at_sized p h = packets_sized (object_at w p h)
+
+  -- how many bytes and handles the first message has
+  pub first_sizes : (p h : ℕ) → (length (first_bytes (queue_at w p h)) ≤ 65536) × (length (first_handles (queue_at w p h)) ≤ 64)
+  first_sizes p h = by (queue_at w p h) (queued_sized (object_at w p h))
+    where
+      by : (ms : List Message) → AllByRecursion IsSizedMessage ms → (length (first_bytes ms) ≤ 65536) × (length (first_handles ms) ≤ 64)
+      by [] k = (omega arith, omega arith)
+      by (m ∷ ms) (k, more) = (k.few_bytes, k.few_handles)
+
+  -- and bytes they are
+  pub first_are_bytes : (p h : ℕ) (k : ℕ) → slice_index (first_bytes (queue_at w p h)) k < 256
+  first_are_bytes p h = by (queue_at w p h) (queued_sized (object_at w p h))
+    where
+      by : (ms : List Message) → AllByRecursion IsSizedMessage ms → (k : ℕ) → slice_index (first_bytes ms) k < 256
+      by [] k n = omega arith
+      by (m ∷ ms) (k, more) n = k.bytes n
+
+-- ---- the rights of handles that are received
+
+default_few : (k : Kind) → default_rights_of k ≤ ANY
+default_few kind.Process = omega arith
+default_few kind.Channel = omega arith
+default_few kind.Event = omega arith
+default_few kind.Port = omega arith
+default_few kind.Job = omega arith
+
+entries_few : (es : List Entry) → list_all has_default_rights es ≡ true → AllByRecursion HasFewRights es
+entries_few [] h = tt
+entries_few (e ∷ es) h = let two = both (has_default_rights e) (list_all has_default_rights es) h in (within_few (bits e.rights) (default_rights_of e.kind) ANY two.0 (default_few e.kind), entries_few es two.1)
+
+pub first_rights : (w : World) → IsSound w → (p h : ℕ) → AllByRecursion HasFewRights (first_handles (queue_at w p h))
+first_rights w sound p h = by (get w.objects (object_at w p h)) refl
+  where
+    of_queue : (ms : List Message) → list_all (λ m. list_all has_default_rights m.handles) ms ≡ true → AllByRecursion HasFewRights (first_handles ms)
+    of_queue [] e = tt
+    of_queue (m ∷ ms) e = entries_few m.handles (both (list_all has_default_rights m.handles) (list_all (λ (x : Message). list_all has_default_rights x.handles) ms) e).0
+
+    by : (o : Option Object) → get w.objects (object_at w p h) ≡ o → AllByRecursion HasFewRights (first_handles (queue_in (body_in o)))
+    by None is = tt
+    by (Some o) is = of_queue (queue_of o.body) (sound.handles.queued (object_at w p h) o is)

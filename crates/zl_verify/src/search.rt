@@ -104,11 +104,11 @@ impl Search {
     }
 
     /// The instruction gets the state, and waits.
-    fn put(&mut self, place: usize, state: AbsState)
+    fn put(&mut self, place: usize, state: &AbsState)
         requires { place < length self.old.states }
-        ensures { self.new ≡ put self.old place state }
+        ensures { self.new ≡ put self.old place state.now }
     {
-        self.states[place] = Some(state);
+        self.states[place] = Some(*state);
         self.waiting[place] = true;
         self.from = self.from.min(place);
     }
@@ -122,14 +122,14 @@ impl Search {
             return false;
         }
         let Some(mut known) = self.states[place] else {
-            self.put(place, *state);
+            self.put(place, state);
             return true;
         };
         match known.raise(state) {
             None => false,
             Some(false) => true,
             Some(true) => {
-                self.put(place, known);
+                self.put(place, &known);
                 true
             }
         }
@@ -143,9 +143,36 @@ impl Search {
         }
     }
 
-    /// The state of an edge that is followed comes to its end.
+    /// The state of an edge that is followed comes to its end. `state` becomes that state.
     #[tactic(auto, unfolding(crate::specs::Search::raised_all))]
     fn follow(
+        &mut self,
+        edge: &Option<Step>,
+        state: &mut AbsState,
+        seen: &mut Seen,
+    ) -> Result<(), Fault>
+        ensures raised { then_some (is_ok result) self.new
+            ≡ raised_all self.old (step_in state.old edge.now) }
+        ensures cause { IfErr result (λ fault. is_of_rules fault.cause ≡ true) }
+    {
+        let Some(edge) = edge else {
+            return Ok(());
+        };
+        state.change(edge.change);
+        if self.raise(edge.target, state) {
+            return Ok(());
+        }
+        seen.known = self.known_at(edge.target);
+        seen.other = Some(*state);
+        Err(Fault {
+            at: edge.target,
+            cause: RefusalCause::JoinConflict,
+        })
+    }
+
+    /// The same, where the state is wanted afterwards.
+    #[tactic(auto, unfolding(crate::specs::Search::raised_all))]
+    fn follow_first(
         &mut self,
         edge: &Option<Step>,
         state: &AbsState,
@@ -155,29 +182,20 @@ impl Search {
             ≡ raised_all self.old (step_in state.now edge.now) }
         ensures cause { IfErr result (λ fault. is_of_rules fault.cause ≡ true) }
     {
-        let Some(edge) = edge else {
+        let Some(_) = edge else {
             return Ok(());
         };
         let mut state = *state;
-        state.change(edge.change);
-        if self.raise(edge.target, &state) {
-            return Ok(());
-        }
-        seen.known = self.known_at(edge.target);
-        seen.other = Some(state);
-        Err(Fault {
-            at: edge.target,
-            cause: RefusalCause::JoinConflict,
-        })
+        self.follow(edge, &mut state, seen)
     }
 
     /// The states of all edges that are followed come to their ends.
-    fn arrive(&mut self, edges: &Steps, state: &AbsState, seen: &mut Seen) -> Result<(), Fault>
+    fn arrive(&mut self, edges: &Steps, state: &mut AbsState, seen: &mut Seen) -> Result<(), Fault>
         ensures raised { then_some (is_ok result) self.new ≡ raised_all self.old
-            (step_in state.now edges.now.jump ++ step_in state.now edges.now.next) }
+            (step_in state.old edges.now.jump ++ step_in state.old edges.now.next) }
         ensures cause { IfErr result (λ fault. is_of_rules fault.cause ≡ true) }
     {
-        match self.follow(&edges.jump, state, seen) {
+        match self.follow_first(&edges.jump, state, seen) {
             Ok(()) => self.follow(&edges.next, state, seen),
             Err(fault) => Err(fault),
         }
@@ -211,7 +229,7 @@ impl Search {
                 });
             }
         };
-        self.arrive(&edges, &state, seen)
+        self.arrive(&edges, &mut state, seen)
     }
 }
 

@@ -42,7 +42,7 @@ least_above x n best (b ∷ bs) h k = least_above x n (if nat_le n b && nat_lt b
     one : (x n best b : ℕ) → x ≤ n → x ≤ best → x ≤ (if nat_le n b && nat_lt b best then b else best)
     one x n best b h k = grind (arith, nat_tests)
 
-above : (bounds : List ℕ) (x n : ℕ) → x ≤ n → x ≤ ANY → x ≤ rounded bounds n
+pub above : (bounds : List ℕ) (x n : ℕ) → x ≤ n → x ≤ ANY → x ≤ rounded bounds n
 above bounds x n h k = least_above x n ANY bounds h k
 
 wrapped_few : (x : ℕ) → wrapped x ≤ ANY

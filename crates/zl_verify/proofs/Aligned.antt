@@ -1,7 +1,7 @@
 -- What a call does and what its rule says are the same columns of the table, at values and at registers.
-use Rattle.std.proofs.Common.{◌≡◌, ℕ, zero, suc, ◌+◌, ◌*◌, ◌<◌, ◌≤◌, Bool, true, false, ◌&&◌, List, [], ◌∷◌, ◌++◌, map, length, zip, refl, ap, subst, IsTrue, Option, Some, None, arith, slice_index, cond}
-use Rattle.std.specs.Prelude.{nat_lt, nat_le, if◌then◌else◌}
-use Rattle.std.specs.List.{filter, flat_map, list_all, AllByRecursion}
+use Rattle.std.proofs.Common.{◌≡◌, ℕ, zero, suc, ◌+◌, ◌*◌, ◌<◌, ◌≤◌, Bool, true, false, ◌&&◌, List, [], ◌∷◌, ◌++◌, map, zip, refl, ap, subst, Option, Some, None, arith, slice_index, cond}
+use Rattle.std.specs.Prelude.{nat_lt, nat_le}
+use Rattle.std.specs.List.{flat_map, AllByRecursion}
 use Rattle.std.proofs.lemmas.Option.{same_Some}
 use Rattle.std.proofs.lemmas.Bool.Decides.{nat_tests}
 use Rattle.zl_rights.specs.Common.{Cpu}
@@ -11,9 +11,8 @@ use Rattle.zl_rights.specs.Numbers.{WRITE, TRANSFER, rights_of}
 use Rattle.zl_code.specs.Limits.{register_count, most_handles}
 use Rattle.zl_code.specs.declared.instr.CallInstr.{CallInstr}
 use Rattle.zl_code.specs.declared.instr.CallInstr.TheVariants as call
-use Rattle.zl_code.specs.Instructions.{Field, reads, writes, changes, names, consumes, closes, triples, Row, row_of}
-use Rattle.zl_code.specs.Spells.{Last, Numbers, Room, Places, Parts, call_parts, are_parts_in_range, are_registers}
-use Rattle.zl_code.specs.Local.{reg}
+use Rattle.zl_code.specs.Instructions.{Field, names, consumes, closes, Row, row_of}
+use Rattle.zl_code.specs.Spells.{Last, Numbers, Room, Places, Parts, call_parts, are_parts_in_range, is_call_in_range, are_registers}
 use Rattle.zl_code.specs.Asked.{used, those, is_written, listed_in, triples_from, triples_in}
 use Rattle.zl_code.specs.Request.{Site}
 use Rattle.zl_code.specs.Tests.{Operand, any}
@@ -21,7 +20,7 @@ use Rattle.zl_code.specs.Refusals.{needs, taking, operands_by, handle_operands, 
 use Rattle.zl_abs.specs.declared.value.AbsVal.{AbsVal}
 use Rattle.zl_abs.specs.declared.value.AbsVal.TheVariants.{Word, Has, KindOf, RightsOf}
 use Rattle.zl_abs.specs.States.{State}
-use Rattle.zl_abs.specs.CallRules.{operands_at, operands_listed, Uses, uses_by, uses_in, uses_of, values_of, triple_values, triple_results}
+use Rattle.zl_abs.specs.CallRules.{operands_at, operands_listed, Uses, uses_by, uses_of, triple_values, triple_results}
 use Rattle.zl_abs.proofs.Order.{both}
 use Rattle.zl_verify.proofs.Examining.{valued, taken_registers, IsPlain}
 use Rattle.zl_verify.proofs.Fitting.{AreInside}
@@ -125,6 +124,11 @@ module _ (p : Parts) (range : are_parts_in_range p ≡ true) where
 
   pub results_inside : (r : Row) (values : List AbsVal) → AreInside (uses_by r p values).results
   results_inside r values = zipped_are _ (Word 30 ∷ values) (join_registers (those is_written r.fields p.registers) (triples_in p.last p.registers) (those_are is_written r.fields p.registers registers) triple_registers)
+
+-- the triples of chan_read_etc do
+pub places_end : (a b c d e f g places : ℕ) → is_call_in_range (call.ChanReadEtc a b c d e f g places) ≡ true → room_ends g places
+unfolding call_parts
+places_end a b c d e f g places range = room_there g places (both _ (are_registers (a ∷ b ∷ c ∷ d ∷ e ∷ f ∷ g ∷ [])) range).0
 
 -- ---- the columns of a call
 

@@ -1,5 +1,5 @@
 -- What calls tell their callers fits registers: active signals, sizes of messages, and packets.
-use Rattle.std.proofs.Common.{◌≡◌, ℕ, ◌+◌, ◌<◌, ◌≤◌, Bool, true, false, not, ◌==◌, List, [], ◌∷◌, length, refl, sym, ap, ◌∙◌, subst, IsTrue, Option, Some, None, arith}
+use Rattle.std.proofs.Common.{◌≡◌, ℕ, ◌<◌, ◌≤◌, Bool, true, false, not, List, [], ◌∷◌, length, refl, Option, Some, None, arith}
 use Rattle.std.specs.Prelude.{bit_or, bit_and, slice_index, if◌then◌else◌}
 use Rattle.std.specs.List.{AllByRecursion, list_all}
 use Rattle.std.proofs.lemmas.Nat.{and_le_l, or_lt}
@@ -7,12 +7,12 @@ use Rattle.zl_rights.specs.declared.entry.Entry.{Entry}
 use Rattle.zl_rights.specs.declared.kind.Kind.{Kind}
 use Rattle.zl_rights.specs.declared.kind.Kind.TheVariants as kind
 use Rattle.zl_rights.specs.Common.{bits, within, default_rights_of, get, World, Object, Body, ChannelEnd, EventBody, PortBody, JobBody, ProcessBody, queue_of}
-use Rattle.zl_rights.specs.World.{Message, Packet}
+use Rattle.zl_rights.specs.World.{Message}
 use Rattle.zl_rights.specs.Signals.{active, active_of, implied, signal_if, is_empty, has_child_job, has_child_process, is_process, has_ended}
 use Rattle.zl_rights.specs.Map.{has_key}
 use Rattle.zl_rights.specs.Numbers.{READABLE, WRITABLE, PEER_CLOSED, TERMINATED, NO_JOBS, NO_PROCESSES}
 use Rattle.zl_code.specs.Tests.{body_in, body_of, object_at, queue_in, queue_at, first_bytes, first_handles}
-use Rattle.zl_code.specs.Waiting.{packets_in, packets_at, active_at}
+use Rattle.zl_code.specs.Waiting.{packets_in, packets_at}
 use Rattle.zl_code.specs.Handles.{has_default_rights}
 use Rattle.zl_code.specs.Sound.{IsSound, raisable}
 use Rattle.zl_abs.specs.Values.{ANY}

@@ -8,11 +8,10 @@ use Rattle.zl_rights.specs.declared.entry.Entry.{Entry}
 use Rattle.zl_rights.specs.declared.kind.Kind.{Kind}
 use Rattle.zl_rights.specs.declared.rights.Rights.{Rights}
 use Rattle.zl_code.specs.declared.image.SlotArray.{SlotArray}
-use Rattle.zl_abs.specs.declared.value.AbsVal.{AbsVal}
 use Rattle.zl_abs.specs.declared.value.AbsVal.TheVariants.{Word, Has, KindOf, RightsOf}
 use Rattle.zl_abs.specs.Values.{ANY, is_has}
 use Rattle.zl_abs.specs.States.{State, IsState, value_at, with_value}
-use Rattle.zl_verify.specs.Conforms.{Table, kind_in, rights_in, IsAs, Describes, one_if, owns, owners, keepers, Holds}
+use Rattle.zl_verify.specs.Conforms.{Table, kind_in, rights_in, IsAs, Describes, one_if, owns, Holds}
 use Rattle.zl_verify.proofs.Owners.{owns_it, owns_apart, owns_free, owns_0, one_at_most, owners-set, owners-zero, keepers-zero}
 use Rattle.zl_verify.proofs.Writing.{nothing_at_0, others, write, write_plain}
 use Rattle.zl_verify.proofs.Tagging.{test_apart}

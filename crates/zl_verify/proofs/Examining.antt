@@ -1,5 +1,5 @@
 -- Handle operands that pass by the rule aren't refused by the call, and those that are consumed leave the table.
-use Rattle.std.proofs.Common.{◌≡◌, ◌≢◌, ℕ, ◌<◌, ◌≤◌, ◌⊎◌, Bool, true, false, ◌&&◌, ◌||◌, not, ◌==◌, List, [], ◌∷◌, map, length, refl, sym, ap, ◌∙◌, subst, Option, Some, None, Result, Ok, Err, cond, arith, inl, inr, slice_set, slice_index, ⊎_elim}
+use Rattle.std.proofs.Common.{◌≡◌, ◌≢◌, ℕ, ◌<◌, ◌≤◌, ◌⊎◌, Bool, true, false, ◌&&◌, ◌||◌, not, ◌==◌, List, [], ◌∷◌, map, length, refl, sym, ap, ◌∙◌, subst, Option, Some, None, Ok, cond, arith, inl, inr, slice_set, slice_index, ⊎_elim}
 use Rattle.std.specs.Prelude.{if◌then◌else◌}
 use Rattle.std.specs.List.{filter, list_any, AllByRecursion}
 use Rattle.std.proofs.lemmas.Bool.{cases_eq, eqb-true}
@@ -24,7 +24,7 @@ use Rattle.zl_abs.specs.declared.cause.Cause.TheVariants as cause
 use Rattle.zl_abs.specs.Values.{untagged, kind_below}
 use Rattle.zl_abs.specs.States.{State, IsState, value_at, with_value}
 use Rattle.zl_abs.specs.Rule.{and_then}
-use Rattle.zl_abs.specs.CallRules.{takes_any, fault_of, taken_from, examined_by, examined, examined_all}
+use Rattle.zl_abs.specs.CallRules.{takes_any, fault_of, taken_from, examined_by, examined_all}
 use Rattle.zl_abs.proofs.Order.{within_trans}
 use Rattle.zl_verify.specs.Conforms.{Table, IsAs, IsHandle, Describes, Holds}
 use Rattle.zl_verify.proofs.Owners.{value_at-with, value_at-here}
@@ -168,7 +168,7 @@ not_zero o none e = let z : o.may_be_zero ≡ true = by o.may_be_zero (word_pass
     by false e = cc
 
 -- the first passes, and the others do behind it
-parts : (s t : State) (o : Operand) (os : List Operand) → examined_all s (o ∷ os) ≡ Ok t → (fault_of o (value_at s o.value) ≡ None) × (examined_all (taken_from s o) os ≡ Ok t)
+pub parts : (s t : State) (o : Operand) (os : List Operand) → examined_all s (o ∷ os) ≡ Ok t → (fault_of o (value_at s o.value) ≡ None) × (examined_all (taken_from s o) os ≡ Ok t)
 unfolding examined_all
 parts s t o os = by (fault_of o (value_at s o.value))
   where

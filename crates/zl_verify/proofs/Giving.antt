@@ -1,5 +1,5 @@
 -- What answers give fits: a status, handles at free values, and handles with their kinds and rights.
-use Rattle.std.proofs.Common.{◌≡◌, ℕ, zero, suc, ◌+◌, ◌*◌, ◌<◌, ◌≤◌, ◌⊎◌, Bool, true, false, ◌&&◌, not, ◌==◌, List, [], ◌∷◌, length, refl, sym, ap, ◌∙◌, subst, IsTrue, Option, Some, None, arith, inl, inr, slice_set, slice_index}
+use Rattle.std.proofs.Common.{◌≡◌, ℕ, zero, suc, ◌+◌, ◌*◌, ◌<◌, ◌≤◌, Bool, true, false, ◌&&◌, not, ◌==◌, List, [], ◌∷◌, length, refl, sym, ap, ◌∙◌, subst, IsTrue, Option, Some, None, arith, inl, inr, slice_set, slice_index}
 use Rattle.std.specs.Prelude.{is_some, nat_lt, bit_and}
 use Rattle.std.specs.List.{AllByRecursion}
 use Rattle.std.proofs.lemmas.Bool.{eqb-true}
@@ -27,7 +27,7 @@ use Rattle.zl_verify.specs.Conforms.{Table, kind_in, rights_in, IsAs}
 use Rattle.zl_verify.proofs.Owners.{value_at-with, value_at-here}
 use Rattle.zl_verify.proofs.Writing.{long_with}
 use Rattle.zl_verify.proofs.Consuming.{added}
-use Rattle.zl_verify.proofs.Fitting.{Enters, Fits, first_value, more_values}
+use Rattle.zl_verify.proofs.Fitting.{Fits}
 
 pub status_few : (s : Status) → status_magnitude s ≤ 30
 status_few status.Ok = omega arith

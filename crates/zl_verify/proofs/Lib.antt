@@ -29,4 +29,11 @@ pub mod Sites
 pub mod Aligned
 pub mod Standing
 pub mod Calm
+pub mod AtCalls
+pub mod Ordinary
+pub mod Refusing
+pub mod Working
+pub mod OwnEffect
+pub mod Storing
+pub mod OwnCalls
 mod RowsConforms

@@ -44,7 +44,7 @@ use Rattle.zl_verify.proofs.CallSites.{IsGiven, memory_there, asks_for, no_reque
 
 -- ---- facts of an image and of a world
 
-in_range_at : (raw : Bool) (code : List Instr) (n : ℕ) → list_all (is_instr_in_range raw) code ≡ true → IfSome (slice_get code n) (λ x. is_instr_in_range raw x ≡ true)
+pub in_range_at : (raw : Bool) (code : List Instr) (n : ℕ) → list_all (is_instr_in_range raw) code ≡ true → IfSome (slice_get code n) (λ x. is_instr_in_range raw x ≡ true)
 in_range_at raw [] n h = tt
 in_range_at raw (x ∷ code) zero h = (both (is_instr_in_range raw x) (list_all (is_instr_in_range raw) code) h).0
 in_range_at raw (x ∷ code) (suc n) h = in_range_at raw code n (both (is_instr_in_range raw x) (list_all (is_instr_in_range raw) code) h).1

@@ -9,7 +9,7 @@ use Rattle.zl_code.specs.Local.{overwritten}
 use Rattle.zl_code.proofs.ImageBytes.{length-bytes_of}
 use Rattle.zl_verify.specs.Conforms.{IsMemory}
 
-abbrev AreBytes : List ℕ → Type 0
+abbrev pub AreBytes : List ℕ → Type 0
 AreBytes xs = (k : ℕ) → slice_index xs k < 256
 
 -- one more than the largest number of n bytes
@@ -55,18 +55,20 @@ all_of (suc n) v zero = mod-lt v (omega arith)
 all_of (suc n) v (suc k) = all_of n (v / 256) k
 
 -- the memory keeps its size, and has bytes in it
-pub stored : (i : Image) (memory : List ℕ) (n v address : ℕ) → IsMemory i memory → address + n ≤ length memory → IsMemory i (overwritten memory address (bytes_of n v))
-stored i memory n v address m fits = record {
+pub bytes_stored : (i : Image) (memory bytes : List ℕ) (address : ℕ) → IsMemory i memory → AreBytes bytes → address + length bytes ≤ length memory → IsMemory i (overwritten memory address bytes)
+bytes_stored i memory bytes address m are fits = record {
   long = whole;
-  bytes = all_both (take address memory) _ (all_taken address memory m.bytes) (all_both (bytes_of n v) _ (all_of n v) (all_dropped (address + length (bytes_of n v)) memory m.bytes));
+  bytes = all_both (take address memory) _ (all_taken address memory m.bytes) (all_both bytes _ are (all_dropped (address + length bytes) memory m.bytes));
 }
   where
-    whole : length (overwritten memory address (bytes_of n v)) ≡ i.memory
+    whole : length (overwritten memory address bytes) ≡ i.memory
     whole =
-        let outer = length-append (take address memory) (bytes_of n v ++ drop (address + length (bytes_of n v)) memory) in
-        let inner = length-append (bytes_of n v) (drop (address + length (bytes_of n v)) memory) in
+        let outer = length-append (take address memory) (bytes ++ drop (address + length bytes) memory) in
+        let inner = length-append bytes (drop (address + length bytes) memory) in
         let front = length-take address memory in
-        let back = length-drop (address + length (bytes_of n v)) memory in
-        let middle = length-bytes_of n v in
+        let back = length-drop (address + length bytes) memory in
         let size = m.long in
         omega arith
+
+pub stored : (i : Image) (memory : List ℕ) (n v address : ℕ) → IsMemory i memory → address + n ≤ length memory → IsMemory i (overwritten memory address (bytes_of n v))
+stored i memory n v address m fits = let long = length-bytes_of n v in bytes_stored i memory (bytes_of n v) address m (all_of n v) (omega arith)

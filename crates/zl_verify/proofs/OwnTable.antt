@@ -1,12 +1,12 @@
 -- The caller's process once handles left its table, and once they entered it.
-use Rattle.std.proofs.Common.{◌≡◌, ℕ, Bool, true, false, not, ◌==◌, List, [], ◌∷◌, map, refl, sym, ap, ◌∙◌, Option, Some, None, cond, slice_index}
+use Rattle.std.proofs.Common.{◌≡◌, ℕ, Bool, true, false, ◌==◌, List, [], ◌∷◌, map, refl, sym, ap, ◌∙◌, Option, Some, None, cond, slice_index}
 use Rattle.std.specs.Prelude.{is_some, if◌then◌else◌}
 use Rattle.std.specs.List.{filter}
 use Rattle.std.proofs.lemmas.Bool.{cases_Bool, eqb-true}
 use Rattle.std.proofs.lemmas.Bool.Decides.{nat_tests}
 use Rattle.std.proofs.Common.{arith, ◌⊎◌, inl, inr}
 use Rattle.zl_rights.specs.declared.entry.Entry.{Entry}
-use Rattle.zl_rights.specs.Common.{Map, get, put, without, has_key, World, Cpu, Process}
+use Rattle.zl_rights.specs.Common.{Map, get, without, has_key, World, Process}
 use Rattle.zl_rights.proofs.MapLaws.{get-update}
 use Rattle.zl_code.specs.Tests.{Operand}
 use Rattle.zl_code.specs.Effects.{on_process, insert_all, remove_all, process_with, process_without, storing}

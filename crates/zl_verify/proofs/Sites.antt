@@ -1,5 +1,5 @@
 -- Each call as it stands at its instruction: its request, the registers that it consumes, and those of its answer.
-use Rattle.std.proofs.Common.{◌≡◌, ℕ, Bool, true, false, List, [], ◌∷◌, map, take, drop, refl, subst, Option, Some, None}
+use Rattle.std.proofs.Common.{◌≡◌, ℕ, Bool, true, false, [], ◌∷◌, map, take, drop, refl, subst, Some}
 use Rattle.std.specs.Bool.{then_some}
 use Rattle.std.proofs.lemmas.Option.{same_Some}
 use Rattle.zl_rights.specs.Common.{Cpu}
@@ -10,7 +10,7 @@ use Rattle.zl_code.specs.Instructions.{row_of}
 use Rattle.zl_code.specs.Spells.{call_parts}
 use Rattle.zl_code.specs.Local.{reg, is_in_memory}
 use Rattle.zl_code.specs.Asked.{used, triples_from}
-use Rattle.zl_code.specs.CallTable.{Request, close, dup, replace, chan_create, chan_write, chan_read_etc, event_create, signal, signal_peer, wait_one, wait_poll, wait_async, port_create, port_queue, port_wait, port_poll, port_cancel, process_exit}
+use Rattle.zl_code.specs.CallTable.{close, dup, replace, chan_create, chan_write, chan_read_etc, event_create, signal, signal_peer, wait_one, wait_poll, wait_async, port_create, port_queue, port_wait, port_poll, port_cancel, process_exit}
 use Rattle.zl_code.specs.Request.{Site, site, site_of}
 
 -- The call x of the Cpu c is the site; a line for each request. Calls that have no request yet have no line.

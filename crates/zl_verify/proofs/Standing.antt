@@ -1,21 +1,19 @@
 -- A call that stands next where a process is as a state says, and whose rule holds there.
-use Rattle.std.proofs.Common.{◌≡◌, ℕ, ◌<◌, Bool, true, false, not, List, [], ◌∷◌, map, length, refl, sym, ap, ◌∙◌, subst, IsTrue, Option, Some, None, Result, Ok, Err}
+use Rattle.std.proofs.Common.{◌≡◌, ℕ, ◌<◌, Bool, true, false, not, List, [], ◌∷◌, refl, sym, ap, ◌∙◌, subst, Option, Some, None, Result, Ok, Err}
 use Rattle.std.specs.Prelude.{if◌then◌else◌}
 use Rattle.std.specs.List.{AllByRecursion}
 use Rattle.zl_rights.specs.Common.{get, World, Cpu, Process}
 use Rattle.zl_rights.specs.World.{answered, written}
-use Rattle.zl_rights.specs.declared.policy.Condition.{Condition}
 use Rattle.zl_rights.specs.declared.status.Status.{Status}
 use Rattle.zl_rights.specs.Numbers.{status_magnitude}
 use Rattle.zl_code.specs.Limits.{register_count}
-use Rattle.zl_code.specs.declared.history.Outcome.{Outcome}
 use Rattle.zl_code.specs.declared.image.SlotArray.{SlotArray}
 use Rattle.zl_code.specs.declared.instr.CallInstr.{CallInstr}
-use Rattle.zl_code.specs.Image.{Image, is_among}
+use Rattle.zl_code.specs.Image.{Image}
 use Rattle.zl_code.specs.Instructions.{Row, row_of}
 use Rattle.zl_code.specs.Spells.{Parts, call_parts, is_call_in_range}
 use Rattle.zl_code.specs.Request.{Site}
-use Rattle.zl_code.specs.Tests.{Operand, handles_in, by_policy, creates}
+use Rattle.zl_code.specs.Tests.{Operand, handles_in, by_policy}
 use Rattle.zl_code.specs.Tests.{examined as examined_at}
 use Rattle.zl_code.specs.Refusals.{handle_operands, condition_of}
 use Rattle.zl_code.specs.Calls.{taken_handles, taken, cpu_answered}
@@ -24,10 +22,10 @@ use Rattle.zl_abs.specs.declared.cause.Cause.{Cause}
 use Rattle.zl_abs.specs.declared.cause.Cause.TheVariants as cause
 use Rattle.zl_abs.specs.States.{State, IsState, with_all}
 use Rattle.zl_abs.specs.Rule.{and_then, passes}
-use Rattle.zl_abs.specs.CallRules.{are_words, range_fits, is_declared, answers, are_distinct, has_one, examined_all, finished, state_after, Uses, uses_by, uses_in, uses_of, values_of, goes_on, stops, call_rule_by, call_rule}
+use Rattle.zl_abs.specs.CallRules.{are_words, range_fits, is_declared, are_distinct, has_one, examined_all, finished, Uses, uses_by, uses_in, uses_of, values_of, goes_on, stops, call_rule_by, call_rule}
 use Rattle.zl_abs.specs.Outcome.{Outcome as Ways}
 use Rattle.zl_verify.specs.Conforms.{Table, Holds}
-use Rattle.zl_verify.proofs.Examining.{Passed, operands_from, unseen, seen_all, valued, taken_registers, Reads}
+use Rattle.zl_verify.proofs.Examining.{Passed, operands_from, unseen, seen_all, Reads}
 use Rattle.zl_verify.proofs.Fitting.{Fits, results, AreInside}
 use Rattle.zl_verify.proofs.OwnTable.{removed_here, losing_all, losing_seen}
 use Rattle.zl_verify.proofs.Sites.{SiteAt}

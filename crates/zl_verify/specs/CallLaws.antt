@@ -1,17 +1,18 @@
 -- What the law of the calls of a process says.
 use Rattle.std.specs.Prelude.{ℕ, ◌≡◌, ◌≤◌, ◌<◌, ℤ, Bool, true, false, List, [], length, Option, Some, None, IsTrue, slice_index}
 use Rattle.std.specs.List.{AllByRecursion}
-use Rattle.zl_rights.specs.Common.{get, World, Process, Ready, Blocked, Object, PortBody, queue_of}
+use Rattle.zl_rights.specs.Common.{get, World, Cpu, Process, Ready, Blocked, Object, queue_of}
 use Rattle.zl_rights.specs.World.{Awaited, Message, Packet}
 use Rattle.zl_rights.specs.declared.status.Status.{Status}
 use Rattle.zl_rights.specs.declared.status.Status.TheVariants as status
 use Rattle.zl_code.specs.declared.history.CallName.{CallName}
 use Rattle.zl_code.specs.declared.history.CallName.TheVariants as name
-use Rattle.zl_code.specs.declared.history.Outcome.{Outcome}
-use Rattle.zl_code.specs.declared.history.Outcome.TheVariants as outcome
+use Rattle.zl_code.specs.declared.instr.CallInstr.{CallInstr}
 use Rattle.zl_code.specs.Image.{Image}
 use Rattle.zl_code.specs.Spells.{is_in_range}
-use Rattle.zl_code.specs.Request.{Site}
+use Rattle.zl_code.specs.CallTable.{process_exit}
+use Rattle.zl_code.specs.Effects.{signed_word}
+use Rattle.zl_code.specs.Request.{Site, name_of}
 use Rattle.zl_code.specs.Waiting.{packets_in}
 use Rattle.zl_code.specs.Steps.{AtCall, next_at}
 use Rattle.zl_code.specs.Sound.{IsSound}
@@ -20,6 +21,7 @@ use Rattle.zl_abs.specs.States.{State}
 use Rattle.zl_abs.specs.Typing.{rule, IsTyping}
 use Rattle.zl_verify.specs.Steps.{OneOf, targets_of}
 use Rattle.zl_verify.specs.Conforms.{Conforms}
+use Rattle.zl_verify.specs.LocalLaws.{IsUnbuilt}
 
 -- ---- what a world has to be
 
@@ -61,11 +63,6 @@ is_fault status.WrongType = true
 is_fault status.AccessDenied = true
 is_fault _ = false
 
--- a call of this name may end its caller, whatever the code
-abbrev pub may_end : CallName → Bool
-may_end name.ProcessExit = true
-may_end _ = false
-
 -- where the followed edges of the n-th instruction lead at this state, of a pause too
 abbrev pub ends_by : Image → ℕ → Option State → List ℕ
 ends_by i n None = []
@@ -91,8 +88,16 @@ pub record IsWaiting (i : Image) (t : ℕ → Option State) (p : ℕ) (q : Proce
   pub there : get w2.processes p ≡ Some (record q { state = Blocked awaited destinations })
   pub conforms : Conforms i t w2 p (record q { state = Blocked awaited destinations })
 
--- what is promised where the call ends so, with w2
-abbrev pub Promised : Image → (ℕ → Option State) → ℕ → Process → CallName → Outcome → World → Type 0
-Promised i t p q called (outcome.Answered s) w2 = (is_fault s ≡ false) × IsAnswered i t p q w2
-Promised i t p q called outcome.Blocked w2 = IsWaiting i t p q w2
-Promised i t p q called (outcome.Ended code) w2 = IsTrue (may_end called)
+-- The process ends itself: the call is process_exit, and this is the code that it asks for.
+pub record IsOwnExit (called : CallName) (s : Site) (code : ℤ) : Type 0 where
+  pub named : called ≡ name.ProcessExit
+  pub number : ℕ
+  pub asked : s.request ≡ process_exit number
+  pub told : code ≡ signed_word number
+
+-- ---- that it isn't stuck
+
+-- At the call what it asks for can be read, unless it isn't built.
+pub data CanCall (i : Image) (c : Cpu) (call : CallInstr) : Type 0 where
+  asks : (s : Site) → next_at i c ≡ AtCall (name_of call) s → CanCall i c call
+  unbuilt : IsUnbuilt i c → CanCall i c call

@@ -1,10 +1,16 @@
 //! Laws of the definitions: each function's contract is one law, and its body is empty.
 
-ghost use Rattle.std.specs.Prelude.{ℕ, ◌≡◌, ◌≢◌, ◌↔◌, false, IsTrue, List, [], Option, Some, Ok};
+ghost use Rattle.std.specs.Prelude.{ℕ, ◌≡◌, ◌≢◌, ◌↔◌, ℤ, false, IsTrue, List, [], Option, Some, Ok};
 ghost use Rattle.zl_rights.specs.Common.{World, Cpu, Process, Ready, get};
-ghost use Rattle.zl_code.specs.Image.{Image, call_at};
+ghost use Rattle.zl_rights.specs.declared.status.Status.{Status};
+ghost use Rattle.zl_code.specs.declared.history.CallName.{CallName};
+ghost use Rattle.zl_code.specs.declared.history.Outcome.TheVariants as outcome;
+ghost use Rattle.zl_code.specs.declared.instr.CallInstr.{CallInstr};
+ghost use Rattle.zl_code.specs.Image.{Image, Library, call_at};
 ghost use Rattle.zl_code.specs.Spells.{is_in_range};
 ghost use Rattle.zl_code.specs.Handles.{HandlesAreSound};
+ghost use Rattle.zl_code.specs.Request.{Site};
+ghost use Rattle.zl_code.specs.Calls.{Calls};
 ghost use Rattle.zl_code.specs.Steps.{Moves, IsStuck, next_at};
 ghost use Rattle.zl_abs.specs.States.{State};
 ghost use Rattle.zl_abs.specs.Rule.{Edge};
@@ -13,6 +19,7 @@ ghost use Rattle.zl_verify.specs.Steps.{is_pause, IsOver};
 ghost use Rattle.zl_verify.specs.Over.{IsOverByCount};
 ghost use Rattle.zl_verify.specs.Conforms.{Conforms};
 ghost use Rattle.zl_verify.specs.LocalLaws.{IsUnbuilt, GoesOn};
+ghost use Rattle.zl_verify.specs.CallLaws.{StandsAtCall, is_fault, IsAnswered, IsWaiting, IsOwnExit, CanCall};
 
 /// In a world with sound handles, a process that is as a typing of its image says is never stuck, but
 /// at a call that isn't built yet: there the operands can be read and the memory is there. After a
@@ -27,6 +34,34 @@ pub fn local_step()
         → IsTrue (is_in_range i) → IsTyping i t → HandlesAreSound w
         → get w.processes p ≡ Some q → Conforms i t w p q
         → q.state ≡ Ready → (c : Cpu) → next_at i q.cpu ≡ Moves c → GoesOn i t w p q c }
+{}
+
+/// A process that is as a typing of its image says can ask for its call, but for one that isn't built.
+/// In a sound world in which what is queued fits who receives it, however the call then ends: no answer
+/// is BAD_HANDLE, WRONG_TYPE or ACCESS_DENIED, and behind an answer the process stands at the end of a
+/// followed edge, as the typing says there; where the call blocks, the process is as the typing says
+/// where it stands; and no policy ends it, as nothing does but its own `process_exit`. The world is that
+/// right after the call, before handles that nothing holds go and processes wake. Own profile.
+pub fn own_call()
+    ensures can_call { (i : Image) (t : ℕ → Option State) (w : World) (p : ℕ) (q : Process)
+        → IsTrue (is_in_range i) → IsTyping i t → HandlesAreSound w
+        → get w.processes p ≡ Some q → Conforms i t w p q
+        → (call : CallInstr) → call_at i q.cpu.counter ≡ Some call → CanCall i q.cpu call }
+    ensures no_fault { (i : Image) (t : ℕ → Option State) (w : World) (p : ℕ) (q : Process)
+        (called : CallName) (s : Site) → StandsAtCall i t w p q called s
+        → (lib : Library) (answer : Status) (w2 : World)
+        → Calls lib w p s (outcome.Answered answer) w2 → is_fault answer ≡ false }
+    ensures goes_on { (i : Image) (t : ℕ → Option State) (w : World) (p : ℕ) (q : Process)
+        (called : CallName) (s : Site) → StandsAtCall i t w p q called s
+        → (lib : Library) (answer : Status) (w2 : World)
+        → Calls lib w p s (outcome.Answered answer) w2 → IsAnswered i t p q w2 }
+    ensures waits { (i : Image) (t : ℕ → Option State) (w : World) (p : ℕ) (q : Process)
+        (called : CallName) (s : Site) → StandsAtCall i t w p q called s
+        → (lib : Library) (w2 : World) → Calls lib w p s outcome.Blocked w2 → IsWaiting i t p q w2 }
+    ensures ends_itself { (i : Image) (t : ℕ → Option State) (w : World) (p : ℕ) (q : Process)
+        (called : CallName) (s : Site) → StandsAtCall i t w p q called s
+        → (lib : Library) (code : ℤ) (w2 : World)
+        → Calls lib w p s (outcome.Ended code) w2 → IsOwnExit called s code }
 {}
 
 /// From an instruction that is no wait and not `process_exit` an edge is followed wherever its rule

@@ -1,0 +1,58 @@
+-- The listed answers of a call are answers, neither OK nor faults.
+use Rattle.std.proofs.Common.{◌≡◌, ℕ, Bool, true, false, List, [], ◌∷◌, refl, Option, Some, None}
+use Rattle.std.specs.List.{AllByRecursion}
+use Rattle.zl_rights.specs.Common.{World}
+use Rattle.zl_rights.specs.declared.status.Status.{Status}
+use Rattle.zl_rights.specs.declared.status.Status.TheVariants as status
+use Rattle.zl_code.specs.declared.history.Outcome.{Outcome}
+use Rattle.zl_code.specs.declared.history.Outcome.TheVariants as outcome
+use Rattle.zl_code.specs.First.{first_some}
+use Rattle.zl_code.specs.Image.{Library}
+use Rattle.zl_code.specs.Tests.{answer_if}
+use Rattle.zl_code.specs.CallTable.{Request, listed, close, dup, replace, chan_create, chan_write, chan_read_etc, event_create, signal, signal_peer, wait_one, wait_poll, wait_async, port_create, port_queue, port_wait, port_poll, port_cancel, process_create, process_exit, job_create}
+use Rattle.zl_verify.specs.CallLaws.{is_fault}
+
+abbrev pub is_good : Status → Bool
+is_good status.Ok = true
+is_good _ = false
+
+-- if it is one, it is a plain answer
+abbrev pub IsOrdinary : Option Outcome → Type 0
+IsOrdinary None = Unit {0}
+IsOrdinary (Some (outcome.Answered s)) = (is_fault s ≡ false) × (is_good s ≡ false)
+IsOrdinary (Some o) = ⊥
+
+abbrev pub AreOrdinary : List (Option Outcome) → Type 0
+AreOrdinary os = AllByRecursion IsOrdinary os
+
+if_so : (b : Bool) (s : Status) → is_fault s ≡ false → is_good s ≡ false → IsOrdinary (answer_if b s)
+if_so true s e o = (e, o)
+if_so false s e o = tt
+
+pub first_ordinary : (os : List (Option Outcome)) → AreOrdinary os → IsOrdinary (first_some os)
+first_ordinary [] h = tt
+first_ordinary (None ∷ os) h = first_ordinary os h.1
+first_ordinary (Some o ∷ os) h = h.0
+
+pub listed_ordinary : (lib : Library) (w : World) (p : ℕ) (r : Request) → AreOrdinary (listed lib w p r)
+unfolding listed
+listed_ordinary lib w p (close h) = tt
+listed_ordinary lib w p (dup h rights) = (if_so _ _ refl refl, (if_so _ _ refl refl, tt))
+listed_ordinary lib w p (replace h rights) = (if_so _ _ refl refl, tt)
+listed_ordinary lib w p chan_create = (if_so _ _ refl refl, tt)
+listed_ordinary lib w p (chan_write c bytes hs) = (if_so _ _ refl refl, (if_so _ _ refl refl, (if_so _ _ refl refl, tt)))
+listed_ordinary lib w p (chan_read_etc c address room places) = (if_so _ _ refl refl, (if_so _ _ refl refl, (if_so _ _ refl refl, (if_so _ _ refl refl, tt))))
+listed_ordinary lib w p event_create = (if_so _ _ refl refl, tt)
+listed_ordinary lib w p (signal h clear set) = (if_so _ _ refl refl, tt)
+listed_ordinary lib w p (signal_peer h clear set) = (if_so _ _ refl refl, (if_so _ _ refl refl, tt))
+listed_ordinary lib w p (wait_one h mask) = (if_so _ _ refl refl, tt)
+listed_ordinary lib w p (wait_poll h mask) = (if_so _ _ refl refl, (if_so _ _ refl refl, tt))
+listed_ordinary lib w p (wait_async h port key mask) = (if_so _ _ refl refl, (if_so _ _ refl refl, tt))
+listed_ordinary lib w p port_create = (if_so _ _ refl refl, tt)
+listed_ordinary lib w p (port_queue port key value) = (if_so _ _ refl refl, tt)
+listed_ordinary lib w p (port_wait port) = tt
+listed_ordinary lib w p (port_poll port) = (if_so _ _ refl refl, tt)
+listed_ordinary lib w p (port_cancel port source key) = (if_so _ _ refl refl, tt)
+listed_ordinary lib w p (process_create job program) = (if_so _ _ refl refl, (if_so _ _ refl refl, (if_so _ _ refl refl, (if_so _ _ refl refl, tt))))
+listed_ordinary lib w p (process_exit code) = tt
+listed_ordinary lib w p (job_create j) = (if_so _ _ refl refl, (if_so _ _ refl refl, (if_so _ _ refl refl, tt)))

@@ -45,7 +45,7 @@ least_above x n best (b ∷ bs) h k = least_above x n (if nat_le n b && nat_lt b
 pub above : (bounds : List ℕ) (x n : ℕ) → x ≤ n → x ≤ ANY → x ≤ rounded bounds n
 above bounds x n h k = least_above x n ANY bounds h k
 
-wrapped_few : (x : ℕ) → wrapped x ≤ ANY
+pub wrapped_few : (x : ℕ) → wrapped x ≤ ANY
 wrapped_few x = let k : x % 2 ^ 64 < 2 ^ 64 = mod-lt x (pow_pos 64) in omega arith
 
 sum_fits : (x m : ℕ) → x ≤ m → wrapped x ≤ capped m
@@ -57,13 +57,13 @@ meet_fits x y m n h k = let l = and_le_l x y in let r = and_le_r x y in by (bit_
     by : (z m n : ℕ) → z ≤ m → z ≤ n → z ≤ smaller m n
     by z m n h k = grind (arith, nat_tests)
 
-or_few : (x y : ℕ) → x ≤ ANY → y ≤ ANY → bit_or x y ≤ ANY
+pub or_few : (x y : ℕ) → x ≤ ANY → y ≤ ANY → bit_or x y ≤ ANY
 or_few x y h k = let z : bit_or x y < 2 ^ 64 = or_lt 64 x y (omega arith) (omega arith) in omega arith
 
-xor_few : (x y : ℕ) → x ≤ ANY → y ≤ ANY → bit_xor x y ≤ ANY
+pub xor_few : (x y : ℕ) → x ≤ ANY → y ≤ ANY → bit_xor x y ≤ ANY
 xor_few x y h k = let z : bit_xor x y < 2 ^ 64 = xor_lt 64 x y (omega arith) (omega arith) in omega arith
 
-up_few : (x places : ℕ) → (if nat_lt places 64 then wrapped (x * 2 ^ places) else 0) ≤ ANY
+pub up_few : (x places : ℕ) → (if nat_lt places 64 then wrapped (x * 2 ^ places) else 0) ≤ ANY
 up_few x places = by (nat_lt places 64)
   where
     by : (t : Bool) → (if t then wrapped (x * 2 ^ places) else 0) ≤ ANY
@@ -80,7 +80,7 @@ down_fits x m places h = by (nat_lt places 64)
     by true = div_fits x m places h
     by false = omega arith
 
-down_less : (x places : ℕ) → shifted x places ≤ x
+pub down_less : (x places : ℕ) → shifted x places ≤ x
 down_less x places = by (nat_lt places 64)
   where
     by : (t : Bool) → (if t then x / 2 ^ places else 0) ≤ x
@@ -105,7 +105,7 @@ second_in imm target a b rs h = leads (both (nat_lt b 32) (are_registers rs) (bo
     leads : nat_lt b 32 ≡ true → b < 32
     leads e = grind (arith, nat_tests)
 
-imm_in : (imm target : ℕ) (rs : List ℕ) → (is_32_bits imm && is_32_bits target) && are_registers rs ≡ true → imm ≤ ANY
+pub imm_in : (imm target : ℕ) (rs : List ℕ) → (is_32_bits imm && is_32_bits target) && are_registers rs ≡ true → imm ≤ ANY
 imm_in imm target rs h = leads (both (is_32_bits imm) (is_32_bits target) (both _ _ h).0).0
   where
     leads : nat_lt imm 4294967296 ≡ true → imm ≤ ANY

@@ -22,7 +22,7 @@ use Rattle.zl_verify.proofs.Giving.{HasFewRights}
 
 -- ---- signals
 
-both_few : (a b : ℕ) → a ≤ 0xffff_ffff → b ≤ 0xffff_ffff → bit_or a b ≤ 0xffff_ffff
+pub both_few : (a b : ℕ) → a ≤ 0xffff_ffff → b ≤ 0xffff_ffff → bit_or a b ≤ 0xffff_ffff
 both_few a b h k = let e : bit_or a b < 0x1_0000_0000 = or_lt 32 a b (omega arith) (omega arith) in omega arith
 
 pub within_few : (part whole most : ℕ) → within part whole ≡ true → whole ≤ most → part ≤ most
@@ -55,13 +55,17 @@ implied_few w k (JobBody parent depth policy killed) =
     (both_few (signal_if NO_JOBS (not (has_child_job w k))) (signal_if NO_PROCESSES (not (has_child_process w k))) (one_few NO_JOBS (not (has_child_job w k)) (omega arith)) (one_few NO_PROCESSES (not (has_child_process w k)) (omega arith)))
 implied_few w k (ProcessBody job) = one_few TERMINATED (is_process w has_ended k) (omega arith)
 
-pub signals_few : (w : World) → IsSound w → (k : ℕ) → active w k ≤ 0xffff_ffff
+-- so many at most are active, where no more are raised
+pub active_few : (w : World) (k : ℕ) → ((o : Object) → get w.objects k ≡ Some o → o.raised ≤ 0xffff_ffff) → active w k ≤ 0xffff_ffff
 unfolding active
-signals_few w sound k = by (get w.objects k) refl
+active_few w k raised = by (get w.objects k) refl
   where
     by : (o : Option Object) → get w.objects k ≡ o → active_of w k o ≤ 0xffff_ffff
     by None is = omega arith
-    by (Some o) is = both_few o.raised (implied w k o.body) (within_few o.raised (raisable o.body) 0xffff_ffff (sound.raised k o is) (raisable_few o.body)) (implied_few w k o.body)
+    by (Some o) is = both_few o.raised (implied w k o.body) (raised o is) (implied_few w k o.body)
+
+pub signals_few : (w : World) → IsSound w → (k : ℕ) → active w k ≤ 0xffff_ffff
+signals_few w sound k = active_few w k (λ o is. within_few o.raised (raisable o.body) 0xffff_ffff (sound.raised k o is) (raisable_few o.body))
 
 -- ---- messages and packets
 

@@ -143,7 +143,7 @@ within_none n =
     let same : bit_and n 0 ≡ bit_and 0 n = and_comm n 0 in
     within_is 0 n (omega arith)
 
-kind_few : (k : Kind) → kind_number k ≤ ANY
+pub kind_few : (k : Kind) → kind_number k ≤ ANY
 kind_few kind.Process = omega arith
 kind_few _ = omega arith
 

@@ -36,4 +36,8 @@ pub mod Working
 pub mod OwnEffect
 pub mod Storing
 pub mod OwnCalls
+pub mod SizedCpus
+pub mod SizedWorlds
+pub mod SizedCalls
+pub mod SizedRuns
 mod RowsConforms

@@ -29,7 +29,7 @@ number_less (suc n) (x ∷ xs) h =
     let rest : number_of (take n xs) < top n = number_less n xs (λ k. h (suc k)) in
     omega arith
 
-all_dropped : (n : ℕ) (xs : List ℕ) → AreBytes xs → AreBytes (drop n xs)
+pub all_dropped : (n : ℕ) (xs : List ℕ) → AreBytes xs → AreBytes (drop n xs)
 all_dropped n xs h k = rw (get_or-drop n xs k 0) (h (n + k))
 
 pub byte_less : (xs : List ℕ) (n : ℕ) → AreBytes xs → number_of (take 1 (drop n xs)) ≤ 255
@@ -38,7 +38,7 @@ byte_less xs n h = let k : number_of (take 1 (drop n xs)) < 256 = number_less 1 
 pub word_less : (xs : List ℕ) (n : ℕ) → AreBytes xs → number_of (take 8 (drop n xs)) ≤ 0xffff_ffff_ffff_ffff
 word_less xs n h = let k : number_of (take 8 (drop n xs)) < 0x1_0000_0000_0000_0000 = number_less 8 (drop n xs) (all_dropped n xs h) in omega arith
 
-all_taken : (n : ℕ) (xs : List ℕ) → AreBytes xs → AreBytes (take n xs)
+pub all_taken : (n : ℕ) (xs : List ℕ) → AreBytes xs → AreBytes (take n xs)
 all_taken zero xs h k = omega arith
 all_taken (suc n) [] h k = omega arith
 all_taken (suc n) (x ∷ xs) h zero = h 0
@@ -49,16 +49,20 @@ all_both [] ys h g k = g k
 all_both (x ∷ xs) ys h g zero = h 0
 all_both (x ∷ xs) ys h g (suc k) = all_both xs ys (λ j. h (suc j)) g k
 
-all_of : (n v : ℕ) → AreBytes (bytes_of n v)
+pub all_of : (n v : ℕ) → AreBytes (bytes_of n v)
 all_of zero v k = omega arith
 all_of (suc n) v zero = mod-lt v (omega arith)
 all_of (suc n) v (suc k) = all_of n (v / 256) k
+
+-- a memory of bytes has bytes in it, where bytes are written to it
+pub bytes_over : (memory bytes : List ℕ) (address : ℕ) → AreBytes memory → AreBytes bytes → AreBytes (overwritten memory address bytes)
+bytes_over memory bytes address old new = all_both (take address memory) _ (all_taken address memory old) (all_both bytes _ new (all_dropped (address + length bytes) memory old))
 
 -- the memory keeps its size, and has bytes in it
 pub bytes_stored : (i : Image) (memory bytes : List ℕ) (address : ℕ) → IsMemory i memory → AreBytes bytes → address + length bytes ≤ length memory → IsMemory i (overwritten memory address bytes)
 bytes_stored i memory bytes address m are fits = record {
   long = whole;
-  bytes = all_both (take address memory) _ (all_taken address memory m.bytes) (all_both bytes _ are (all_dropped (address + length bytes) memory m.bytes));
+  bytes = bytes_over memory bytes address m.bytes are;
 }
   where
     whole : length (overwritten memory address bytes) ≡ i.memory

@@ -9,3 +9,4 @@ pub mod Names
 pub mod Conforms
 pub mod LocalLaws
 pub mod CallLaws
+pub mod SizedLaws

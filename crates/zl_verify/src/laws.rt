@@ -19,7 +19,8 @@ ghost use Rattle.zl_verify.specs.Steps.{is_pause, IsOver};
 ghost use Rattle.zl_verify.specs.Over.{IsOverByCount};
 ghost use Rattle.zl_verify.specs.Conforms.{Conforms};
 ghost use Rattle.zl_verify.specs.LocalLaws.{IsUnbuilt, GoesOn};
-ghost use Rattle.zl_verify.specs.CallLaws.{StandsAtCall, is_fault, IsAnswered, IsWaiting, IsOwnExit, CanCall};
+ghost use Rattle.zl_verify.specs.CallLaws.{QueuesAreSized, StandsAtCall, is_fault, IsAnswered, IsWaiting, IsOwnExit, CanCall};
+ghost use Rattle.zl_verify.specs.SizedLaws.{CpusAreSized, HoldsInRuns, HoldsInHistories};
 
 /// In a world with sound handles, a process that is as a typing of its image says is never stuck, but
 /// at a call that isn't built yet: there the operands can be read and the memory is there. After a
@@ -62,6 +63,17 @@ pub fn own_call()
         (called : CallName) (s : Site) → StandsAtCall i t w p q called s
         → (lib : Library) (code : ℤ) (w2 : World)
         → Calls lib w p s (outcome.Ended code) w2 → IsOwnExit called s code }
+{}
+
+/// In every world of a run from a boot world, and of a legal history from one, what is queued fits who
+/// receives it, where the images are in their ranges and each word with which a process starts has 64
+/// bits: a message has at most 65,536 bytes, each below 256, and at most 64 handles, and the numbers of
+/// a packet have 64 bits. For registers and slot arrays hold numbers of 64 bits, and memories bytes. Own
+/// profile.
+pub fn runs_keep_queues_sized()
+    ensures queues { HoldsInRuns QueuesAreSized }
+    ensures cpus { HoldsInRuns CpusAreSized }
+    ensures histories { HoldsInHistories QueuesAreSized }
 {}
 
 /// From an instruction that is no wait and not `process_exit` an edge is followed wherever its rule

@@ -1,0 +1,275 @@
+-- Whatever a call does, and however it is answered, its world stays sized.
+use Rattle.std.proofs.Common.{◌≡◌, ℕ, suc, ◌+◌, ◌<◌, ◌≤◌, Bool, true, false, not, ◌||◌, ◌==◌, List, [], ◌∷◌, ◌++◌, length, take, drop, refl, sym, ap, ◌∙◌, subst, IsTrue, Option, Some, None, arith, inl, inr, ◌⊎◌}
+use Rattle.std.specs.Prelude.{⊤, is_some, if◌then◌else◌, nat_lt, slice_get, bit_and, bit_xor}
+use Rattle.std.specs.List.{AllByRecursion, filter}
+use Rattle.std.specs.Option.{option_to_list}
+use Rattle.std.proofs.lemmas.Bool.{cases_Bool, eqb-true, or_parts}
+use Rattle.std.proofs.lemmas.Bool.Decides.{nat_tests}
+use Rattle.std.proofs.lemmas.Nat.{and_le_l}
+use Rattle.std.proofs.lemmas.Option.{same_Some}
+use Rattle.zl_rights.specs.declared.entry.Entry.{Entry}
+use Rattle.zl_rights.specs.declared.status.Status.{Status}
+use Rattle.zl_rights.specs.declared.status.Status.TheVariants as status
+use Rattle.zl_rights.specs.Common.{get, has_key, without, within, runs, queue_of, World, Cpu, Process, Body, ChannelEnd, EventBody, PortBody, JobBody, ProcessBody}
+use Rattle.zl_rights.specs.World.{written, Message, Packet}
+use Rattle.zl_rights.specs.Numbers.{status_magnitude, changed}
+use Rattle.zl_rights.specs.Packets.{user_packet, is_from}
+use Rattle.zl_code.specs.declared.history.Outcome.{Outcome}
+use Rattle.zl_code.specs.declared.history.Outcome.TheVariants as outcome
+use Rattle.zl_code.specs.declared.instr.CallInstr.{CallInstr}
+use Rattle.zl_code.specs.Image.{Library}
+use Rattle.zl_code.specs.Local.{reg}
+use Rattle.zl_code.specs.Tests.{settable_of, may_change, object_at, body_of, peer_at, entry_at, entries_at, is_too_large, queue_at, first_bytes, first_handles}
+use Rattle.zl_code.specs.Waiting.{packets_in, packets_at, first_values, is_keyed, is_by_handle, body_packed, source_at, wait_of}
+use Rattle.zl_code.specs.Starting.{created_process}
+use Rattle.zl_code.specs.Jobs.{job_within}
+use Rattle.zl_code.specs.Effects.{insert_all, with_object, process_with, process_without, may_get_after, may_get_all, told_of, body_with_message, body_after_read}
+use Rattle.zl_code.specs.CallTable.{Request, replace, chan_create, chan_write, chan_read_etc, event_create, signal, signal_peer, wait_one, wait_poll, wait_async, port_create, port_queue, port_wait, port_poll, port_cancel, process_create, job_create, listed, new_handles, choosing, entering_at, effect, stored_by, gives_ok, gives_refused, awaited_by}
+use Rattle.zl_code.specs.Refusals.{refusal}
+use Rattle.zl_code.specs.Request.{Site}
+use Rattle.zl_code.specs.Calls.{taken_handles, may_choose, taken, cpu_answered, replied, with_effect, after_refusal, after_ok, ok_outcome, CallBy, Choice, Refused, WantsMemory, Values, Calls}
+use Rattle.zl_code.specs.Sound.{IsSound, IsSoundTable, is_value}
+use Rattle.zl_code.proofs.Entering.{get_without, gone_without}
+use Rattle.zl_abs.specs.Values.{ANY}
+use Rattle.zl_abs.proofs.Order.{both}
+use Rattle.zl_verify.specs.CallLaws.{IsSizedMessage, IsSizedPacket}
+use Rattle.zl_verify.specs.SizedLaws.{IsSizedCpu}
+use Rattle.zl_verify.proofs.Memories.{AreBytes, all_taken, all_dropped}
+use Rattle.zl_verify.proofs.Calm.{both_few, within_few, first_sizes, first_are_bytes, first_rights, packets_at_sized}
+use Rattle.zl_verify.proofs.Giving.{status_few, kind_few, HasFewRights}
+use Rattle.zl_verify.proofs.OwnTable.{losing_all, removed_here}
+use Rattle.zl_verify.proofs.Sites.{SiteAt, replace_at, chan_write_at, wait_async_at, port_queue_at}
+use Rattle.zl_verify.proofs.Working.{listed_none, test_fails, test_passes}
+use Rattle.zl_verify.proofs.SizedCpus.{AreSmall, registers_written, answered_sized, blank_sized}
+use Rattle.zl_verify.proofs.SizedWorlds.{IsSized, IsSizedObject, all_filtered, all_behind, queues_sized, active_sized, process_sized, new_process_sized, removed_sized, inserted_sized, stored_sized, ended_sized, waiting_sized, object_sized, new_object_sized, fewer_waits, wait_sized}
+
+-- ---- what is asked for
+
+-- the numbers that a request brings into a queue, a wait or a register have their sizes
+abbrev pub IsSizedRequest : Request → Type 0
+IsSizedRequest (replace h rights) = h ≤ ANY
+IsSizedRequest (chan_write c bytes hs) = AreBytes bytes
+IsSizedRequest (wait_async h port key mask) = (key ≤ ANY) × (mask ≤ ANY)
+IsSizedRequest (port_queue port key value) = (key ≤ ANY) × (value ≤ ANY)
+IsSizedRequest _ = ⊤
+
+pub request_sized : (c : Cpu) → IsSizedCpu c → (x : CallInstr) (t : Site) → SiteAt c x t → IsSizedRequest t.request
+request_sized c h _ _ (replace_at a b d imm) = h.small b
+request_sized c h _ _ (chan_write_at a b m n hs) = all_taken (reg c n) (drop (reg c m) c.memory) (all_dropped (reg c m) c.memory h.bytes)
+request_sized c h _ _ (wait_async_at a b o d e) = (h.small d, h.small e)
+request_sized c h _ _ (port_queue_at a b d e) = (h.small d, h.small e)
+request_sized c h _ _ _ = tt
+
+-- ---- what is told
+
+-- the value that was removed last has 64 bits
+abbrev pub HasSmallLast : Process → Type 0
+HasSmallLast q = (v : ℕ) → q.last ≡ Some v → v ≤ ANY
+
+-- so have the values of its handles
+record HasSmallValues (q : Process) : Type 0 where
+  live : (v : ℕ) → has_key q.handles v ≡ true → v ≤ ANY
+  gone : HasSmallLast q
+
+lost_small : (hs : List ℕ) (q : Process) → HasSmallValues q → HasSmallValues (losing_all hs q)
+lost_small [] q k = k
+lost_small (h ∷ hs) q k = lost_small hs (process_without h q) (by (has_key q.handles h) refl)
+  where
+    still : (v : ℕ) → has_key (without q.handles h) v ≡ true → has_key q.handles v ≡ true
+    still v there = either (cases_Bool (v == h))
+      where
+        either : ((v == h) ≡ true) ⊎ ((v == h) ≡ false) → has_key q.handles v ≡ true
+        either (inl same) = let left : has_key (without q.handles h) h ≡ true = subst (λ (j : ℕ). has_key (without q.handles h) j ≡ true) (eqb-true v h same) there in let none = gone_without q.handles h in cc
+        either (inr other) = ap (λ (o : Option Entry). is_some o) (sym (get_without q.handles h v other)) ∙ there
+
+    by : (b : Bool) → has_key q.handles h ≡ b → HasSmallValues (if b then record q { handles = without q.handles h; last = Some h } else q)
+    by true is = record { live = λ v there. k.live v (still v there); gone = λ v e. subst (λ n. n ≤ ANY) (same_Some h v e) (k.live h is) }
+    by false is = k
+
+pub chosen_small : (q : Process) (es : List Entry) (vs : List ℕ) → HasSmallLast q → may_get_all q es vs ≡ true → AreSmall vs
+chosen_small q [] [] k may = tt
+chosen_small q [] (v ∷ vs) k may = cc
+chosen_small q (e ∷ es) [] k may = cc
+chosen_small q (e ∷ es) (v ∷ vs) k may =
+    let two = both (may_get_after q.last q v) (may_get_all (process_with v e q) es vs) may in
+    (by q.last refl two.0, chosen_small (process_with v e q) es vs (λ x is. cc) two.1)
+  where
+    below : nat_lt v 65536 ≡ true → v ≤ ANY
+    below less = grind (arith, nat_tests)
+
+    by : (o : Option ℕ) → q.last ≡ o → may_get_after o q v ≡ true → v ≤ ANY
+    by None is e = below (both (nat_lt v 65536) _ (both (nat_lt 0 v) _ e).1).0
+    by (Some l) is e = subst (λ n. n ≤ ANY) (sym (eqb-true v l e)) (k l is)
+
+told_small : (es : List Entry) (vs : List ℕ) → AllByRecursion HasFewRights es → AreSmall vs → AreSmall (told_of es vs)
+told_small [] vs rights few = tt
+told_small (e ∷ es) [] rights few = tt
+told_small (e ∷ es) (v ∷ vs) (right, rights) (one, more) = (one, (kind_few e.kind, (right, told_small es vs rights more)))
+
+packet_small : (packets : List Packet) → AllByRecursion IsSizedPacket packets → AreSmall (first_values packets)
+packet_small [] k = tt
+packet_small (x ∷ rest) (k, more) = (k.key, (small k.kind, (k.trigger, (k.observed, tt))))
+  where
+    small : {n : ℕ} → n ≤ 1 → n ≤ ANY
+    small le = omega arith
+
+module _ (w : World) (p : ℕ) (s : IsSized w) where
+  sizes_small : (h : ℕ) → (length (first_bytes (queue_at w p h)) ≤ ANY) × (length (first_handles (queue_at w p h)) ≤ ANY)
+  sizes_small h = let few = first_sizes w (queues_sized w s) p h in let bytes = few.0 in let handles = few.1 in (omega arith, omega arith)
+
+  refused_small : (r : Request) (st : Status) → AreSmall (gives_refused w p r st)
+  unfolding gives_refused
+  refused_small (chan_read_etc c address room places) status.BufferTooSmall = let few = sizes_small c in (few.0, (few.1, tt))
+  refused_small (wait_poll h mask) status.TimedOut = (active_sized w s (object_at w p h), tt)
+  refused_small (chan_read_etc c address room places) _ = tt
+  refused_small (wait_poll h mask) _ = tt
+  refused_small _ st = tt
+
+  given_small : IsSound w → (r : Request) → IsSizedRequest r → (vs : List ℕ) → AreSmall vs → AreSmall (gives_ok w p r vs)
+  unfolding gives_ok
+  given_small sound (replace h rights) fits vs few = (fits, tt)
+  given_small sound (chan_read_etc c address room places) fits vs few = let sizes = sizes_small c in (sizes.0, (sizes.1, told_small (first_handles (queue_at w p c)) vs (first_rights w sound p c) few))
+  given_small sound (wait_one h mask) fits vs few = (active_sized w s (object_at w p h), tt)
+  given_small sound (wait_poll h mask) fits vs few = (active_sized w s (object_at w p h), tt)
+  given_small sound (port_wait port) fits vs few = packet_small (packets_at w p port) (packets_at_sized w (queues_sized w s) p port)
+  given_small sound (port_poll port) fits vs few = packet_small (packets_at w p port) (packets_at_sized w (queues_sized w s) p port)
+  given_small sound _ fits vs few = few
+
+  stored_are_bytes : (r : Request) → AreBytes (stored_by w p r).1
+  stored_are_bytes (chan_read_etc c address room places) = first_are_bytes w (queues_sized w s) p c
+  stored_are_bytes _ = λ k. omega arith
+
+-- ---- what is done
+
+-- the signals that a call sets have 32 bits
+settable_few : (b : Option Body) → settable_of b ≤ 0xffff_ffff
+settable_few None = omega arith
+settable_few (Some EventBody) = omega arith
+settable_few (Some _) = omega arith
+
+signals_changed : (b : Option Body) (clear set : ℕ) → may_change b clear set ≡ true → (body : Body) (raised : ℕ) → IsSizedObject body raised → IsSizedObject body (changed raised clear set)
+signals_changed b clear set may body raised o = record {
+  messages = o.messages;
+  packets = o.packets;
+  signals =
+      let less = and_le_l raised (bit_xor clear 0xffff_ffff) in
+      let few = o.signals in
+      both_few (bit_and raised (bit_xor clear 0xffff_ffff)) set (omega arith) (within_few set (settable_of b) 0xffff_ffff (both (within clear (settable_of b)) (within set (settable_of b)) may).1 (settable_few b));
+}
+
+message_comes : (m : Message) → IsSizedMessage m → (b : Body) (raised : ℕ) → IsSizedObject b raised → IsSizedObject (body_with_message m b) raised
+message_comes m new (ChannelEnd peer queue) raised o = record { messages = all_behind IsSizedMessage queue (m ∷ []) o.messages (new, tt); packets = tt; signals = o.signals }
+message_comes m new _ raised o = o
+
+message_goes : (b : Body) (raised : ℕ) → IsSizedObject b raised → IsSizedObject (body_after_read b) raised
+message_goes (ChannelEnd peer []) raised o = o
+message_goes (ChannelEnd peer (m ∷ ms)) raised o = record { messages = o.messages.1; packets = tt; signals = o.signals }
+message_goes _ raised o = o
+
+packets_become : (f : List Packet → List Packet) → ((xs : List Packet) → AllByRecursion IsSizedPacket xs → AllByRecursion IsSizedPacket (f xs)) → (b : Body) (raised : ℕ) → IsSizedObject b raised → IsSizedObject (body_packed f b) raised
+packets_become f keeps (PortBody packets) raised o = record { messages = tt; packets = keeps packets o.packets; signals = o.signals }
+packets_become f keeps _ raised o = o
+
+first_goes : (xs : List Packet) → AllByRecursion IsSizedPacket xs → AllByRecursion IsSizedPacket (drop 1 xs)
+first_goes [] k = tt
+first_goes (x ∷ xs) k = k.1
+
+-- no more handles go into a message than it lists
+entries_few : (w : World) (p : ℕ) (hs : List ℕ) → length (entries_at w p hs) ≤ length hs
+entries_few w p [] = omega arith
+entries_few w p (h ∷ hs) = by (entry_at w p h) (entries_few w p hs)
+  where
+    by : (o : Option Entry) → length (entries_at w p hs) ≤ length hs → length (option_to_list o ++ entries_at w p hs) ≤ suc (length hs)
+    by None le = omega arith
+    by (Some e) le = omega arith
+
+-- what is not too large has its sizes
+message_sized : (w : World) (p : ℕ) (bytes hs : List ℕ) → AreBytes bytes → is_too_large bytes hs ≡ false → IsSizedMessage (record { bytes = bytes; handles = entries_at w p hs })
+message_sized w p bytes hs are fits = by (nat_lt 65536 (length bytes)) refl (nat_lt 64 (length hs)) refl fits
+  where
+    by : (b : Bool) → nat_lt 65536 (length bytes) ≡ b → (c : Bool) → nat_lt 64 (length hs) ≡ c → b || c ≡ false → IsSizedMessage (record { bytes = bytes; handles = entries_at w p hs })
+    by true is c at e = cc
+    by false is true at e = cc
+    by false is false at e = record { few_bytes = grind (arith, nat_tests); bytes = are; few_handles = let le = entries_few w p hs in let most : length hs ≤ 64 = grind (arith, nat_tests) in omega arith }
+
+pub empty_sized : (b : Body) → queue_of b ≡ [] → packets_in (Some b) ≡ [] → IsSizedObject b 0
+empty_sized b queue packets = record { messages = rw queue tt; packets = rw packets tt; signals = omega arith }
+
+module _ (lib : Library) (w : World) (p : ℕ) (u : World) (s : IsSized u) where
+  effect_sized : (r : Request) → IsSizedRequest r → refusal lib w p r ≡ None → IsSized (effect lib w u p r)
+  unfolding effect listed
+  effect_sized (replace h rights) fits passes = fewer_waits u (λ x. not (is_by_handle p h x)) s
+  effect_sized chan_create fits passes = new_object_sized (with_object u (ChannelEnd (w.next_koid + 1) [])) (ChannelEnd w.next_koid []) (empty_sized _ refl refl) (new_object_sized u (ChannelEnd (w.next_koid + 1) []) (empty_sized _ refl refl) s)
+  effect_sized (chan_write c bytes hs) fits passes =
+      object_sized u (peer_at w p c) _ (λ o k. message_comes _ (message_sized w p bytes hs fits (test_fails _ status.OutOfRange (listed_none lib w p (chan_write c bytes hs) passes).1.0)) o.body o.raised k) s
+  effect_sized (chan_read_etc c address room places) fits passes = object_sized u (object_at w p c) _ (λ o k. message_goes o.body o.raised k) s
+  effect_sized event_create fits passes = new_object_sized u EventBody (empty_sized _ refl refl) s
+  effect_sized (signal h clear set) fits passes =
+      object_sized u (object_at w p h) _ (λ o k. signals_changed (body_of w (object_at w p h)) clear set (test_passes _ status.InvalidArgs (listed_none lib w p (signal h clear set) passes).0) o.body o.raised k) s
+  effect_sized (signal_peer h clear set) fits passes =
+      object_sized u (peer_at w p h) _ (λ o k. signals_changed (body_of w (object_at w p h)) clear set (test_passes _ status.InvalidArgs (listed_none lib w p (signal_peer h clear set) passes).0) o.body o.raised k) s
+  effect_sized (wait_async h port key mask) fits passes = wait_sized u (wait_of w p h port key mask) (record { key = fits.0; mask = fits.1 }) s
+  effect_sized port_create fits passes = new_object_sized u (PortBody []) (empty_sized _ refl refl) s
+  effect_sized (port_queue port key value) fits passes =
+      object_sized u (object_at w p port) _ (λ o k. packets_become (λ xs. xs ++ (user_packet key value ∷ [])) (λ xs h. all_behind IsSizedPacket xs _ h (record { kind = omega arith; key = fits.0; trigger = fits.1; observed = omega arith }, tt)) o.body o.raised k) s
+  effect_sized (port_wait port) fits passes = object_sized u (object_at w p port) _ (λ o k. packets_become (drop 1) first_goes o.body o.raised k) s
+  effect_sized (port_poll port) fits passes = object_sized u (object_at w p port) _ (λ o k. packets_become (drop 1) first_goes o.body o.raised k) s
+  effect_sized (port_cancel port source key) fits passes =
+      object_sized _ (object_at w p port) _ (λ o k. packets_become (filter (λ x. not (is_from (source_at w p source) key x))) (λ xs h. all_filtered IsSizedPacket _ xs h) o.body o.raised k)
+      (fewer_waits u (λ x. not (is_keyed p source (object_at w p port) key x)) s)
+  effect_sized (process_create job program) fits passes =
+      new_process_sized (with_object u (ProcessBody (object_at w p job))) w.next_koid (created_process lib program) (blank_sized (slice_get lib program)) (new_object_sized u (ProcessBody (object_at w p job)) (empty_sized _ refl refl) s)
+  effect_sized (job_create j) fits passes = new_object_sized u (job_within (object_at w p j) (body_of w (object_at w p j))) (empty_sized _ refl refl) s
+  effect_sized _ fits passes = s
+
+-- ---- how it ends
+
+replied_sized : (w : World) (p : ℕ) (t : Site) (answer : Status) (values : List ℕ) → AreSmall values → IsSized w → IsSized (replied w p t answer values)
+unfolding replied
+replied_sized w p t answer values few s =
+    process_sized w p (λ q. record q { cpu = cpu_answered t answer values q.cpu })
+    (λ q k. answered_sized (record q.cpu { registers = written q.cpu.registers t.consumed [] }) t.destinations (status_magnitude answer ∷ values)
+    (record { small = registers_written t.consumed [] q.cpu.registers tt k.small; bytes = k.bytes; narrow = k.narrow }) (let le = status_few answer in omega arith, few)) s
+
+module _ (lib : Library) (w : World) (p : ℕ) (q : Process) (there : get w.processes p ≡ Some q) (sound : IsSound w) (s : IsSized w) (t : Site) (fits : IsSizedRequest t.request) where
+  taken_sized : IsSized (taken w p t)
+  taken_sized = removed_sized w p (taken_handles t.request) s
+
+  small_values : HasSmallValues q
+  small_values = record { live = λ v live. of_value v (tables.values v live); gone = λ v is. of_value v (tables.free v is).0 }
+    where
+      tables : IsSoundTable (runs q.state) q.handles q.last
+      tables = sound.tables p q there
+
+      of_value : (v : ℕ) → is_value v ≡ true → v ≤ ANY
+      of_value v e = let less : nat_lt v 65536 ≡ true = (both (nat_lt 0 v) (nat_lt v 65536) e).1 in grind (arith, nat_tests)
+
+  values_small : (vs : List ℕ) → may_choose w (taken w p t) p t.request vs ≡ true → AreSmall vs
+  unfolding may_choose
+  values_small vs may = chosen_small (losing_all (taken_handles t.request) q) (choosing w p t.request) vs (lost_small (taken_handles t.request) q small_values).gone (rw (removed_here (taken_handles t.request) w p q there) at may)
+
+  refused_sized : (o : Outcome) → IsSized (after_refusal w p t o)
+  refused_sized (outcome.Answered answer) = replied_sized (taken w p t) p t answer (gives_refused w p t.request answer) (refused_small w p s t.request answer) taken_sized
+  refused_sized (outcome.Ended code) = ended_sized w p code s
+  refused_sized outcome.Blocked = s
+
+  done_sized : refusal lib w p t.request ≡ None → (vs : List ℕ) → IsSized (with_effect lib w (taken w p t) p t.request vs)
+  done_sized passes vs =
+      stored_sized (insert_all (effect lib w (taken w p t) p t.request) p (new_handles w p t.request) (entering_at t.request vs)) p (stored_by w p t.request) (stored_are_bytes w p s t.request)
+      (inserted_sized (effect lib w (taken w p t) p t.request) p (new_handles w p t.request) (entering_at t.request vs) (effect_sized lib w p (taken w p t) taken_sized t.request fits passes))
+
+  ok_sized : refusal lib w p t.request ≡ None → (vs : List ℕ) → may_choose w (taken w p t) p t.request vs ≡ true → (o : Outcome) → IsSized (after_ok lib w p t vs o)
+  ok_sized passes vs may (outcome.Answered answer) = replied_sized _ p t status.Ok (gives_ok w p t.request vs) (given_small w p s sound t.request fits vs (values_small vs may)) (done_sized passes vs)
+  ok_sized passes vs may (outcome.Ended code) = ended_sized _ p code (done_sized passes vs)
+  ok_sized passes vs may outcome.Blocked = waiting_sized w p t.destinations (awaited_by w p t.request) s
+
+  by_choice : (choice : Choice) (r : Option Outcome) → refusal lib w p t.request ≡ r → (answer : Outcome) (w2 : World) → CallBy lib w p t choice r answer w2 → IsSized w2
+  by_choice Refused None is answer w2 c = absurd c
+  by_choice Refused (Some o) is answer w2 c = rw c.1 (refused_sized o)
+  by_choice WantsMemory None is answer w2 c = rw c.2 (refused_sized (outcome.Answered status.NoMemory))
+  by_choice WantsMemory (Some o) is answer w2 c = absurd c
+  by_choice (Values vs) None is answer w2 c = rw c.2 (ok_sized is vs c.0 (ok_outcome w p t.request))
+  by_choice (Values vs) (Some o) is answer w2 c = absurd c
+
+  pub call_sized : (answer : Outcome) (w2 : World) → Calls lib w p t answer w2 → IsSized w2
+  call_sized answer w2 (choice, c) = by_choice choice (refusal lib w p t.request) refl answer w2 c

@@ -1,0 +1,147 @@
+-- Registers, memories and slot arrays stay sized, whatever a local instruction does.
+use Rattle.std.proofs.Common.{◌≡◌, ℕ, zero, suc, ◌+◌, ◌-◌, ◌<◌, ◌≤◌, Bool, true, false, List, [], ◌∷◌, length, map, take, drop, refl, subst, Option, Some, None, IfSome, arith, slice_set, slice_index}
+use Rattle.std.specs.Prelude.{if◌then◌else◌, nat_lt, slice_get, slice_index_or, replicate, bit_and, ◌^◌}
+use Rattle.std.specs.List.{AllByRecursion}
+use Rattle.std.proofs.lemmas.Option.{get_or_from_slice_get}
+use Rattle.std.proofs.lemmas.Nat.{and_le_l}
+use Rattle.zl_rights.specs.Common.{answered, Cpu}
+use Rattle.zl_rights.specs.World.{written}
+use Rattle.zl_code.specs.declared.image.SlotArray.{SlotArray}
+use Rattle.zl_code.specs.declared.instr.LocalInstr.{LocalInstr}
+use Rattle.zl_code.specs.declared.instr.LocalInstr.TheVariants as local
+use Rattle.zl_code.specs.Image.{Program}
+use Rattle.zl_code.specs.Spells.{number_of, bytes_of, is_local_in_range, local_parts}
+use Rattle.zl_code.specs.Local.{reg, sets, is_in_memory, loads, overwritten, stores, swaps, swaps_in, local_effect}
+use Rattle.zl_code.specs.Starting.{blank_cpu, set_from, with_handles, cpu_given}
+use Rattle.zl_abs.specs.Values.{ANY}
+use Rattle.zl_abs.specs.LocalRules.{shifted}
+use Rattle.zl_verify.specs.SizedLaws.{AreSized, IsSizedCpu}
+use Rattle.zl_verify.proofs.Agreeing.{wrapped_few, or_few, xor_few, up_few, down_less, imm_in}
+use Rattle.zl_verify.proofs.Memories.{AreBytes, byte_less, word_less, bytes_over, all_of}
+
+-- ---- lists by their places
+
+-- P is true of what stands at each place, and of d, which is read behind the end
+abbrev pub AtEach : {X : Type 0} → (X → Type 0) → X → List X → Type 0
+AtEach P d xs = (k : ℕ) → P (slice_index_or xs k d)
+
+-- so it stays, where one place is written
+pub each_set : {X : Type 0} (P : X → Type 0) (d : X) (xs : List X) (r : ℕ) (v : X) → P v → AtEach P d xs → AtEach P d (slice_set xs r v)
+each_set P d [] r v new h k = h k
+each_set P d (x ∷ xs) zero v new h zero = new
+each_set P d (x ∷ xs) zero v new h (suc k) = h (suc k)
+each_set P d (x ∷ xs) (suc r) v new h zero = h zero
+each_set P d (x ∷ xs) (suc r) v new h (suc k) = each_set P d xs r v new (λ j. h (suc j)) k
+
+each_same : {X : Type 0} (P : X → Type 0) (d : X) (n : ℕ) → P d → AtEach P d (replicate n d)
+each_same P d zero here k = here
+each_same P d (suc n) here zero = here
+each_same P d (suc n) here (suc k) = each_same P d n here k
+
+each_made : {X Y : Type 0} (P : Y → Type 0) (d : Y) (f : X → Y) (xs : List X) → P d → ((x : X) → P (f x)) → AtEach P d (map f xs)
+each_made P d f [] here all k = here
+each_made P d f (x ∷ xs) here all zero = all x
+each_made P d f (x ∷ xs) here all (suc k) = each_made P d f xs here all k
+
+-- each number of the list has 64 bits
+abbrev pub AreSmall : List ℕ → Type 0
+AreSmall vs = AllByRecursion (λ v. v ≤ ANY) vs
+
+-- ---- registers
+
+-- a register of 64 bits
+abbrev IsSmall : ℕ → Type 0
+IsSmall v = v ≤ ANY
+
+pub register_set : (xs : List ℕ) (r v : ℕ) → v ≤ ANY → AtEach IsSmall 0 xs → AtEach IsSmall 0 (slice_set xs r v)
+register_set xs r v few h = each_set IsSmall 0 xs r v few h
+
+pub registers_written : (ds vs xs : List ℕ) → AreSmall vs → AtEach IsSmall 0 xs → AtEach IsSmall 0 (written xs ds vs)
+registers_written [] vs xs few h = h
+registers_written (d ∷ ds) [] xs few h = registers_written ds [] (slice_set xs d 0) tt (register_set xs d 0 (omega arith) h)
+registers_written (d ∷ ds) (v ∷ vs) xs (one, more) h = registers_written ds vs (slice_set xs d v) more (register_set xs d v one h)
+
+-- a Cpu whose call is answered
+pub answered_sized : (c : Cpu) (ds vs : List ℕ) → IsSizedCpu c → AreSmall vs → IsSizedCpu (answered c ds vs)
+unfolding answered
+answered_sized c ds vs h few = record { small = registers_written ds vs c.registers few h.small; bytes = h.bytes; narrow = h.narrow }
+
+-- ---- a Cpu that starts
+
+pub blank_sized : (g : Option Program) → IsSizedCpu (blank_cpu g)
+blank_sized None = record { small = each_same IsSmall 0 32 (omega arith); bytes = λ k. omega arith; narrow = λ n k. omega arith }
+blank_sized (Some g) = record {
+  small = each_same IsSmall 0 32 (omega arith);
+  bytes = each_same (λ b. b < 256) 0 g.image.memory (omega arith);
+  narrow = each_made (AtEach IsSmall 0) [] (λ (s : SlotArray). replicate s.length 0) g.image.slots (λ k. omega arith) (λ s. each_same IsSmall 0 s.length (omega arith));
+}
+
+set_sized : (n : ℕ) (vs xs : List ℕ) → AreSmall vs → AtEach IsSmall 0 xs → AtEach IsSmall 0 (set_from n vs xs)
+set_sized n [] xs few h = h
+set_sized n (v ∷ vs) xs (one, more) h = set_sized (n + 1) vs (slice_set xs n v) more (register_set xs n v one h)
+
+given_sized : (vs xs : List ℕ) → AreSmall vs → AtEach IsSmall 0 xs → AtEach IsSmall 0 (with_handles vs xs)
+given_sized [] xs few h = h
+given_sized (v ∷ vs) xs (one, more) h = set_sized 2 vs (slice_set xs 0 v) more (register_set xs 0 v one h)
+
+pub started_sized : (vs : List ℕ) (word : ℕ) (c : Cpu) → AreSmall vs → word ≤ ANY → IsSizedCpu c → IsSizedCpu (cpu_given vs word c)
+started_sized vs word c few least h = record { small = register_set (with_handles vs c.registers) 1 word least (given_sized vs c.registers few h.small); bytes = h.bytes; narrow = h.narrow }
+
+-- ---- local instructions
+
+module _ (c : Cpu) (h : IsSizedCpu c) where
+  -- a register is written
+  sets_sized : (a v : ℕ) → v ≤ ANY → IsSizedCpu (sets c a v)
+  sets_sized a v few = record { small = register_set c.registers a v few h.small; bytes = h.bytes; narrow = h.narrow }
+
+  loads_sized : (n a address : ℕ) → number_of (take n (drop address c.memory)) ≤ ANY → IfSome (loads c n a address) IsSizedCpu
+  loads_sized n a address few = by (is_in_memory c address n)
+    where
+      by : (b : Bool) → IfSome (if b then Some (sets c a (number_of (take n (drop address c.memory)))) else None) IsSizedCpu
+      by true = sets_sized a (number_of (take n (drop address c.memory))) few
+      by false = tt
+
+  stores_sized : (n address v : ℕ) → IfSome (stores c n address v) IsSizedCpu
+  stores_sized n address v = by (is_in_memory c address n)
+    where
+      by : (b : Bool) → IfSome (if b then Some (record c { memory = overwritten c.memory address (bytes_of n v); counter = c.counter + 1 }) else None) IsSizedCpu
+      by true = record { small = h.small; bytes = bytes_over c.memory (bytes_of n v) address h.bytes (all_of n v); narrow = h.narrow }
+      by false = tt
+
+  swaps_sized : (a place array : ℕ) → IfSome (swaps c a place array) IsSizedCpu
+  swaps_sized a place array = by_array (slice_get c.slots array) refl
+    where
+      by_array : (o : Option (List ℕ)) → slice_get c.slots array ≡ o → IfSome (swaps_in c a place array o) IsSizedCpu
+      by_array None is = tt
+      by_array (Some slots) is = by (nat_lt place (length slots))
+        where
+          all : AtEach IsSmall 0 slots
+          all = subst (AtEach IsSmall 0) (get_or_from_slice_get c.slots array slots [] is) (h.narrow array)
+
+          by : (b : Bool) → IfSome (if b then Some (record (sets c a (slice_index slots place)) { slots = slice_set c.slots array (slice_set slots place (reg c a)) }) else None) IsSizedCpu
+          by true = record {
+            small = register_set c.registers a (slice_index slots place) (all place) h.small;
+            bytes = h.bytes;
+            narrow = each_set (AtEach IsSmall 0) [] c.slots array (slice_set slots place (reg c a)) (register_set slots place (reg c a) (h.small a) all) h.narrow;
+          }
+          by false = tt
+
+  pub local_sized : (x : LocalInstr) → is_local_in_range x ≡ true → IfSome (local_effect x c) IsSizedCpu
+  unfolding local_effect local_parts
+  local_sized (local.Const a imm) r = sets_sized a imm (imm_in imm 0 (a ∷ []) r)
+  local_sized (local.Move a b) r = sets_sized a (reg c b) (h.small b)
+  local_sized (local.Add a b d) r = sets_sized a _ (wrapped_few (reg c b + reg c d))
+  local_sized (local.AddNumber a b imm) r = sets_sized a _ (wrapped_few (reg c b + imm))
+  local_sized (local.Subtract a b d) r = sets_sized a _ (wrapped_few (reg c b + 2 ^ 64 - reg c d))
+  local_sized (local.And a b d) r = sets_sized a (bit_and (reg c b) (reg c d)) (let less = and_le_l (reg c b) (reg c d) in let few = h.small b in omega arith)
+  local_sized (local.Or a b d) r = sets_sized a _ (or_few (reg c b) (reg c d) (h.small b) (h.small d))
+  local_sized (local.Xor a b d) r = sets_sized a _ (xor_few (reg c b) (reg c d) (h.small b) (h.small d))
+  local_sized (local.ShiftLeft a b imm) r = sets_sized a _ (up_few (reg c b) imm)
+  local_sized (local.ShiftRight a b imm) r = sets_sized a (shifted (reg c b) imm) (let less = down_less (reg c b) imm in let few = h.small b in omega arith)
+  local_sized (local.Take a b) r = record { small = register_set (slice_set c.registers a (reg c b)) b 0 (omega arith) (register_set c.registers a (reg c b) (h.small b) h.small); bytes = h.bytes; narrow = h.narrow }
+  local_sized (local.Swap a b imm) r = swaps_sized a (reg c b) imm
+  local_sized (local.LoadByte a b imm) r = loads_sized 1 a (reg c b + imm) (let less = byte_less c.memory (reg c b + imm) h.bytes in omega arith)
+  local_sized (local.LoadWord a b imm) r = loads_sized 8 a (reg c b + imm) (word_less c.memory (reg c b + imm) h.bytes)
+  local_sized (local.StoreByte a b imm) r = stores_sized 1 (reg c a + imm) (reg c b)
+  local_sized (local.StoreWord a b imm) r = stores_sized 8 (reg c a + imm) (reg c b)
+  local_sized _ r = h

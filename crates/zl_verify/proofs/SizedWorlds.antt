@@ -1,0 +1,236 @@
+-- Worlds in which registers, memories and what is queued are sized; what changes a world leaves it so, and so do settling and waking.
+use Rattle.std.proofs.Common.{◌≡◌, ℕ, ◌+◌, ◌<◌, ◌≤◌, Bool, true, false, not, ◌&&◌, ◌==◌, List, [], ◌∷◌, ◌++◌, map, refl, sym, ◌∙◌, subst, Option, Some, None, arith}
+use Rattle.std.specs.Prelude.{ℤ, cond, if◌then◌else◌}
+use Rattle.std.specs.List.{AllByRecursion, filter, fold}
+use Rattle.std.specs.Option.{option_map}
+use Rattle.std.proofs.lemmas.Option.{same_Some, none-some}
+use Rattle.zl_rights.specs.declared.entry.Entry.{Entry}
+use Rattle.zl_rights.specs.Common.{lives, answered, each, get, put, update, where_key, without, has_key, Koids, Settles, process_settled, without_others, queue_of, fired, wakes, Map, World, Cpu, Process, State, Blocked, Ended, Object, Body, PortBody}
+use Rattle.zl_rights.specs.World.{Awaited, SignalOf, PacketAt, Packet, Wait}
+use Rattle.zl_rights.specs.Signals.{active}
+use Rattle.zl_rights.specs.Numbers.{meets}
+use Rattle.zl_rights.specs.Settle.{is_made_by_handle}
+use Rattle.zl_rights.specs.Wakes.{holds, packet_of, body_with_packets, packets_for, made_ready, packet_values, with_body, woken_by_first, woken_by, woken_at_port, woken_from, woken_if_there, woken}
+use Rattle.zl_rights.proofs.MapLaws.{get-update, get-each}
+use Rattle.zl_code.specs.Effects.{on_process, on_object, process_with, process_without, insert_all, remove_all, with_object, with_process, process_ended, ended, storing, waiting}
+use Rattle.zl_code.specs.Local.{overwritten}
+use Rattle.zl_code.specs.Waiting.{packets_in, registered}
+use Rattle.zl_code.proofs.MapKept.{Each, each_put, each_where_key}
+use Rattle.zl_abs.specs.Values.{ANY}
+use Rattle.zl_verify.specs.CallLaws.{IsSizedMessage, IsSizedPacket, QueuesAreSized}
+use Rattle.zl_verify.specs.SizedLaws.{IsSizedCpu}
+use Rattle.zl_verify.proofs.Memories.{AreBytes, bytes_over}
+use Rattle.zl_verify.proofs.Calm.{active_few}
+use Rattle.zl_verify.proofs.SizedCpus.{AreSmall, answered_sized}
+
+-- ---- lists
+
+module _ {X : Type 0} (P : X → Type 0) where
+  pub all_filtered : (test : X → Bool) (xs : List X) → AllByRecursion P xs → AllByRecursion P (filter test xs)
+  all_filtered test [] h = tt
+  all_filtered test (x ∷ xs) (one, more) = by (test x) (all_filtered test xs more)
+    where
+      by : (b : Bool) → AllByRecursion P (filter test xs) → AllByRecursion P (cond b (x ∷ filter test xs) (filter test xs))
+      by true rest = (one, rest)
+      by false rest = rest
+
+  pub all_behind : (xs ys : List X) → AllByRecursion P xs → AllByRecursion P ys → AllByRecursion P (xs ++ ys)
+  all_behind [] ys h more = more
+  all_behind (x ∷ xs) ys (one, h) more = (one, all_behind xs ys h more)
+
+all_made : {X Y : Type 0} (P : X → Type 0) (Q : Y → Type 0) (f : X → Y) → ((x : X) → P x → Q (f x)) → (xs : List X) → AllByRecursion P xs → AllByRecursion Q (map f xs)
+all_made P Q f each [] h = tt
+all_made P Q f each (x ∷ xs) (one, more) = (each x one, all_made P Q f each xs more)
+
+-- ---- maps
+
+module _ {X : Type 0} (P : X → Type 0) (m : Map X) (all : Each P m) where
+  each_update : (q : ℕ) (f : X → X) → ((x : X) → P x → P (f x)) → Each P (update m q f)
+  each_update q f keeps k x there = by (q == k) (get m k) refl (sym (get-update m q f k) ∙ there)
+    where
+      by : (b : Bool) (o : Option X) → get m k ≡ o → (if b then option_map f o else o) ≡ Some x → P x
+      by true None is e = absurd (none-some x e)
+      by true (Some y) is e = subst P (same_Some (f y) x e) (keeps y (all k y is))
+      by false o is e = all k x (is ∙ e)
+
+  each_each : (f : ℕ → X → X) → ((k : ℕ) (x : X) → P x → P (f k x)) → Each P (each f m)
+  each_each f keeps k x there = by (get m k) refl (sym (get-each m f k) ∙ there)
+    where
+      by : (o : Option X) → get m k ≡ o → option_map (f k) o ≡ Some x → P x
+      by None is e = absurd (none-some x e)
+      by (Some y) is e = subst P (same_Some (f k y) x e) (keeps k y (all k y is))
+
+-- ---- sized worlds
+
+-- an object keeps messages, packets and signals of their sizes
+pub record IsSizedObject (body : Body) (raised : ℕ) : Type 0 where
+  pub messages : AllByRecursion IsSizedMessage (queue_of body)
+  pub packets : AllByRecursion IsSizedPacket (packets_in (Some body))
+  pub signals : raised ≤ 0xffff_ffff
+
+-- the packet of a wait fits who receives it
+pub record IsSizedWait (x : Wait) : Type 0 where
+  pub key : x.key ≤ ANY
+  pub mask : x.mask ≤ ANY
+
+abbrev IsSizedProcess : Process → Type 0
+IsSizedProcess q = IsSizedCpu q.cpu
+
+abbrev IsSizedAt : Object → Type 0
+IsSizedAt o = IsSizedObject o.body o.raised
+
+-- processes, objects and waits are sized
+pub record AllAreSized (ps : Map Process) (os : Map Object) (ws : List Wait) : Type 0 where
+  pub cpus : (p : ℕ) (q : Process) → get ps p ≡ Some q → IsSizedCpu q.cpu
+  pub kept : (k : ℕ) (o : Object) → get os k ≡ Some o → IsSizedObject o.body o.raised
+  pub waits : AllByRecursion IsSizedWait ws
+
+-- those of the world
+abbrev pub IsSized : World → Type 0
+IsSized w = AllAreSized w.processes w.objects w.waits
+
+pub queues_sized : (w : World) → IsSized w → QueuesAreSized w
+queues_sized w s = record { messages = λ k o there. (s.kept k o there).messages; packets = λ k o there. (s.kept k o there).packets }
+
+pub active_sized : (w : World) → IsSized w → (k : ℕ) → active w k ≤ ANY
+active_sized w s k = let few : active w k ≤ 0xffff_ffff = active_few w k (λ o is. (s.kept k o is).signals) in omega arith
+
+-- ---- changes of a process
+
+pub process_sized : (w : World) (p : ℕ) (f : Process → Process) → ((q : Process) → IsSizedCpu q.cpu → IsSizedCpu (f q).cpu) → IsSized w → IsSized (on_process w p f)
+unfolding on_process
+process_sized w p f keeps s = record { cpus = each_update IsSizedProcess w.processes s.cpus p f keeps; kept = s.kept; waits = s.waits }
+
+pub new_process_sized : (w : World) (k : ℕ) (q : Process) → IsSizedCpu q.cpu → IsSized w → IsSized (with_process w k q)
+new_process_sized w k q new s = record { cpus = each_put IsSizedProcess w.processes s.cpus k q new; kept = s.kept; waits = s.waits }
+
+without_sized : (h : ℕ) (q : Process) → IsSizedCpu q.cpu → IsSizedCpu (process_without h q).cpu
+without_sized h q s = by (has_key q.handles h)
+  where
+    by : (b : Bool) → IsSizedCpu (if b then record q { handles = without q.handles h; last = Some h } else q).cpu
+    by true = s
+    by false = s
+
+pub removed_sized : (w : World) (p : ℕ) (hs : List ℕ) → IsSized w → IsSized (remove_all w p hs)
+unfolding remove_all
+removed_sized w p [] s = s
+removed_sized w p (h ∷ hs) s = removed_sized (on_process w p (process_without h)) p hs (process_sized w p (process_without h) (without_sized h) s)
+
+pub inserted_sized : (w : World) (p : ℕ) (es : List Entry) (vs : List ℕ) → IsSized w → IsSized (insert_all w p es vs)
+unfolding insert_all
+inserted_sized w p [] vs s = s
+inserted_sized w p (e ∷ es) [] s = s
+inserted_sized w p (e ∷ es) (v ∷ vs) s = inserted_sized (on_process w p (process_with v e)) p es vs (process_sized w p (process_with v e) (λ q k. k) s)
+
+pub stored_sized : (w : World) (p : ℕ) (at : ℕ × List ℕ) → AreBytes at.1 → IsSized w → IsSized (storing w p at)
+stored_sized w p (address, []) are s = s
+stored_sized w p (address, b ∷ bytes) are s =
+    process_sized w p (λ q. record q { cpu = record q.cpu { memory = overwritten q.cpu.memory address (b ∷ bytes) } })
+    (λ q k. record { small = k.small; bytes = bytes_over q.cpu.memory (b ∷ bytes) address k.bytes are; narrow = k.narrow }) s
+
+pub ended_sized : (w : World) (p : ℕ) (code : ℤ) → IsSized w → IsSized (ended w p code)
+unfolding ended
+ended_sized w p code s = process_sized w p (process_ended code) (λ q k. by q k (lives q.state)) s
+  where
+    by : (q : Process) → IsSizedCpu q.cpu → (b : Bool) → IsSizedCpu (if b then record q { state = Ended code; handles = []; last = None } else q).cpu
+    by q k true = k
+    by q k false = k
+
+pub waiting_sized : (w : World) (p : ℕ) (ds : List ℕ) (awaited : Option Awaited) → IsSized w → IsSized (waiting w p ds awaited)
+waiting_sized w p ds None s = s
+waiting_sized w p ds (Some awaited) s = process_sized w p (λ q. record q { state = Blocked awaited ds }) (λ q k. k) s
+
+-- ---- changes of an object, and of waits
+
+pub object_sized : (w : World) (k : ℕ) (f : Object → Object) → ((o : Object) → IsSizedObject o.body o.raised → IsSizedObject (f o).body (f o).raised) → IsSized w → IsSized (on_object w k f)
+unfolding on_object
+object_sized w k f keeps s = record { cpus = s.cpus; kept = each_update IsSizedAt w.objects s.kept k f keeps; waits = s.waits }
+
+pub new_object_sized : (w : World) (b : Body) → IsSizedObject b 0 → IsSized w → IsSized (with_object w b)
+unfolding with_object
+new_object_sized w b new s = record { cpus = s.cpus; kept = each_put IsSizedAt w.objects s.kept w.next_koid (record { body = b; raised = 0 }) new; waits = s.waits }
+
+pub fewer_waits : (w : World) (test : Wait → Bool) → IsSized w → IsSized (record w { waits = filter test w.waits })
+fewer_waits w test s = record { cpus = s.cpus; kept = s.kept; waits = all_filtered IsSizedWait test w.waits s.waits }
+
+pub wait_sized : (w : World) (x : Wait) → IsSizedWait x → IsSized w → IsSized (registered w x)
+wait_sized w x new s = record { cpus = s.cpus; kept = s.kept; waits = all_behind IsSizedWait w.waits (x ∷ []) s.waits (new, tt) }
+
+-- ---- settling
+
+pub settled_sized : (u v : World) → Settles u v → IsSized u → IsSized v
+unfolding without_others
+settled_sized u v (K, largest, e) s = rw e (record {
+  cpus = each_each IsSizedProcess u.processes s.cpus (process_settled K) (λ k q fits. fits);
+  kept = each_where_key IsSizedAt u.objects s.kept K;
+  waits = all_filtered IsSizedWait (λ x. is_made_by_handle u x && K x.port) u.waits s.waits;
+})
+
+-- ---- waking
+
+module _ (w : World) (s : IsSized w) where
+  packet_sized : (x : Wait) → IsSizedWait x → IsSizedPacket (packet_of w x)
+  packet_sized x fits = record { kind = omega arith; key = fits.key; trigger = fits.mask; observed = active_sized w s x.object }
+
+  packets_sized : (k : ℕ) → AllByRecursion IsSizedPacket (packets_for w k)
+  packets_sized k = all_made IsSizedWait IsSizedPacket (packet_of w) packet_sized (filter (λ x. x.port == k && holds w x) w.waits) (all_filtered IsSizedWait (λ x. x.port == k && holds w x) w.waits s.waits)
+
+  more_packets : (more : List Packet) → AllByRecursion IsSizedPacket more → (b : Body) (raised : ℕ) → IsSizedObject b raised → IsSizedObject (body_with_packets more b) raised
+  more_packets more fit (PortBody packets) raised o = record { messages = tt; packets = all_behind IsSizedPacket packets more o.packets fit; signals = o.signals }
+  more_packets more fit _ raised o = o
+
+  fired_sized : IsSized (fired w)
+  unfolding fired
+  fired_sized = record {
+    cpus = s.cpus;
+    kept = each_each IsSizedAt w.objects s.kept (λ k o. record o { body = body_with_packets (packets_for w k) o.body }) (λ k o fits. more_packets (packets_for w k) (packets_sized k) o.body o.raised fits);
+    waits = all_filtered IsSizedWait (λ x. not (holds w x)) w.waits s.waits;
+  }
+
+ready_sized : (w : World) (p : ℕ) (q : Process) (ds vs : List ℕ) → IsSizedCpu q.cpu → AreSmall vs → IsSized w → IsSized (made_ready w p q ds vs)
+unfolding made_ready
+ready_sized w p q ds vs fits few s = record { cpus = each_put IsSizedProcess w.processes s.cpus p _ (answered_sized q.cpu ds vs fits few); kept = s.kept; waits = s.waits }
+
+module _ (w : World) (s : IsSized w) (p : ℕ) where
+  by_packets : (q : Process) → IsSizedCpu q.cpu → (k : ℕ) (ds : List ℕ) (o : Object) (packets : List Packet) → IsSizedObject (PortBody packets) o.raised → IsSized (woken_by_first w p q k ds o packets)
+  by_packets q fits k ds o [] held = s
+  by_packets q fits k ds o (x ∷ rest) held =
+      let (first, others) = held.packets in
+      ready_sized (with_body w k o (PortBody rest)) p q ds (0 ∷ packet_values x) fits (omega arith, (first.key, (small first.kind, (first.trigger, (first.observed, tt)))))
+      (record { cpus = s.cpus; kept = each_put IsSizedAt w.objects s.kept k (record o { body = PortBody rest }) (record { messages = tt; packets = others; signals = held.signals }); waits = s.waits })
+    where
+      small : {n : ℕ} → n ≤ 1 → n ≤ ANY
+      small le = omega arith
+
+  by_body : (q : Process) → IsSizedCpu q.cpu → (k : ℕ) (ds : List ℕ) (o : Object) (b : Body) → IsSizedObject b o.raised → IsSized (woken_by w p q k ds o b)
+  by_body q fits k ds o (PortBody packets) held = by_packets q fits k ds o packets held
+  by_body q fits k ds o _ held = s
+
+  by_object : (q : Process) → IsSizedCpu q.cpu → (k : ℕ) (ds : List ℕ) (o : Option Object) → get w.objects k ≡ o → IsSized (woken_at_port w p q k ds o)
+  by_object q fits k ds None at = s
+  by_object q fits k ds (Some o) at = by_body q fits k ds o o.body (s.kept k o at)
+
+  by_state : (q : Process) → IsSizedCpu q.cpu → (life : State) → IsSized (woken_from w p q life)
+  by_state q fits (Blocked (SignalOf k mask) ds) = by (meets (active w k) mask)
+    where
+      by : (b : Bool) → IsSized (if b then made_ready w p q ds (0 ∷ active w k ∷ []) else w)
+      by true = ready_sized w p q ds (0 ∷ active w k ∷ []) fits (omega arith, (active_sized w s k, tt)) s
+      by false = s
+  by_state q fits (Blocked (PacketAt k) ds) = by_object q fits k ds (get w.objects k) refl
+  by_state q fits _ = s
+
+  woken_sized : IsSized (woken w p)
+  unfolding woken
+  woken_sized = by (get w.processes p) refl
+    where
+      by : (o : Option Process) → get w.processes p ≡ o → IsSized (woken_if_there w p o)
+      by None is = s
+      by (Some q) is = by_state q (s.cpus p q is) q.state
+
+turns_sized : (w : World) (ps : List ℕ) → IsSized w → IsSized (fold woken w ps)
+turns_sized w [] s = s
+turns_sized w (p ∷ ps) s = turns_sized (woken w p) ps (woken_sized w s p)
+
+pub wakes_sized : (w : World) → IsSized w → IsSized (wakes w)
+unfolding wakes
+wakes_sized w s = turns_sized (fired w) w.blocked (fired_sized w s)

@@ -15,9 +15,9 @@ use Rattle.zl_code.specs.Local.{reg, sets, is_in_memory, loads, overwritten, sto
 use Rattle.zl_code.specs.Starting.{blank_cpu, set_from, with_handles, cpu_given}
 use Rattle.zl_abs.specs.Values.{ANY}
 use Rattle.zl_abs.specs.LocalRules.{shifted}
-use Rattle.zl_verify.specs.SizedLaws.{AreSized, IsSizedCpu}
+use Rattle.zl_verify.specs.SizedLaws.{IsSizedCpu}
 use Rattle.zl_verify.proofs.Agreeing.{wrapped_few, or_few, xor_few, up_few, down_less, imm_in}
-use Rattle.zl_verify.proofs.Memories.{AreBytes, byte_less, word_less, bytes_over, all_of}
+use Rattle.zl_verify.proofs.Memories.{byte_less, word_less, bytes_over, all_of}
 
 -- ---- lists by their places
 

@@ -1,10 +1,10 @@
 -- Every world of a run from a boot world, and of a legal history from one, is sized.
-use Rattle.std.proofs.Common.{◌≡◌, ℕ, zero, suc, ◌+◌, ◌≤◌, Bool, true, false, ◌==◌, List, [], ◌∷◌, refl, subst, IsTrue, Option, Some, None, IfSome, arith}
+use Rattle.std.proofs.Common.{◌≡◌, ℕ, zero, suc, ◌+◌, ◌≤◌, Bool, true, false, ◌==◌, List, [], ◌∷◌, refl, subst, IsTrue, Option, Some, None, IfSome}
 use Rattle.std.specs.Prelude.{⊤, if◌then◌else◌, slice_get}
 use Rattle.std.specs.List.{AllByRecursion, flat_map}
 use Rattle.std.proofs.lemmas.Option.{same_Some, none-some}
 use Rattle.zl_rights.specs.declared.entry.Entry.{Entry}
-use Rattle.zl_rights.specs.Common.{STUCK, get, World, Cpu, Process, Object, Body, EventBody, PortBody, ChannelEnd, JobBody, ProcessBody}
+use Rattle.zl_rights.specs.Common.{STUCK, get, World, Cpu, Process, Object, EventBody, PortBody, ChannelEnd, JobBody, ProcessBody}
 use Rattle.zl_code.specs.declared.boot.Statement.{Statement}
 use Rattle.zl_code.specs.declared.boot.Statement.TheVariants as statement
 use Rattle.zl_code.specs.declared.history.TraceItem.{TraceItem}
@@ -15,8 +15,8 @@ use Rattle.zl_code.specs.Image.{Image, Library, instr_at}
 use Rattle.zl_code.specs.Spells.{is_in_range, is_instr_in_range}
 use Rattle.zl_code.specs.Local.{local_effect}
 use Rattle.zl_code.specs.Request.{Site, site_of, name_of}
-use Rattle.zl_code.specs.Effects.{on_process, with_object, process_with}
-use Rattle.zl_code.specs.Boot.{Boots, IsBoot, may_boot, boot_effect, handles_given, process_with_all, origin}
+use Rattle.zl_code.specs.Effects.{with_object, process_with}
+use Rattle.zl_code.specs.Boot.{Boots, may_boot, boot_effect, handles_given, process_with_all, origin}
 use Rattle.zl_code.specs.Starting.{created_process}
 use Rattle.zl_code.specs.Steps.{Next, Moves, AtCall, IsStuck, moves, calls_at, next_of, next_at, next_in, next_for, Acts, Step, pid_of, Runs, single, IsLegalHistory}
 use Rattle.zl_code.specs.Handles.{Throughout}
@@ -27,7 +27,7 @@ use Rattle.zl_abs.specs.Values.{ANY}
 use Rattle.zl_verify.specs.SizedLaws.{IsSizedCpu, word_of, IsSizedBoot}
 use Rattle.zl_verify.proofs.LocalSteps.{in_range_at}
 use Rattle.zl_verify.proofs.Sites.{site_at}
-use Rattle.zl_verify.proofs.SizedCpus.{AreSmall, blank_sized, started_sized, local_sized}
+use Rattle.zl_verify.proofs.SizedCpus.{blank_sized, started_sized, local_sized}
 use Rattle.zl_verify.proofs.SizedWorlds.{IsSized, IsSizedObject, process_sized, new_process_sized, ended_sized, new_object_sized, settled_sized, wakes_sized}
 use Rattle.zl_verify.proofs.SizedCalls.{IsSizedRequest, request_sized, chosen_small, empty_sized, call_sized}
 

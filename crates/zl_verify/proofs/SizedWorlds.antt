@@ -1,11 +1,11 @@
 -- Worlds in which registers, memories and what is queued are sized; what changes a world leaves it so, and so do settling and waking.
-use Rattle.std.proofs.Common.{◌≡◌, ℕ, ◌+◌, ◌<◌, ◌≤◌, Bool, true, false, not, ◌&&◌, ◌==◌, List, [], ◌∷◌, ◌++◌, map, refl, sym, ◌∙◌, subst, Option, Some, None, arith}
+use Rattle.std.proofs.Common.{◌≡◌, ℕ, ◌≤◌, Bool, true, false, not, ◌&&◌, ◌==◌, List, [], ◌∷◌, ◌++◌, map, refl, sym, ◌∙◌, subst, Option, Some, None, arith}
 use Rattle.std.specs.Prelude.{ℤ, cond, if◌then◌else◌}
 use Rattle.std.specs.List.{AllByRecursion, filter, fold}
 use Rattle.std.specs.Option.{option_map}
 use Rattle.std.proofs.lemmas.Option.{same_Some, none-some}
 use Rattle.zl_rights.specs.declared.entry.Entry.{Entry}
-use Rattle.zl_rights.specs.Common.{lives, answered, each, get, put, update, where_key, without, has_key, Koids, Settles, process_settled, without_others, queue_of, fired, wakes, Map, World, Cpu, Process, State, Blocked, Ended, Object, Body, PortBody}
+use Rattle.zl_rights.specs.Common.{lives, each, get, update, without, has_key, Settles, process_settled, without_others, queue_of, fired, wakes, Map, World, Process, State, Blocked, Ended, Object, Body, PortBody}
 use Rattle.zl_rights.specs.World.{Awaited, SignalOf, PacketAt, Packet, Wait}
 use Rattle.zl_rights.specs.Signals.{active}
 use Rattle.zl_rights.specs.Numbers.{meets}

@@ -40,4 +40,7 @@ pub mod SizedCpus
 pub mod SizedWorlds
 pub mod SizedCalls
 pub mod SizedRuns
+pub mod Awaking
+pub mod Woken
+pub mod Starting
 mod RowsConforms

@@ -33,12 +33,12 @@ each_set P d (x ∷ xs) zero v new h (suc k) = h (suc k)
 each_set P d (x ∷ xs) (suc r) v new h zero = h zero
 each_set P d (x ∷ xs) (suc r) v new h (suc k) = each_set P d xs r v new (λ j. h (suc j)) k
 
-each_same : {X : Type 0} (P : X → Type 0) (d : X) (n : ℕ) → P d → AtEach P d (replicate n d)
-each_same P d zero here k = here
-each_same P d (suc n) here zero = here
-each_same P d (suc n) here (suc k) = each_same P d n here k
+pub each_filled : {X : Type 0} (P : X → Type 0) (d : X) (n : ℕ) → P d → AtEach P d (replicate n d)
+each_filled P d zero here k = here
+each_filled P d (suc n) here zero = here
+each_filled P d (suc n) here (suc k) = each_filled P d n here k
 
-each_made : {X Y : Type 0} (P : Y → Type 0) (d : Y) (f : X → Y) (xs : List X) → P d → ((x : X) → P (f x)) → AtEach P d (map f xs)
+pub each_made : {X Y : Type 0} (P : Y → Type 0) (d : Y) (f : X → Y) (xs : List X) → P d → ((x : X) → P (f x)) → AtEach P d (map f xs)
 each_made P d f [] here all k = here
 each_made P d f (x ∷ xs) here all zero = all x
 each_made P d f (x ∷ xs) here all (suc k) = each_made P d f xs here all k
@@ -69,11 +69,11 @@ answered_sized c ds vs h few = record { small = registers_written ds vs c.regist
 -- ---- a Cpu that starts
 
 pub blank_sized : (g : Option Program) → IsSizedCpu (blank_cpu g)
-blank_sized None = record { small = each_same IsSmall 0 32 (omega arith); bytes = λ k. omega arith; narrow = λ n k. omega arith }
+blank_sized None = record { small = each_filled IsSmall 0 32 (omega arith); bytes = λ k. omega arith; narrow = λ n k. omega arith }
 blank_sized (Some g) = record {
-  small = each_same IsSmall 0 32 (omega arith);
-  bytes = each_same (λ b. b < 256) 0 g.image.memory (omega arith);
-  narrow = each_made (AtEach IsSmall 0) [] (λ (s : SlotArray). replicate s.length 0) g.image.slots (λ k. omega arith) (λ s. each_same IsSmall 0 s.length (omega arith));
+  small = each_filled IsSmall 0 32 (omega arith);
+  bytes = each_filled (λ b. b < 256) 0 g.image.memory (omega arith);
+  narrow = each_made (AtEach IsSmall 0) [] (λ (s : SlotArray). replicate s.length 0) g.image.slots (λ k. omega arith) (λ s. each_filled IsSmall 0 s.length (omega arith));
 }
 
 set_sized : (n : ℕ) (vs xs : List ℕ) → AreSmall vs → AtEach IsSmall 0 xs → AtEach IsSmall 0 (set_from n vs xs)

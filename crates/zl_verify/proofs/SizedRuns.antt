@@ -70,12 +70,13 @@ module _ (lib : Library) (images : AllByRecursion (λ g. IsTrue (is_in_range g.i
   act_sized w p q there sound s (AtCall call t) fits x w2 (o, e, c) = call_sized lib w p q there sound s t fits o w2 c
   act_sized w p q there sound s IsStuck fits x w2 a = rw a.1 (ended_sized w p STUCK s)
 
+  -- the world right after what the process does
+  pub acted_sized : (w : World) (p : ℕ) (x : TraceItem) (after : World) → IsSound w → IsSized w → (step : Step lib w p x after) → IsSized step.acted
+  acted_sized w p x after sound s step =
+      act_sized w p step.process step.is_there sound s (next_for lib step.process) (library_sized lib images step.process.program step.process.cpu (s.cpus p step.process step.is_there)) x step.acted step.acts
+
   step_sized : (w : World) (p : ℕ) (x : TraceItem) (after : World) → IsSound w → IsSized w → Step lib w p x after → IsSized after
-  step_sized w p x after sound s step =
-      rw step.ends_awake
-      (wakes_sized step.settled
-      (settled_sized step.acted step.settled step.settles
-      (act_sized w p step.process step.is_there sound s (next_for lib step.process) (library_sized lib images step.process.program step.process.cpu (s.cpus p step.process step.is_there)) x step.acted step.acts)))
+  step_sized w p x after sound s step = rw step.ends_awake (wakes_sized step.settled (settled_sized step.acted step.settled step.settles (acted_sized w p x after sound s step)))
 
   run_sized : (w : World) (items : List TraceItem) (after : World) → IsSound w → IsSized w → Runs lib w items after → IsSized after
   run_sized w [] after sound s e = rw e s
@@ -129,9 +130,13 @@ boot_sized lib statements w b = settled_sized b.boots.made w b.boots.settles (bo
 
 -- ---- runs and histories from a boot world
 
+-- the last world of a run
+pub world_sized : (lib : Library) (statements : List Statement) (boot after : World) (items : List TraceItem) → IsSizedBoot lib statements boot → Runs lib boot items after → IsSized after
+world_sized lib statements boot after items b run = run_sized lib b.images boot items after (boot_sound lib statements boot b.boots) (boot_sized lib statements boot b) run
+
 module _ (Q : World → Type 0) (of : (w : World) → IsSized w → Q w) (lib : Library) (statements : List Statement) (boot after : World) (b : IsSizedBoot lib statements boot) where
   pub runs_keep : (items : List TraceItem) → Runs lib boot items after → Q after
-  runs_keep items run = of after (run_sized lib b.images boot items after (boot_sound lib statements boot b.boots) (boot_sized lib statements boot b) run)
+  runs_keep items run = of after (world_sized lib statements boot after items b run)
 
   pub histories_keep : (history : List TraceItem) → (legal : IsLegalHistory lib boot history after) → Throughout Q lib boot (flat_map single history) after legal.run × Q after
   histories_keep history legal = (

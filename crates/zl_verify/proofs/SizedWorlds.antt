@@ -179,7 +179,7 @@ module _ (w : World) (s : IsSized w) where
   more_packets more fit (PortBody packets) raised o = record { messages = tt; packets = all_behind IsSizedPacket packets more o.packets fit; signals = o.signals }
   more_packets more fit _ raised o = o
 
-  fired_sized : IsSized (fired w)
+  pub fired_sized : IsSized (fired w)
   unfolding fired
   fired_sized = record {
     cpus = s.cpus;
@@ -219,7 +219,7 @@ module _ (w : World) (s : IsSized w) (p : ℕ) where
   by_state q fits (Blocked (PacketAt k) ds) = by_object q fits k ds (get w.objects k) refl
   by_state q fits _ = s
 
-  woken_sized : IsSized (woken w p)
+  pub woken_sized : IsSized (woken w p)
   unfolding woken
   woken_sized = by (get w.processes p) refl
     where

@@ -127,7 +127,7 @@ replaced_as a f xs x o some ok l asked d e is one none few q1 gone s ys = by a (
 
 -- ---- packets and messages
 
-packets_fit : (bounds : List ℕ) (packets : List Packet) → AllByRecursion IsSizedPacket packets → (f : Table) (s : State) (xs : List ℕ) (d e g h : ℕ)
+pub packets_fit : (bounds : List ℕ) (packets : List Packet) → AllByRecursion IsSizedPacket packets → (f : Table) (s : State) (xs : List ℕ) (d e g h : ℕ)
     → Fits f s xs ((d, Word ANY) ∷ (e, Word (rounded bounds 1)) ∷ (g, Word ANY) ∷ (h, Word ANY) ∷ []) (first_values packets) f
 packets_fit bounds [] x f s xs d e g h = zeros_fit f s xs ((d, Word ANY) ∷ (e, Word (rounded bounds 1)) ∷ (g, Word ANY) ∷ (h, Word ANY) ∷ []) (tt, (tt, (tt, (tt, tt))))
 packets_fit bounds (y ∷ rest) (x, more) f s xs d e g h = (f, (x.key, x.key, refl), (f, (above bounds y.kind 1 x.kind (small x.kind), small x.kind, refl), (f, (x.trigger, x.trigger, refl), (f, (x.observed, x.observed, refl), refl))))

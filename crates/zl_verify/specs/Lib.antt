@@ -10,3 +10,4 @@ pub mod Conforms
 pub mod LocalLaws
 pub mod CallLaws
 pub mod SizedLaws
+pub mod WakeLaws

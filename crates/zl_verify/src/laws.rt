@@ -1,10 +1,11 @@
 //! Laws of the definitions: each function's contract is one law, and its body is empty.
 
 ghost use Rattle.std.specs.Prelude.{ℕ, ◌≡◌, ◌≢◌, ◌↔◌, ℤ, false, IsTrue, List, [], Option, Some, Ok};
-ghost use Rattle.zl_rights.specs.Common.{World, Cpu, Process, Ready, get};
+ghost use Rattle.zl_rights.specs.Common.{World, Cpu, Process, Ready, get, runs};
 ghost use Rattle.zl_rights.specs.declared.status.Status.{Status};
 ghost use Rattle.zl_code.specs.declared.history.CallName.{CallName};
 ghost use Rattle.zl_code.specs.declared.history.Outcome.TheVariants as outcome;
+ghost use Rattle.zl_code.specs.declared.history.TraceItem.{TraceItem};
 ghost use Rattle.zl_code.specs.declared.instr.CallInstr.{CallInstr};
 ghost use Rattle.zl_code.specs.Image.{Image, Library, call_at};
 ghost use Rattle.zl_code.specs.Spells.{is_in_range};
@@ -21,6 +22,7 @@ ghost use Rattle.zl_verify.specs.Conforms.{Conforms};
 ghost use Rattle.zl_verify.specs.LocalLaws.{IsUnbuilt, GoesOn};
 ghost use Rattle.zl_verify.specs.CallLaws.{QueuesAreSized, StandsAtCall, is_fault, IsAnswered, IsWaiting, IsOwnExit, CanCall};
 ghost use Rattle.zl_verify.specs.SizedLaws.{CpusAreSized, HoldsInRuns, HoldsInHistories};
+ghost use Rattle.zl_verify.specs.WakeLaws.{IsProperStart, IsRunStep, EndsStep};
 
 /// In a world with sound handles, a process that is as a typing of its image says is never stuck, but
 /// at a call that isn't built yet: there the operands can be read and the memory is there. After a
@@ -74,6 +76,21 @@ pub fn runs_keep_queues_sized()
     ensures queues { HoldsInRuns QueuesAreSized }
     ensures cpus { HoldsInRuns CpusAreSized }
     ensures histories { HoldsInHistories QueuesAreSized }
+{}
+
+/// In each step of a run from a boot world, a process that is as a typing of its image says right after
+/// what the step does is so at its end, once handles that nothing holds are gone, waits have given their
+/// packets and processes are awake: it is as it was, or it waited, and stands ready at the end of a
+/// followed edge. Own profile.
+pub fn start_and_wake()
+    ensures starts { (i : Image) (t : ℕ → Option State) (w : World) (p : ℕ) (q : Process)
+        → IsTrue (is_in_range i) → IsTyping i t → IsProperStart i w p q → Conforms i t w p q }
+    ensures wakes { (i : Image) (t : ℕ → Option State)
+        (lib : Library) (w : World) (p : ℕ) (x : TraceItem) (w2 : World)
+        → IsTrue (is_in_range i) → IsTyping i t → (run : IsRunStep lib w p x w2)
+        → (q : ℕ) (process : Process) → get run.step.acted.processes q ≡ Some process
+        → IsTrue (runs process.state) → Conforms i t run.step.acted q process
+        → EndsStep i t q process w2 }
 {}
 
 /// From an instruction that is no wait and not `process_exit` an edge is followed wherever its rule

@@ -1,0 +1,152 @@
+-- A process that waits as its typing says gets an answer that fits: then it stands at the end of a followed edge, as the typing says there.
+use Rattle.std.proofs.Common.{◌≡◌, ℕ, ◌+◌, ◌≤◌, ◌⊎◌, Bool, true, false, List, [], ◌∷◌, length, refl, sym, ap, ◌∙◌, subst, Option, Some, None, Result, Ok, Err, inr, arith, slice_set}
+use Rattle.std.specs.Prelude.{if◌then◌else◌}
+use Rattle.std.proofs.lemmas.Option.{same_Some}
+use Rattle.zl_rights.specs.Common.{answered, get, World, Cpu, Process, Ready, Blocked}
+use Rattle.zl_rights.specs.World.{State as Life, Awaited, SignalOf, PacketAt, Packet}
+use Rattle.zl_rights.specs.Wakes.{packet_values}
+use Rattle.zl_rights.specs.declared.status.Status.TheVariants as status
+use Rattle.zl_code.specs.declared.instr.Instr.{Instr}
+use Rattle.zl_code.specs.declared.instr.Instr.TheVariants as instr
+use Rattle.zl_code.specs.declared.instr.CallInstr.{CallInstr}
+use Rattle.zl_code.specs.declared.instr.CallInstr.TheVariants as call
+use Rattle.zl_code.specs.Image.{Image, instr_at, call_at, call_in}
+use Rattle.zl_code.specs.Instructions.{row_of}
+use Rattle.zl_code.specs.Spells.{is_in_range, is_call_in_range, call_parts}
+use Rattle.zl_code.specs.Local.{reg}
+use Rattle.zl_code.specs.Tests.{creates, by_policy}
+use Rattle.zl_code.specs.CallTable.{wait_one, port_wait}
+use Rattle.zl_code.specs.Refusals.{handle_operands, condition_of}
+use Rattle.zl_code.specs.Request.{Site, site}
+use Rattle.zl_code.specs.Calls.{taken_handles, cpu_answered}
+use Rattle.zl_code.proofs.ImageRanges.{ranges}
+use Rattle.zl_abs.specs.declared.value.AbsVal.TheVariants.{Word}
+use Rattle.zl_abs.specs.declared.cause.Cause.{Cause}
+use Rattle.zl_abs.specs.Values.{ANY}
+use Rattle.zl_abs.specs.Bounds.{bounds_of, rounded}
+use Rattle.zl_abs.specs.States.{State, with_value, with_all}
+use Rattle.zl_abs.specs.Rule.{and_then, edges, passes}
+use Rattle.zl_abs.specs.Outcome.{Outcome as Ways}
+use Rattle.zl_abs.specs.CallRules.{Uses, uses_of, goes_on, stops, call_rule}
+use Rattle.zl_abs.specs.Typing.{rule_with, IsTyping}
+use Rattle.zl_abs.specs.Typing.{Holds as RuleHolds}
+use Rattle.zl_verify.specs.Steps.{targets_of, OneOf}
+use Rattle.zl_verify.specs.Conforms.{Table, Holds, IsMemory, WaitsAt, Conforms}
+use Rattle.zl_verify.specs.CallLaws.{IsSizedPacket, ends_of}
+use Rattle.zl_verify.proofs.LocalSteps.{in_range_at, reached}
+use Rattle.zl_verify.proofs.Refining.{Known}
+use Rattle.zl_verify.proofs.Agreeing.{Arrives}
+use Rattle.zl_verify.proofs.Fitting.{Fits}
+use Rattle.zl_verify.proofs.Giving.{status_fits}
+use Rattle.zl_verify.proofs.OwnTable.{losing_all}
+use Rattle.zl_verify.proofs.Sites.{SiteAt, wait_one_at, port_wait_at}
+use Rattle.zl_verify.proofs.Standing.{HasRule, has_rule, Stands, left, left_there, zeroed, answer_holds}
+use Rattle.zl_verify.proofs.Working.{packets_fit}
+
+-- all that `Conforms` says of a process but what its job allows
+pub record IsTyped (i : Image) (t : ℕ → Option State) (q : Process) : Type 0 where
+  pub state : State
+  pub stands : t q.cpu.counter ≡ Some state
+  pub holds : Holds (get q.handles) state q.cpu.registers i.slots q.cpu.slots
+  pub memory : IsMemory i q.cpu.memory
+  pub waits : WaitsAt q.state (call_at i q.cpu.counter)
+
+pub is_typed : (i : Image) (t : ℕ → Option State) (w : World) (p : ℕ) (q : Process) → Conforms i t w p q → IsTyped i t q
+is_typed i t w p q k = record { state = k.state; stands = k.stands; holds = k.holds; memory = k.memory; waits = k.waits }
+
+-- what q becomes by its answer
+pub record IsAwake (i : Image) (t : ℕ → Option State) (q after : Process) : Type 0 where
+  pub follows : OneOf (λ n. after.cpu.counter ≡ n) (ends_of i t q.cpu.counter)
+  pub ready : after.state ≡ Ready
+  pub program : after.program ≡ q.program
+  pub typed : IsTyped i t after
+
+module _ (i : Image) (t : ℕ → Option State) (range : is_in_range i ≡ true) (typing : IsTyping i t) (w : World) (p : ℕ) (q : Process) (there : get w.processes p ≡ Some q) (k : IsTyped i t q) where
+  module _ (x : CallInstr) (is : instr_at i q.cpu.counter ≡ Some (instr.Call x)) (on : goes_on x ≡ true) (s : Site) (here : SiteAt q.cpu x s) (no_condition : condition_of s.request ≡ None) (none_taken : taken_handles s.request ≡ []) (values : List ℕ) where
+    -- the process with the answer OK and these values
+    abbrev after : Process
+    after = record q { state = Ready; cpu = cpu_answered s status.Ok values q.cpu }
+
+    holds_here : RuleHolds t (and_then (call_rule (bounds_of i.code) i x k.state) (edges (length i.code) q.cpu.counter 0))
+    unfolding rule_with
+    holds_here = rw is at (typing.holds q.cpu.counter k.state k.stands)
+
+    in_range_here : is_call_in_range x ≡ true
+    in_range_here = rw is at (in_range_at i.raw i.code q.cpu.counter (ranges i range).code)
+
+    leads_here : (ways : Ways) → call_rule (bounds_of i.code) i x k.state ≡ Ok ways → targets_of (and_then (Ok ways) (edges (length i.code) q.cpu.counter 0)) ≡ ends_of i t q.cpu.counter
+    unfolding rule_with
+    leads_here ways rule = rw (k.stands, is, rule) refl
+
+    module _ (ways : Ways) (rule : call_rule (bounds_of i.code) i x k.state ≡ Ok ways) (leads_on : RuleHolds t (and_then (Ok ways) (edges (length i.code) q.cpu.counter 0))) (u : Uses) (r : State) (uses : uses_of (bounds_of i.code) k.state x ≡ Some u) (has : HasRule i k.state x u r ways)
+        (fits : (xs : List ℕ) → Fits (get q.handles) r xs u.results (0 ∷ values) (get q.handles)) where
+      before : Stands w p q x s k.state i.slots u r
+      before = record {
+        there = there;
+        bounds = bounds_of i.code;
+        uses = uses;
+        site = here;
+        holds = k.holds;
+        states = typing.state q.cpu.counter k.state k.stands;
+        in_range = in_range_here;
+        operands = has.operands;
+        distinct = has.distinct;
+        free = has.free;
+        allowed = ap (by_policy w p) no_condition;
+      }
+
+      nothing_left : get q.handles ≡ left before
+      nothing_left = ap (λ hs. get (losing_all hs q).handles) (sym none_taken) ∙ left_there before
+
+      holds_after : Holds (get q.handles) (with_all r u.results) after.cpu.registers i.slots q.cpu.slots
+      holds_after = answer_holds before status.Ok values q.cpu (get q.handles) refl (subst (λ f. Fits f r (zeroed before) u.results (0 ∷ values) (get q.handles)) nothing_left (fits (zeroed before)))
+
+      passes_on : ways.passed ≡ Some (with_all r u.results)
+      passes_on = ap (λ y. y.passed) (sym has.leads ∙ ap (λ (b : Bool). if b then passes (with_all r u.results) else stops) on)
+
+      is_awake : IsAwake i t q after
+      unfolding answered
+      is_awake =
+          let known : Known (get q.handles) after.cpu.registers i.slots q.cpu.slots ways.passed = rw passes_on holds_after in
+          let arrives : Arrives (get q.handles) i q.cpu.counter 0 (Ok ways) (Some after.cpu) = (k.memory, inr (refl, known)) in
+          let r = reached t (get q.handles) i after.cpu (length i.code) q.cpu.counter 0 (Ok ways) leads_on arrives in
+          record {
+            follows = subst (OneOf (λ n. after.cpu.counter ≡ n)) (leads_here ways rule) r.1.follows;
+            ready = refl;
+            program = refl;
+            typed = record { state = r.1.state; stands = r.1.stands; holds = r.1.holds; memory = r.0; waits = tt };
+          }
+
+    awake_at : ((u : Uses) (r : State) (xs : List ℕ) → uses_of (bounds_of i.code) k.state x ≡ Some u → Fits (get q.handles) r xs u.results (0 ∷ values) (get q.handles)) → IsAwake i t q after
+    awake_at fits = by (call_rule (bounds_of i.code) i x k.state) refl holds_here
+      where
+        by : (o : Result Ways Cause) → call_rule (bounds_of i.code) i x k.state ≡ o → RuleHolds t (and_then o (edges (length i.code) q.cpu.counter 0)) → IsAwake i t q after
+        by (Err c) rule holds = absurd holds
+        by (Ok ways) rule holds = let (u, r, uses, has) = has_rule i k.state x (bounds_of i.code) ways rule in is_awake ways rule holds u r uses has (λ xs. fits u r xs uses)
+
+  -- a signal that it waits for is there
+  pub signal_wakes : (koid mask : ℕ) (ds : List ℕ) → q.state ≡ Blocked (SignalOf koid mask) ds → (n : ℕ) → n ≤ 0xffff_ffff → IsAwake i t q (record q { state = Ready; cpu = answered q.cpu ds (0 ∷ n ∷ []) })
+  unfolding uses_of row_of call_parts taken_handles handle_operands
+  signal_wakes koid mask ds blocked n few = by (instr_at i q.cpu.counter) refl (subst (λ (l : Life). WaitsAt l (call_at i q.cpu.counter)) blocked k.waits)
+    where
+      by : (o : Option Instr) → instr_at i q.cpu.counter ≡ o → WaitsAt (Blocked (SignalOf koid mask) ds) (call_in o) → IsAwake i t q (record q { state = Ready; cpu = answered q.cpu ds (0 ∷ n ∷ []) })
+      by (Some (instr.Call (call.WaitOne a b m d))) is same =
+          subst (λ (e : List ℕ). IsAwake i t q (record q { state = Ready; cpu = answered q.cpu e (0 ∷ n ∷ []) })) (sym same)
+          (awake_at (call.WaitOne a b m d) is refl (site (wait_one (reg q.cpu b) (reg q.cpu m)) [] (a ∷ d ∷ [])) (wait_one_at a b m d) refl refl (n ∷ [])
+          (λ u r xs uses. subst (λ (y : Uses). Fits (get q.handles) r xs y.results (0 ∷ n ∷ []) (get q.handles)) (same_Some _ u uses)
+          (get q.handles, (omega arith, omega arith, refl), (get q.handles, (few, omega arith, refl), refl))))
+      by _ is bad = absurd bad
+
+  -- a packet that it waits for is there
+  pub packet_wakes : (koid : ℕ) (ds : List ℕ) → q.state ≡ Blocked (PacketAt koid) ds → (y : Packet) → IsSizedPacket y → IsAwake i t q (record q { state = Ready; cpu = answered q.cpu ds (0 ∷ packet_values y) })
+  unfolding uses_of row_of call_parts taken_handles handle_operands
+  packet_wakes koid ds blocked y sized = by (instr_at i q.cpu.counter) refl (subst (λ (l : Life). WaitsAt l (call_at i q.cpu.counter)) blocked k.waits)
+    where
+      by : (o : Option Instr) → instr_at i q.cpu.counter ≡ o → WaitsAt (Blocked (PacketAt koid) ds) (call_in o) → IsAwake i t q (record q { state = Ready; cpu = answered q.cpu ds (0 ∷ packet_values y) })
+      by (Some (instr.Call (call.PortWait a b d e g h))) is same =
+          subst (λ (f : List ℕ). IsAwake i t q (record q { state = Ready; cpu = answered q.cpu f (0 ∷ packet_values y) })) (sym same)
+          (awake_at (call.PortWait a b d e g h) is refl (site (port_wait (reg q.cpu b)) [] (a ∷ d ∷ e ∷ g ∷ h ∷ [])) (port_wait_at a b d e g h) refl refl (packet_values y)
+          (λ u r xs uses. subst (λ (z : Uses). Fits (get q.handles) r xs z.results (0 ∷ packet_values y) (get q.handles)) (same_Some _ u uses)
+          (status_fits (get q.handles) r xs a ((d, Word ANY) ∷ (e, Word (rounded (bounds_of i.code) 1)) ∷ (g, Word ANY) ∷ (h, Word ANY) ∷ []) 0 (packet_values y) (get q.handles) (omega arith)
+          (packets_fit (bounds_of i.code) (y ∷ []) (sized, tt) (get q.handles) (with_value r a (Word 30)) (slice_set xs a 0) d e g h))))
+      by _ is bad = absurd bad

@@ -1,0 +1,62 @@
+-- What the laws of starting and waking say.
+use Rattle.std.specs.Prelude.{ℕ, ◌≡◌, ◌≤◌, Bool, List, [], ◌∷◌, Option, Some, None, IsTrue, slice_get}
+use Rattle.zl_rights.specs.Common.{get, World, Process, Blocked}
+use Rattle.zl_rights.specs.World.{Awaited}
+use Rattle.zl_rights.specs.declared.entry.Entry.{Entry}
+use Rattle.zl_rights.specs.declared.policy.Condition.{Condition}
+use Rattle.zl_code.specs.declared.boot.Statement.{Statement}
+use Rattle.zl_code.specs.declared.history.TraceItem.{TraceItem}
+use Rattle.zl_code.specs.declared.image.Start.{Start}
+use Rattle.zl_code.specs.Image.{Image, Library, is_among}
+use Rattle.zl_code.specs.Tests.{creates}
+use Rattle.zl_code.specs.Effects.{may_get_all}
+use Rattle.zl_code.specs.Boot.{started_process}
+use Rattle.zl_code.specs.Starting.{created_process}
+use Rattle.zl_code.specs.Steps.{Step, Runs}
+use Rattle.zl_abs.specs.Values.{ANY}
+use Rattle.zl_abs.specs.States.{State}
+use Rattle.zl_verify.specs.Conforms.{IsAs, Conforms}
+use Rattle.zl_verify.specs.CallLaws.{IsAnswered}
+use Rattle.zl_verify.specs.SizedLaws.{IsSizedBoot}
+
+-- ---- the end of a step
+
+-- A step from w to w2 in a run that begins at a boot world with images in range and words of 64 bits.
+pub record IsRunStep (lib : Library) (w : World) (p : ℕ) (x : TraceItem) (w2 : World) : Type 0 where
+  pub statements : List Statement
+  pub boot : World
+  pub items : List TraceItem
+  pub begins : IsSizedBoot lib statements boot
+  pub run : Runs lib boot items w
+  pub step : Step lib w p x w2
+
+-- What becomes of the process p, which was q, till the step ends with w2.
+pub data EndsStep (i : Image) (t : ℕ → Option State) (p : ℕ) (q : Process) (w2 : World) : Type 0 where
+  -- it is as it was, and conforms
+  stays : get w2.processes p ≡ Some q → Conforms i t w2 p q → EndsStep i t p q w2
+  -- it waited, and stands ready at the end of a followed edge, where it conforms
+  wakes : (awaited : Awaited) (destinations : List ℕ) → q.state ≡ Blocked awaited destinations → IsAnswered i t p q w2 → EndsStep i t p q w2
+
+-- ---- a start
+
+-- each handle is of the kind and has the rights that are declared of it, and there is one for each that is declared
+abbrev pub AreAsDeclared : List Start → List Entry → Type 0
+AreAsDeclared [] [] = Unit {0}
+AreAsDeclared (s ∷ ss) (e ∷ es) = IsAs s.kind s.rights (Some e) × AreAsDeclared ss es
+AreAsDeclared _ _ = ⊥
+
+-- The process p of w, which is q, has just been started by this image with what the image declares, and its job allows what the image needs.
+pub record IsProperStart (i : Image) (w : World) (p : ℕ) (q : Process) : Type 0 where
+  pub library : Library
+  pub program : ℕ
+  pub checked : Bool
+  pub running : slice_get library program ≡ Some (record { checked = checked; image = i })
+  -- its handles, their values, and its word
+  pub handles : List Entry
+  pub values : List ℕ
+  pub word : ℕ
+  pub made : q ≡ started_process library program handles values word
+  pub free : IsTrue (may_get_all (created_process library program) handles values)
+  pub declared : AreAsDeclared i.starts handles
+  pub small : word ≤ ANY
+  pub allowed : (c : Condition) → IsTrue (is_among i.needs c) → creates w p c ≡ None

@@ -43,4 +43,5 @@ pub mod SizedRuns
 pub mod Awaking
 pub mod Woken
 pub mod Starting
+pub mod Others
 mod RowsConforms

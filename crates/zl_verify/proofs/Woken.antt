@@ -255,7 +255,7 @@ settled_there u v (K, largest, is) p q there running = rw is (get-each u.process
     by Created e = cc
     by _ e = cc
 
-lives_then : (l : Life) → runs l ≡ true → lives l ≡ true
+pub lives_then : (l : Life) → runs l ≡ true → lives l ≡ true
 lives_then Ready e = refl
 lives_then (Blocked awaited ds) e = refl
 lives_then _ e = cc
@@ -263,7 +263,7 @@ lives_then _ e = cc
 -- ---- the end of a step
 
 module _ (i : Image) (t : ℕ → Option State) (range : is_in_range i ≡ true) (typing : IsTyping i t) (lib : Library) (w : World) (m : ℕ) (x : TraceItem) (w2 : World) (b : IsRunStep lib w m x w2) where
-  sound_before : IsSound w
+  pub sound_before : IsSound w
   sound_before = run_sound lib b.statements b.boot w b.items b.begins.boots b.run
 
   sound_after : IsSound w2

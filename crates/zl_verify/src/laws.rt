@@ -1,6 +1,6 @@
 //! Laws of the definitions: each function's contract is one law, and its body is empty.
 
-ghost use Rattle.std.specs.Prelude.{ℕ, ◌≡◌, ◌≢◌, ◌↔◌, ℤ, false, IsTrue, List, [], Option, Some, Ok};
+ghost use Rattle.std.specs.Prelude.{ℕ, ◌≡◌, ◌≢◌, ◌==◌, ◌↔◌, ℤ, false, IsTrue, List, [], Option, Some, Ok};
 ghost use Rattle.zl_rights.specs.Common.{World, Cpu, Process, Ready, get, runs};
 ghost use Rattle.zl_rights.specs.declared.status.Status.{Status};
 ghost use Rattle.zl_code.specs.declared.history.CallName.{CallName};
@@ -91,6 +91,11 @@ pub fn start_and_wake()
         → (q : ℕ) (process : Process) → get run.step.acted.processes q ≡ Some process
         → IsTrue (runs process.state) → Conforms i t run.step.acted q process
         → EndsStep i t q process w2 }
+    ensures others { (i : Image) (t : ℕ → Option State)
+        (lib : Library) (w : World) (p : ℕ) (x : TraceItem) (w2 : World)
+        → IsTrue (is_in_range i) → IsTyping i t → IsRunStep lib w p x w2
+        → (q : ℕ) (process : Process) → (p == q) ≡ false → get w.processes q ≡ Some process
+        → IsTrue (runs process.state) → Conforms i t w q process → EndsStep i t q process w2 }
 {}
 
 /// From an instruction that is no wait and not `process_exit` an edge is followed wherever its rule

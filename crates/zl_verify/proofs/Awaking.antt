@@ -1,9 +1,9 @@
 -- A process that waits as its typing says gets an answer that fits: then it stands at the end of a followed edge, as the typing says there.
-use Rattle.std.proofs.Common.{◌≡◌, ℕ, ◌+◌, ◌≤◌, ◌⊎◌, Bool, true, false, List, [], ◌∷◌, length, refl, sym, ap, ◌∙◌, subst, Option, Some, None, Result, Ok, Err, inr, arith, slice_set}
+use Rattle.std.proofs.Common.{◌≡◌, ℕ, ◌≤◌, Bool, true, List, [], ◌∷◌, length, refl, sym, ap, ◌∙◌, subst, Option, Some, None, Result, Ok, Err, inr, arith, slice_set}
 use Rattle.std.specs.Prelude.{if◌then◌else◌}
 use Rattle.std.proofs.lemmas.Option.{same_Some}
-use Rattle.zl_rights.specs.Common.{answered, get, World, Cpu, Process, Ready, Blocked}
-use Rattle.zl_rights.specs.World.{State as Life, Awaited, SignalOf, PacketAt, Packet}
+use Rattle.zl_rights.specs.Common.{answered, get, World, Process, Ready, Blocked}
+use Rattle.zl_rights.specs.World.{State as Life, SignalOf, PacketAt, Packet}
 use Rattle.zl_rights.specs.Wakes.{packet_values}
 use Rattle.zl_rights.specs.declared.status.Status.TheVariants as status
 use Rattle.zl_code.specs.declared.instr.Instr.{Instr}
@@ -14,7 +14,7 @@ use Rattle.zl_code.specs.Image.{Image, instr_at, call_at, call_in}
 use Rattle.zl_code.specs.Instructions.{row_of}
 use Rattle.zl_code.specs.Spells.{is_in_range, is_call_in_range, call_parts}
 use Rattle.zl_code.specs.Local.{reg}
-use Rattle.zl_code.specs.Tests.{creates, by_policy}
+use Rattle.zl_code.specs.Tests.{by_policy}
 use Rattle.zl_code.specs.CallTable.{wait_one, port_wait}
 use Rattle.zl_code.specs.Refusals.{handle_operands, condition_of}
 use Rattle.zl_code.specs.Request.{Site, site}
@@ -31,7 +31,7 @@ use Rattle.zl_abs.specs.CallRules.{Uses, uses_of, goes_on, stops, call_rule}
 use Rattle.zl_abs.specs.Typing.{rule_with, IsTyping}
 use Rattle.zl_abs.specs.Typing.{Holds as RuleHolds}
 use Rattle.zl_verify.specs.Steps.{targets_of, OneOf}
-use Rattle.zl_verify.specs.Conforms.{Table, Holds, IsMemory, WaitsAt, Conforms}
+use Rattle.zl_verify.specs.Conforms.{Holds, IsMemory, WaitsAt, Conforms}
 use Rattle.zl_verify.specs.CallLaws.{IsSizedPacket, ends_of}
 use Rattle.zl_verify.proofs.LocalSteps.{in_range_at, reached}
 use Rattle.zl_verify.proofs.Refining.{Known}

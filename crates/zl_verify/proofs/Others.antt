@@ -1,12 +1,11 @@
 -- What one process does leaves every other as it is, and as its typing says.
-use Rattle.std.proofs.Common.{◌≡◌, ℕ, zero, suc, ◌<◌, ◌≤◌, Bool, true, false, ◌==◌, List, [], ◌∷◌, refl, sym, ap, ◌∙◌, IsTrue, Option, Some, None, arith}
-use Rattle.std.specs.Prelude.{⊤, is_some, slice_get}
-use Rattle.std.proofs.lemmas.Bool.Decides.{nat_tests}
+use Rattle.std.proofs.Common.{◌≡◌, ℕ, true, false, ◌==◌, List, [], ◌∷◌, refl, ◌∙◌, IsTrue, Option, Some, None, arith}
+use Rattle.std.specs.Prelude.{⊤, slice_get}
 use Rattle.zl_rights.specs.declared.entry.Entry.{Entry}
 use Rattle.zl_rights.specs.declared.policy.Condition.{Condition}
 use Rattle.zl_rights.specs.declared.status.Status.{Status}
 use Rattle.zl_rights.specs.declared.status.Status.TheVariants as status
-use Rattle.zl_rights.specs.Common.{STUCK, get, lives, runs, World, Cpu, Process, State as Life, Ready, Blocked}
+use Rattle.zl_rights.specs.Common.{STUCK, get, runs, World, Cpu, Process}
 use Rattle.zl_rights.specs.World.{Awaited}
 use Rattle.zl_rights.proofs.MapLaws.{get-update}
 use Rattle.zl_code.specs.declared.history.Outcome.{Outcome}
@@ -17,15 +16,13 @@ use Rattle.zl_code.specs.declared.instr.Instr.TheVariants as instr
 use Rattle.zl_code.specs.declared.instr.CallInstr.{CallInstr}
 use Rattle.zl_code.specs.Image.{Image, Library, Program, instr_at, is_among}
 use Rattle.zl_code.specs.Spells.{is_in_range}
-use Rattle.zl_code.specs.Local.{local_effect, overwritten}
+use Rattle.zl_code.specs.Local.{local_effect}
 use Rattle.zl_code.specs.Tests.{creates}
 use Rattle.zl_code.specs.Effects.{on_process, on_object, with_object, process_with, process_without, process_ended, insert_all, remove_all, ended, storing, waiting}
 use Rattle.zl_code.specs.CallTable.{effect, new_handles, entering_at, stored_by, gives_ok, gives_refused, awaited_by}
-use Rattle.zl_code.specs.Refusals.{refusal}
 use Rattle.zl_code.specs.Request.{Site, site_of, name_of}
-use Rattle.zl_code.specs.Calls.{Choice, Refused, WantsMemory, Values, CallBy, taken_handles, taken, cpu_answered, replied, with_effect, after_refusal, after_ok, ok_outcome}
+use Rattle.zl_code.specs.Calls.{Choice, Refused, WantsMemory, Values, CallBy, taken_handles, taken, replied, with_effect, after_refusal, after_ok, ok_outcome}
 use Rattle.zl_code.specs.Steps.{Next, Moves, AtCall, IsStuck, moves, calls_at, next_of, next_at, next_in, next_for, Acts}
-use Rattle.zl_code.specs.Sound.{IsSound}
 use Rattle.zl_code.proofs.Entering.{left_behind}
 use Rattle.zl_abs.specs.States.{State}
 use Rattle.zl_abs.specs.Typing.{IsTyping}

@@ -1,7 +1,7 @@
 -- A process that starts properly is as a typing of its image says at instruction 0.
-use Rattle.std.proofs.Common.{◌≡◌, ◌≢◌, ℕ, zero, suc, ◌+◌, ◌<◌, ◌≤◌, Bool, true, false, not, ◌&&◌, ◌==◌, List, [], ◌∷◌, map, length, refl, sym, ap, ◌∙◌, subst, IsTrue, Option, Some, None, arith, inl, inr, slice_set, slice_index}
-use Rattle.std.specs.Prelude.{replicate, slice_get, slice_index_or}
-use Rattle.std.specs.List.{AllByRecursion, sum_by}
+use Rattle.std.proofs.Common.{◌≡◌, ◌≢◌, ℕ, zero, suc, ◌+◌, ◌<◌, ◌≤◌, Bool, true, false, ◌&&◌, ◌==◌, List, [], ◌∷◌, map, length, refl, sym, ap, ◌∙◌, subst, Option, Some, None, arith, inl, inr, slice_set, slice_index}
+use Rattle.std.specs.Prelude.{replicate}
+use Rattle.std.specs.List.{sum_by}
 use Rattle.std.proofs.lemmas.Bool.Decides.{nat_tests}
 use Rattle.std.proofs.lemmas.List.{length-replicate}
 use Rattle.std.proofs.lemmas.List.Sums.{sum_by-cons}
@@ -11,7 +11,7 @@ use Rattle.zl_rights.specs.Common.{get, World, Cpu, Process}
 use Rattle.zl_rights.specs.World.{written}
 use Rattle.zl_code.specs.declared.image.SlotArray.{SlotArray}
 use Rattle.zl_code.specs.declared.image.Start.{Start}
-use Rattle.zl_code.specs.Image.{Image, Library, Program}
+use Rattle.zl_code.specs.Image.{Image}
 use Rattle.zl_code.specs.Limits.{register_count}
 use Rattle.zl_code.specs.Spells.{is_in_range}
 use Rattle.zl_code.specs.Effects.{process_with, may_get, may_get_all}
@@ -19,18 +19,18 @@ use Rattle.zl_code.specs.Boot.{process_with_all}
 use Rattle.zl_code.specs.Starting.{blank_cpu, created_process, set_from, with_handles, cpu_given}
 use Rattle.zl_code.proofs.ImageRanges.{ranges}
 use Rattle.zl_abs.specs.declared.value.AbsVal.{AbsVal}
-use Rattle.zl_abs.specs.declared.value.AbsVal.TheVariants.{Word, Has}
+use Rattle.zl_abs.specs.declared.value.AbsVal.TheVariants.{Word}
 use Rattle.zl_abs.specs.Values.{ANY}
 use Rattle.zl_abs.specs.States.{State, IsState, value_at, with_value, with_all, start_value, starts_from, start_results, start_state}
 use Rattle.zl_abs.specs.Typing.{IsAbove, IsTyping}
 use Rattle.zl_abs.specs.CallRules.{is_result, are_distinct, has_one}
 use Rattle.zl_abs.proofs.Order.{both}
-use Rattle.zl_verify.specs.Conforms.{Table, one_if, is_it, owns, owners, keepers, place_at, IsHandle, Holds, IsMemory, Conforms}
+use Rattle.zl_verify.specs.Conforms.{one_if, is_it, owners, keepers, place_at, Holds, IsMemory, Conforms}
 use Rattle.zl_verify.specs.WakeLaws.{AreAsDeclared, IsProperStart}
 use Rattle.zl_verify.proofs.Owners.{owns_0}
 use Rattle.zl_verify.proofs.Weakening.{weaken}
 use Rattle.zl_verify.proofs.Fitting.{Fits, AreInside, results}
-use Rattle.zl_verify.proofs.Giving.{IsFreeLast, fresh_value, getting_all, getting, AllAs, handles_fit}
+use Rattle.zl_verify.proofs.Giving.{fresh_value, getting_all, getting, AllAs, handles_fit}
 use Rattle.zl_verify.proofs.OwnTable.{getting_same}
 use Rattle.zl_verify.proofs.SizedCpus.{AtEach, each_filled, each_made}
 

@@ -1,11 +1,11 @@
 -- What settling and waking leave of a process that is as its typing says, and of what its job allows it.
-use Rattle.std.proofs.Common.{◌≡◌, ℕ, ◌≤◌, ◌⊎◌, Bool, true, false, ◌==◌, List, [], ◌∷◌, ◌++◌, refl, sym, ap, ◌∙◌, subst, IsTrue, Option, Some, None, inl, inr}
-use Rattle.std.specs.Prelude.{if◌then◌else◌, is_some, unwrap_or}
+use Rattle.std.proofs.Common.{◌≡◌, ℕ, ◌⊎◌, Bool, true, false, ◌==◌, List, [], ◌∷◌, refl, sym, ap, ◌∙◌, subst, IsTrue, Option, Some, None, inl, inr}
+use Rattle.std.specs.Prelude.{if◌then◌else◌, unwrap_or}
 use Rattle.std.specs.List.{AllByRecursion, fold}
 use Rattle.std.specs.Option.{option_map}
 use Rattle.std.proofs.lemmas.Bool.{cases_Bool, eqb-true}
 use Rattle.std.proofs.lemmas.Option.{same_Some, none-some}
-use Rattle.zl_rights.specs.Common.{condition_number, answered, each, get, put, where_key, lives, runs, Koids, Settles, process_settled, without_others, fired, wakes, World, Cpu, Process, State as Life, Created, Ready, Blocked, Object, Body, JobBody, PortBody, ProcessBody}
+use Rattle.zl_rights.specs.Common.{condition_number, answered, get, where_key, lives, runs, Koids, Settles, process_settled, without_others, fired, wakes, World, Process, State as Life, Created, Ready, Blocked, Object, Body, JobBody, PortBody, ProcessBody}
 use Rattle.zl_rights.specs.World.{Awaited, SignalOf, PacketAt, Packet}
 use Rattle.zl_rights.specs.Signals.{active}
 use Rattle.zl_rights.specs.Numbers.{meets}
@@ -19,7 +19,6 @@ use Rattle.zl_code.specs.Image.{Image, Library, is_among}
 use Rattle.zl_code.specs.Spells.{is_in_range}
 use Rattle.zl_code.specs.Boot.{is_job_body}
 use Rattle.zl_code.specs.Tests.{body_in, body_of, parent_in, parent_of, policy_in, action_of, unless_allowed, creates}
-use Rattle.zl_code.specs.Steps.{Step, next_for}
 use Rattle.zl_code.specs.Sound.{IsSound, HasItsObject}
 use Rattle.zl_code.proofs.SoundRuns.{step_sound, run_sound}
 use Rattle.zl_abs.specs.States.{State}

@@ -78,10 +78,11 @@ pub fn runs_keep_queues_sized()
     ensures histories { HoldsInHistories QueuesAreSized }
 {}
 
-/// In each step of a run from a boot world, a process that is as a typing of its image says right after
-/// what the step does is so at its end, once handles that nothing holds are gone, waits have given their
-/// packets and processes are awake: it is as it was, or it waited, and stands ready at the end of a
-/// followed edge. Own profile.
+/// A process that is started with handles as its image declares them, and whose job allows what the
+/// image needs, is as a typing of its image says. And in each step of a run from a boot world, a process
+/// that is so right after what the step does is so at its end, once handles that nothing holds are gone,
+/// waits have given their packets and processes are awake: it is as it was, or it waited, and stands
+/// ready at the end of a followed edge. Own profile.
 pub fn start_and_wake()
     ensures starts { (i : Image) (t : ℕ → Option State) (w : World) (p : ℕ) (q : Process)
         → IsTrue (is_in_range i) → IsTyping i t → IsProperStart i w p q → Conforms i t w p q }
@@ -91,7 +92,13 @@ pub fn start_and_wake()
         → (q : ℕ) (process : Process) → get run.step.acted.processes q ≡ Some process
         → IsTrue (runs process.state) → Conforms i t run.step.acted q process
         → EndsStep i t q process w2 }
-    ensures others { (i : Image) (t : ℕ → Option State)
+{}
+
+/// In each step of a run from a boot world, a process that runs and is as a typing of its image says is
+/// so after the step of another, whatever that does: it is as it was, or it waited, and stands ready at
+/// the end of a followed edge. Own profile.
+pub fn steps_of_others()
+    ensures { (i : Image) (t : ℕ → Option State)
         (lib : Library) (w : World) (p : ℕ) (x : TraceItem) (w2 : World)
         → IsTrue (is_in_range i) → IsTyping i t → IsRunStep lib w p x w2
         → (q : ℕ) (process : Process) → (p == q) ≡ false → get w.processes q ≡ Some process

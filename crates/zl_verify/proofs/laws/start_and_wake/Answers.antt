@@ -1,4 +1,3 @@
-use Rattle.zl_verify.proofs.Others.{others_end}
 use Rattle.zl_verify.proofs.Starting.{starts_conforming}
 use Rattle.zl_verify.proofs.Woken.{ends_step}
 use Rattle.zl_verify.proofs.laws.start_and_wake.Goals as goal
@@ -8,6 +7,3 @@ returns-clause-starts c = λ i t w p q range typing k. starts_conforming i t ran
 
 pub returns-clause-wakes : goal.returns-clause-wakes
 returns-clause-wakes c = λ i t lib w p x w2 range typing run q process there running k. ends_step i t range typing lib w p x w2 run q process there running k
-
-pub returns-clause-others : goal.returns-clause-others
-returns-clause-others c = λ i t lib w p x w2 range typing run q process apart there running k. others_end i t range typing lib w p x w2 run q process apart there running k

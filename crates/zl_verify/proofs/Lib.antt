@@ -44,4 +44,6 @@ pub mod Awaking
 pub mod Woken
 pub mod Starting
 pub mod Others
+pub mod Ended
+pub mod CheckedRuns
 mod RowsConforms

@@ -22,7 +22,7 @@ use Rattle.zl_code.specs.Effects.{on_process, on_object, with_object, process_wi
 use Rattle.zl_code.specs.CallTable.{effect, new_handles, entering_at, stored_by, gives_ok, gives_refused, awaited_by}
 use Rattle.zl_code.specs.Request.{Site, site_of, name_of}
 use Rattle.zl_code.specs.Calls.{Choice, Refused, WantsMemory, Values, CallBy, taken_handles, taken, replied, with_effect, after_refusal, after_ok, ok_outcome}
-use Rattle.zl_code.specs.Steps.{Next, Moves, AtCall, IsStuck, moves, calls_at, next_of, next_at, next_in, next_for, Acts}
+use Rattle.zl_code.specs.Steps.{Next, Moves, AtCall, IsStuck, moves, calls_at, next_of, next_at, next_in, next_for, Acts, Step}
 use Rattle.zl_code.proofs.Entering.{left_behind}
 use Rattle.zl_abs.specs.States.{State}
 use Rattle.zl_abs.specs.Typing.{IsTyping}
@@ -169,6 +169,9 @@ module _ (lib : Library) (w : World) (p : ℕ) (caller : Process) (there : get w
   when_acted c (Moves d) site x w2 a = rw a.1 (then_p w (on_process w p (λ (y : Process). record y { cpu = d })) nothing_done (λ q apart. one_other p q apart w _) refl)
   when_acted c (AtCall called t) (y, here) x w2 (o, e, h) = when_called c y t here h.0 _ o w2 h.1
   when_acted c IsStuck site x w2 a = rw a.1 (when_ended w STUCK nothing_done)
+
+pub others_same : (lib : Library) (w : World) (p : ℕ) (x : TraceItem) (w2 : World) → (step : Step lib w p x w2) → (q : ℕ) → (p == q) ≡ false → get step.acted.processes q ≡ get w.processes q
+others_same lib w p x w2 step = (when_acted lib w p step.process step.is_there step.process.cpu (next_for lib step.process) (site_for lib step.process) x step.acted step.acts).others
 
 -- ---- the law
 

@@ -93,7 +93,7 @@ waits_here c _ _ _ w p awaited = λ e. cc
 -- ---- the law
 
 -- what is promised where the call ends so, with w2
-abbrev Promised : (i : Image) (t : ℕ → Option State) (p : ℕ) (q : Process) (called : CallName) (s : Site) → Outcome → World → Type 0
+abbrev pub Promised : (i : Image) (t : ℕ → Option State) (p : ℕ) (q : Process) (called : CallName) (s : Site) → Outcome → World → Type 0
 Promised i t p q called s (outcome.Answered answer) w2 = (is_fault answer ≡ false) × IsAnswered i t p q w2
 Promised i t p q called s outcome.Blocked w2 = IsWaiting i t p q w2
 Promised i t p q called s (outcome.Ended code) w2 = IsOwnExit called s code

@@ -11,3 +11,4 @@ pub mod LocalLaws
 pub mod CallLaws
 pub mod SizedLaws
 pub mod WakeLaws
+pub mod RunLaws

@@ -1,8 +1,10 @@
 //! Laws of the definitions: each function's contract is one law, and its body is empty.
 
+ghost use Rattle.std.specs.List.{AllByRecursion};
 ghost use Rattle.std.specs.Prelude.{ℕ, ◌≡◌, ◌≢◌, ◌==◌, ◌↔◌, ℤ, false, IsTrue, List, [], Option, Some, Ok};
 ghost use Rattle.zl_rights.specs.Common.{World, Cpu, Process, Ready, get, runs};
 ghost use Rattle.zl_rights.specs.declared.status.Status.{Status};
+ghost use Rattle.zl_code.specs.declared.boot.Statement.{Statement};
 ghost use Rattle.zl_code.specs.declared.history.CallName.{CallName};
 ghost use Rattle.zl_code.specs.declared.history.Outcome.TheVariants as outcome;
 ghost use Rattle.zl_code.specs.declared.history.TraceItem.{TraceItem};
@@ -12,7 +14,7 @@ ghost use Rattle.zl_code.specs.Spells.{is_in_range};
 ghost use Rattle.zl_code.specs.Handles.{HandlesAreSound};
 ghost use Rattle.zl_code.specs.Request.{Site};
 ghost use Rattle.zl_code.specs.Calls.{Calls};
-ghost use Rattle.zl_code.specs.Steps.{Moves, IsStuck, next_at};
+ghost use Rattle.zl_code.specs.Steps.{Moves, IsStuck, Runs, next_at};
 ghost use Rattle.zl_abs.specs.States.{State};
 ghost use Rattle.zl_abs.specs.Rule.{Edge};
 ghost use Rattle.zl_abs.specs.Typing.{rule, IsTyping};
@@ -21,7 +23,8 @@ ghost use Rattle.zl_verify.specs.Over.{IsOverByCount};
 ghost use Rattle.zl_verify.specs.Conforms.{Conforms};
 ghost use Rattle.zl_verify.specs.LocalLaws.{IsUnbuilt, GoesOn};
 ghost use Rattle.zl_verify.specs.CallLaws.{QueuesAreSized, StandsAtCall, is_fault, IsAnswered, IsWaiting, IsOwnExit, CanCall};
-ghost use Rattle.zl_verify.specs.SizedLaws.{CpusAreSized, HoldsInRuns, HoldsInHistories};
+ghost use Rattle.zl_verify.specs.RunLaws.{IsFineItem, IsUnderWay};
+ghost use Rattle.zl_verify.specs.SizedLaws.{IsSizedBoot, CpusAreSized, HoldsInRuns, HoldsInHistories};
 ghost use Rattle.zl_verify.specs.WakeLaws.{IsProperStart, IsRunStep, EndsStep};
 
 /// In a world with sound handles, a process that is as a typing of its image says is never stuck, but
@@ -103,6 +106,17 @@ pub fn steps_of_others()
         → IsTrue (is_in_range i) → IsTyping i t → IsRunStep lib w p x w2
         → (q : ℕ) (process : Process) → (p == q) ≡ false → get w.processes q ≡ Some process
         → IsTrue (runs process.state) → Conforms i t w q process → EndsStep i t q process w2 }
+{}
+
+/// In a run from a boot world, a process that runs and is as a typing of its image says is never
+/// answered BAD_HANDLE, WRONG_TYPE or ACCESS_DENIED from there on, and no call ends it but its own
+/// `process_exit`, whatever it and others do; nor does a policy. Own profile.
+pub fn never_refused()
+    ensures { (i : Image) (t : ℕ → Option State) → IsTrue (is_in_range i) → IsTyping i t
+        → (lib : Library) (statements : List Statement) (boot w after : World)
+        (items more : List TraceItem) (p : ℕ)
+        → IsSizedBoot lib statements boot → Runs lib boot items w → IsUnderWay lib i t w p
+        → Runs lib w more after → AllByRecursion (IsFineItem p) more }
 {}
 
 /// From an instruction that is no wait and not `process_exit` an edge is followed wherever its rule

@@ -1,11 +1,10 @@
 -- A process that conforms is never refused for a handle, and no policy ends it, whatever follows in the run.
-use Rattle.std.proofs.Common.{◌≡◌, ℕ, ◌⊎◌, Bool, true, false, ◌==◌, List, [], ◌∷◌, ◌++◌, refl, sym, ap, ◌∙◌, subst, IsTrue, Option, Some, None, inl, inr}
+use Rattle.std.proofs.Common.{◌≡◌, ℕ, ◌⊎◌, Bool, true, false, ◌==◌, List, [], ◌∷◌, ◌++◌, refl, sym, ap, ◌∙◌, subst, Option, Some, None, inl, inr}
 use Rattle.std.specs.Prelude.{ℤ, slice_get}
 use Rattle.std.specs.List.{AllByRecursion}
 use Rattle.std.proofs.lemmas.Bool.{cases_Bool, eqb-true, eq-eqb}
 use Rattle.std.proofs.lemmas.Option.{same_Some}
-use Rattle.zl_rights.specs.declared.status.Status.{Status}
-use Rattle.zl_rights.specs.Common.{STUCK, get, lives, runs, World, Cpu, Process, Ready, Ended}
+use Rattle.zl_rights.specs.Common.{STUCK, get, runs, World, Cpu, Process, Ready}
 use Rattle.zl_rights.specs.Signals.{has_ended}
 use Rattle.zl_code.specs.declared.boot.Statement.{Statement}
 use Rattle.zl_code.specs.declared.history.CallName.{CallName}
@@ -20,17 +19,17 @@ use Rattle.zl_code.specs.Effects.{on_process, process_ended, ended}
 use Rattle.zl_code.specs.Request.{Site}
 use Rattle.zl_code.specs.CallTable.{new_handles, entering_at, stored_by}
 use Rattle.zl_code.specs.Refusals.{refusal}
-use Rattle.zl_code.specs.Calls.{Calls, CallBy, Choice, Refused, WantsMemory, Values, taken, taken_handles, with_effect, ok_outcome, after_ok}
-use Rattle.zl_code.specs.Steps.{Next, Moves, AtCall, IsStuck, next_at, next_in, next_for, Acts, Step, pid_of, Runs}
+use Rattle.zl_code.specs.Calls.{Calls, CallBy, Choice, Refused, WantsMemory, Values, taken, taken_handles, with_effect, after_ok}
+use Rattle.zl_code.specs.Steps.{Next, Moves, AtCall, IsStuck, next_at, next_in, Acts, Step, pid_of, Runs}
 use Rattle.zl_code.specs.Sound.{IsSound}
 use Rattle.zl_abs.specs.States.{State}
 use Rattle.zl_abs.specs.Typing.{IsTyping}
 use Rattle.zl_verify.specs.Conforms.{Conforms}
-use Rattle.zl_verify.specs.CallLaws.{StandsAtCall, IsAnswered, IsOwnExit}
+use Rattle.zl_verify.specs.CallLaws.{StandsAtCall}
 use Rattle.zl_verify.specs.SizedLaws.{IsSizedBoot}
 use Rattle.zl_verify.specs.WakeLaws.{IsRunStep, EndsStep, stays, wakes}
 use Rattle.zl_verify.specs.RunLaws.{IsFineItem, IsUnderWay}
-use Rattle.zl_verify.proofs.LocalSteps.{goes_on}
+use Rattle.zl_verify.proofs.LocalSteps.{goes_on, not_stuck}
 use Rattle.zl_verify.proofs.AtCalls.{at_call}
 use Rattle.zl_verify.proofs.Sites.{SiteAt, site_at}
 use Rattle.zl_verify.proofs.Giving.{getting_all}
@@ -46,12 +45,12 @@ use Rattle.zl_verify.proofs.Ended.{ended_still}
 
 -- ---- items
 
-fine_other : (p : ℕ) (x : TraceItem) → (pid_of x == p) ≡ false → IsFineItem p x
-fine_other p (item.Call pid called (outcome.Answered answer)) apart = λ same. let bad : (pid == p) ≡ true = eq-eqb pid p same in cc
-fine_other p (item.Call pid called (outcome.Ended code)) apart = λ same. let bad : (pid == p) ≡ true = eq-eqb pid p same in cc
-fine_other p (item.Call pid called outcome.Blocked) apart = tt
-fine_other p (item.Run pid count) apart = tt
-fine_other p (item.Stuck pid) apart = tt
+fine_other : (i : Image) (p : ℕ) (x : TraceItem) → (pid_of x == p) ≡ false → IsFineItem i p x
+fine_other i p (item.Call pid called (outcome.Answered answer)) apart = λ same. let bad : (pid == p) ≡ true = eq-eqb pid p same in cc
+fine_other i p (item.Call pid called (outcome.Ended code)) apart = λ same. let bad : (pid == p) ≡ true = eq-eqb pid p same in cc
+fine_other i p (item.Call pid called outcome.Blocked) apart = tt
+fine_other i p (item.Run pid count) apart = tt
+fine_other i p (item.Stuck pid) apart = λ same. let bad : (pid == p) ≡ true = eq-eqb pid p same in cc
 
 -- ---- a process that is over
 
@@ -133,23 +132,23 @@ module _ (lib : Library) (i : Image) (t : ℕ → Option State) (range : is_in_r
           subst (λ v. IsOverIn v p) (sym (c.2 ∙ ap (after_ok lib w p s vs) (sym c.1))) (exited_at at.call (site_at own.cpu s at.call at.site) vs code)
       exited code (Values vs) (Some o) c = absurd c
 
-      by_outcome : (o : Outcome) → x ≡ item.Call p called o → Calls lib w p s o b.step.acted → Promised i t p own called s o b.step.acted → IsFineItem p x × StandsIn w2 p
-      by_outcome (outcome.Answered answer) is h (fine, a) = (subst (IsFineItem p) (sym is) (λ same. fine), goes a.after a.there (ap runs a.ready) a.program a.conforms)
-      by_outcome outcome.Blocked is h a = (subst (IsFineItem p) (sym is) tt, goes _ a.there refl refl a.conforms)
-      by_outcome (outcome.Ended code) is h a = (subst (IsFineItem p) (sym is) (λ same. a.named), inr (over_after (exited code h.0 (refusal lib w p s.request) h.1)))
+      by_outcome : (o : Outcome) → x ≡ item.Call p called o → Calls lib w p s o b.step.acted → Promised i t p own called s o b.step.acted → IsFineItem i p x × StandsIn w2 p
+      by_outcome (outcome.Answered answer) is h (fine, a) = (subst (IsFineItem i p) (sym is) (λ same. fine), goes a.after a.there (ap runs a.ready) a.program a.conforms)
+      by_outcome outcome.Blocked is h a = (subst (IsFineItem i p) (sym is) tt, goes _ a.there refl refl a.conforms)
+      by_outcome (outcome.Ended code) is h a = (subst (IsFineItem i p) (sym is) (λ same. a.named), inr (over_after (exited code h.0 (refusal lib w p s.request) h.1)))
 
-    by_next : (n : Next) → next_at i own.cpu ≡ n → Acts lib w p n x b.step.acted → IsFineItem p x × StandsIn w2 p
-    by_next (Moves c) next a = (subst (IsFineItem p) (sym a.0) tt, moved c next a.1)
+    by_next : (n : Next) → next_at i own.cpu ≡ n → Acts lib w p n x b.step.acted → IsFineItem i p x × StandsIn w2 p
+    by_next (Moves c) next a = (subst (IsFineItem i p) (sym a.0) tt, moved c next a.1)
     by_next (AtCall called s) next (o, is, h) = by_outcome called s next o is h (promised i t w p own called s (stands called s next) lib o b.step.acted h)
-    by_next IsStuck next a = (subst (IsFineItem p) (sym a.0) tt, inr (over_after (subst (λ v. IsOverIn v p) (sym a.1) (ended_there w p own b.step.is_there b.step.is_ready STUCK))))
+    by_next IsStuck next a = (subst (IsFineItem i p) (sym a.0) (λ same. (own.cpu, not_stuck i t w p own range typing sound.handles b.step.is_there k next)), inr (over_after (subst (λ v. IsOverIn v p) (sym a.1) (ended_there w p own b.step.is_there b.step.is_ready STUCK))))
 
-    own_step : IsFineItem p x × StandsIn w2 p
+    own_step : IsFineItem i p x × StandsIn w2 p
     own_step = by_next (next_at i own.cpu) refl (subst (λ n. Acts lib w p n x b.step.acted) (ap (λ o. next_in o own.cpu) program) b.step.acts)
 
   -- ---- any step
 
   module _ (w : World) (m : ℕ) (x : TraceItem) (w2 : World) (b : IsRunStep lib w m x w2) where
-    own_stands : StandsIn w m → IsFineItem m x × StandsIn w2 m
+    own_stands : StandsIn w m → IsFineItem i m x × StandsIn w2 m
     own_stands (inl u) =
         let same : u.process ≡ b.step.process = same_Some u.process b.step.process (sym u.there ∙ b.step.is_there) in
         own_step w m x w2 b u.checked (ap (λ (y : Process). slice_get lib y.program) (sym same) ∙ u.program) (subst (Conforms i t w m) same u.conforms)
@@ -162,14 +161,14 @@ module _ (lib : Library) (i : Image) (t : ℕ → Option State) (range : is_in_r
     other_stands p apart (inl u) = inl (under_way p u.process w2 u.checked u.program u.running (others_end i t range typing lib w m x w2 b p u.process apart u.there u.running u.conforms))
     other_stands p apart (inr o) = inr (record { process = o.process; there = ended_still p o.process o.over lib w m x w2 b.step (others_same lib w m x w2 b.step p apart ∙ o.there); over = o.over })
 
-  stands_still : (w : World) (x : TraceItem) (w2 : World) → IsRunStep lib w (pid_of x) x w2 → (p : ℕ) → StandsIn w p → IsFineItem p x × StandsIn w2 p
+  stands_still : (w : World) (x : TraceItem) (w2 : World) → IsRunStep lib w (pid_of x) x w2 → (p : ℕ) → StandsIn w p → IsFineItem i p x × StandsIn w2 p
   stands_still w x w2 b p s = by (cases_Bool (pid_of x == p))
     where
-      by : ((pid_of x == p) ≡ true) ⊎ ((pid_of x == p) ≡ false) → IsFineItem p x × StandsIn w2 p
+      by : ((pid_of x == p) ≡ true) ⊎ ((pid_of x == p) ≡ false) → IsFineItem i p x × StandsIn w2 p
       by (inl e) =
           let same : pid_of x ≡ p = eqb-true (pid_of x) p e in
-          subst (λ j. IsFineItem j x × StandsIn w2 j) same (own_stands w (pid_of x) x w2 b (subst (StandsIn w) (sym same) s))
-      by (inr e) = (fine_other p x e, other_stands w (pid_of x) x w2 b p e s)
+          subst (λ j. IsFineItem i j x × StandsIn w2 j) same (own_stands w (pid_of x) x w2 b (subst (StandsIn w) (sym same) s))
+      by (inr e) = (fine_other i p x e, other_stands w (pid_of x) x w2 b p e s)
 
   -- ---- runs
 
@@ -178,11 +177,11 @@ module _ (lib : Library) (i : Image) (t : ℕ → Option State) (range : is_in_r
   one_more boot (y ∷ items) w x mid (first, before, rest) step = (first, before, one_more first items w x mid rest step)
 
   module _ (statements : List Statement) (boot : World) (begins : IsSizedBoot lib statements boot) (p : ℕ) where
-    run_fine : (more items : List TraceItem) (w after : World) → Runs lib boot items w → StandsIn w p → Runs lib w more after → AllByRecursion (IsFineItem p) more
+    run_fine : (more items : List TraceItem) (w after : World) → Runs lib boot items w → StandsIn w p → Runs lib w more after → AllByRecursion (IsFineItem i p) more
     run_fine [] items w after run s e = tt
     run_fine (x ∷ more) items w after run s (mid, step, rest) =
         let (fine, later) = stands_still w x mid (record { statements = statements; boot = boot; items = items; begins = begins; run = run; step = step }) p s in
         (fine, run_fine more (items ++ (x ∷ [])) mid after (one_more boot items w x mid run step) later rest)
 
-    pub never_refused : (items more : List TraceItem) (w after : World) → Runs lib boot items w → IsUnderWay lib i t w p → Runs lib w more after → AllByRecursion (IsFineItem p) more
+    pub never_refused : (items more : List TraceItem) (w after : World) → Runs lib boot items w → IsUnderWay lib i t w p → Runs lib w more after → AllByRecursion (IsFineItem i p) more
     never_refused items more w after run u rest = run_fine more items w after run (inl u) rest

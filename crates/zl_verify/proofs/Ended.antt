@@ -1,11 +1,11 @@
 -- A process that has ended stays as it is.
 use Rattle.std.proofs.Common.{◌≡◌, ℕ, ◌⊎◌, Bool, true, false, ◌==◌, List, [], ◌∷◌, refl, sym, ap, ◌∙◌, subst, Option, Some, None, inl, inr}
-use Rattle.std.specs.Prelude.{ℤ, if◌then◌else◌}
+use Rattle.std.specs.Prelude.{if◌then◌else◌}
 use Rattle.std.specs.List.{fold}
 use Rattle.std.specs.Option.{option_map}
 use Rattle.std.proofs.lemmas.Bool.{cases_Bool, eqb-true}
 use Rattle.std.proofs.lemmas.Option.{same_Some}
-use Rattle.zl_rights.specs.Common.{answered, each, get, put, Settles, process_settled, without_others, fired, wakes, World, Process, State as Life, Created, Ready, Blocked, Ended, Object, Body, PortBody}
+use Rattle.zl_rights.specs.Common.{answered, get, put, Settles, process_settled, without_others, fired, wakes, World, Process, State as Life, Created, Ready, Blocked, Ended, Object, Body, PortBody}
 use Rattle.zl_rights.specs.World.{Awaited, SignalOf, PacketAt, Packet}
 use Rattle.zl_rights.specs.Signals.{active, has_ended}
 use Rattle.zl_rights.specs.Numbers.{meets}

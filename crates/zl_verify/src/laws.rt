@@ -108,15 +108,16 @@ pub fn steps_of_others()
         → IsTrue (runs process.state) → Conforms i t w q process → EndsStep i t q process w2 }
 {}
 
-/// In a run from a boot world, a process that runs and is as a typing of its image says is never
-/// answered BAD_HANDLE, WRONG_TYPE or ACCESS_DENIED from there on, and no call ends it but its own
-/// `process_exit`, whatever it and others do; nor does a policy. Own profile.
+/// In a run from a boot world, from where a process runs and is as a typing of its image says, whatever
+/// it and others do: none of its calls is answered BAD_HANDLE, WRONG_TYPE or ACCESS_DENIED, no call ends
+/// it but its own `process_exit`, so that no policy does, and it is stuck only at a call that isn't
+/// built. Own profile.
 pub fn never_refused()
     ensures { (i : Image) (t : ℕ → Option State) → IsTrue (is_in_range i) → IsTyping i t
         → (lib : Library) (statements : List Statement) (boot w after : World)
         (items more : List TraceItem) (p : ℕ)
         → IsSizedBoot lib statements boot → Runs lib boot items w → IsUnderWay lib i t w p
-        → Runs lib w more after → AllByRecursion (IsFineItem p) more }
+        → Runs lib w more after → AllByRecursion (IsFineItem i p) more }
 {}
 
 /// From an instruction that is no wait and not `process_exit` an edge is followed wherever its rule

@@ -1,165 +1,68 @@
--- A process that conforms is never refused for a handle, and no policy ends it, whatever follows in the run.
-use Rattle.std.proofs.Common.{◌≡◌, ℕ, ◌⊎◌, Bool, true, false, ◌==◌, List, [], ◌∷◌, ◌++◌, refl, sym, ap, ◌∙◌, subst, Option, Some, None, inl, inr}
-use Rattle.std.specs.Prelude.{ℤ, slice_get}
+-- A process that conforms is never refused for a handle, no policy ends it, and it keeps its budget, whatever follows in the run.
+use Rattle.std.proofs.Common.{◌≡◌, ℕ, ◌+◌, ◌-◌, ◌<◌, ◌≤◌, ◌⊎◌, Bool, true, false, ◌==◌, List, [], ◌∷◌, ◌++◌, refl, sym, ap, ◌∙◌, subst, Option, Some, None, inl, inr, arith}
+use Rattle.std.specs.Prelude.{if◌then◌else◌, nat_le, slice_get, IsSomeAnd}
 use Rattle.std.specs.List.{AllByRecursion}
-use Rattle.std.proofs.lemmas.Bool.{cases_Bool, eqb-true, eq-eqb}
+use Rattle.std.proofs.lemmas.Bool.{cases_Bool, eqb-true}
+use Rattle.std.proofs.lemmas.Bool.Decides.{nat_tests}
 use Rattle.std.proofs.lemmas.Option.{same_Some}
-use Rattle.zl_rights.specs.Common.{STUCK, get, runs, World, Cpu, Process, Ready}
+use Rattle.zl_rights.specs.Common.{runs, World, Process, Ready, Blocked}
+use Rattle.zl_rights.specs.World.{Awaited}
 use Rattle.zl_rights.specs.Signals.{has_ended}
 use Rattle.zl_code.specs.declared.boot.Statement.{Statement}
-use Rattle.zl_code.specs.declared.history.CallName.{CallName}
-use Rattle.zl_code.specs.declared.history.Outcome.{Outcome}
-use Rattle.zl_code.specs.declared.history.Outcome.TheVariants as outcome
 use Rattle.zl_code.specs.declared.history.TraceItem.{TraceItem}
-use Rattle.zl_code.specs.declared.history.TraceItem.TheVariants as item
-use Rattle.zl_code.specs.declared.instr.CallInstr.{CallInstr}
 use Rattle.zl_code.specs.Image.{Image, Library}
 use Rattle.zl_code.specs.Spells.{is_in_range}
-use Rattle.zl_code.specs.Effects.{on_process, process_ended, ended}
-use Rattle.zl_code.specs.Request.{Site}
-use Rattle.zl_code.specs.CallTable.{new_handles, entering_at, stored_by}
-use Rattle.zl_code.specs.Refusals.{refusal}
-use Rattle.zl_code.specs.Calls.{Calls, CallBy, Choice, Refused, WantsMemory, Values, taken, taken_handles, with_effect, after_ok}
-use Rattle.zl_code.specs.Steps.{Next, Moves, AtCall, IsStuck, next_at, next_in, Acts, Step, pid_of, Runs}
-use Rattle.zl_code.specs.Sound.{IsSound}
+use Rattle.zl_code.specs.Steps.{Step, pid_of, Runs}
 use Rattle.zl_abs.specs.States.{State}
 use Rattle.zl_abs.specs.Typing.{IsTyping}
 use Rattle.zl_verify.specs.Conforms.{Conforms}
-use Rattle.zl_verify.specs.CallLaws.{StandsAtCall}
+use Rattle.zl_verify.specs.Steps.{IsBelow, AllBelow, IsStepBound, OneOf}
 use Rattle.zl_verify.specs.SizedLaws.{IsSizedBoot}
 use Rattle.zl_verify.specs.WakeLaws.{IsRunStep, EndsStep, stays, wakes}
-use Rattle.zl_verify.specs.RunLaws.{IsFineItem, IsUnderWay}
-use Rattle.zl_verify.proofs.LocalSteps.{goes_on, not_stuck}
-use Rattle.zl_verify.proofs.AtCalls.{at_call}
-use Rattle.zl_verify.proofs.Sites.{SiteAt, site_at}
-use Rattle.zl_verify.proofs.Giving.{getting_all}
-use Rattle.zl_verify.proofs.Storing.{storing_same}
-use Rattle.zl_verify.proofs.OwnTable.{changed_here, losing_all, removed_here, lost_and_got}
-use Rattle.zl_verify.proofs.OwnCalls.{promised, Promised}
-use Rattle.zl_verify.proofs.OwnEffect.{caller_after}
-use Rattle.zl_verify.proofs.SizedWorlds.{queues_sized}
-use Rattle.zl_verify.proofs.SizedRuns.{world_sized}
-use Rattle.zl_verify.proofs.Woken.{sound_before, ends_step}
+use Rattle.zl_verify.specs.RunLaws.{IsFineItem, IsUnderWay, executed, left_behind, KeepsBudget}
 use Rattle.zl_verify.proofs.Others.{others_end, others_same}
 use Rattle.zl_verify.proofs.Ended.{ended_still}
+use Rattle.zl_verify.proofs.OwnSteps.{fine_other, IsOverIn, Went, goes, pauses, under_way, under_way_steps}
 
--- ---- items
+-- ---- runs
 
-fine_other : (i : Image) (p : ℕ) (x : TraceItem) → (pid_of x == p) ≡ false → IsFineItem i p x
-fine_other i p (item.Call pid called (outcome.Answered answer)) apart = λ same. let bad : (pid == p) ≡ true = eq-eqb pid p same in cc
-fine_other i p (item.Call pid called (outcome.Ended code)) apart = λ same. let bad : (pid == p) ≡ true = eq-eqb pid p same in cc
-fine_other i p (item.Call pid called outcome.Blocked) apart = tt
-fine_other i p (item.Run pid count) apart = tt
-fine_other i p (item.Stuck pid) apart = λ same. let bad : (pid == p) ≡ true = eq-eqb pid p same in cc
+one_more : (lib : Library) (boot : World) (items : List TraceItem) (w : World) (x : TraceItem) (mid : World) → Runs lib boot items w → Step lib w (pid_of x) x mid → Runs lib boot (items ++ (x ∷ [])) mid
+one_more lib boot [] w x mid e step = (mid, subst (λ v. Step lib v (pid_of x) x mid) e step, refl)
+one_more lib boot (y ∷ items) w x mid (first, before, rest) step = (first, before, one_more lib first items w x mid rest step)
 
--- ---- a process that is over
+-- who is over takes no step
+no_step : (lib : Library) (w : World) (p : ℕ) (x : TraceItem) (w2 : World) → IsRunStep lib w p x w2 → IsOverIn w p → ⊥
+no_step lib w p x w2 b o =
+    let same : o.process ≡ b.step.process = same_Some o.process b.step.process (sym o.there ∙ b.step.is_there) in
+    let bad : false ≡ true = sym (ap has_ended b.step.is_ready) ∙ (ap (λ (y : Process). has_ended y.state) (sym same) ∙ o.over) in
+    cc
 
--- p has ended in w
-record IsOverIn (w : World) (p : ℕ) : Type 0 where
-  process : Process
-  there : get w.processes p ≡ Some process
-  over : has_ended process.state ≡ true
-
-ended_there : (w : World) (p : ℕ) (q : Process) → get w.processes p ≡ Some q → q.state ≡ Ready → (code : ℤ) → IsOverIn (ended w p code) p
-unfolding ended
-ended_there w p q there ready code = record {
-  process = process_ended code q;
-  there = changed_here w p (process_ended code) q there;
-  over = rw ready refl;
-}
+-- who is over stays so while others act
+over_still : (lib : Library) (w : World) (m : ℕ) (x : TraceItem) (w2 : World) → IsRunStep lib w m x w2 → (p : ℕ) → (m == p) ≡ false → IsOverIn w p → IsOverIn w2 p
+over_still lib w m x w2 b p apart o = record { process = o.process; there = ended_still p o.process o.over lib w m x w2 b.step (others_same lib w m x w2 b.step p apart ∙ o.there); over = o.over }
 
 module _ (lib : Library) (i : Image) (t : ℕ → Option State) (range : is_in_range i ≡ true) (typing : IsTyping i t) where
+  -- ---- no refusal
+
   -- p is under way, or over
   abbrev StandsIn : World → ℕ → Type 0
   StandsIn w p = IsUnderWay lib i t w p ⊎ IsOverIn w p
 
-  under_way : (p : ℕ) (y : Process) (w2 : World) (checked : Bool) → slice_get lib y.program ≡ Some (record { checked = checked; image = i }) → runs y.state ≡ true → EndsStep i t p y w2 → IsUnderWay lib i t w2 p
-  under_way p y w2 checked program running (stays at k) = record { process = y; there = at; running = running; checked = checked; program = program; conforms = k }
-  under_way p y w2 checked program running (wakes awaited ds waited a) =
-      record { process = a.after; there = a.there; running = ap runs a.ready; checked = checked; program = ap (slice_get lib) a.program ∙ program; conforms = a.conforms }
-
-  -- ---- its own step
-
-  module _ (w : World) (p : ℕ) (x : TraceItem) (w2 : World) (b : IsRunStep lib w p x w2) (checked : Bool) (program : slice_get lib b.step.process.program ≡ Some (record { checked = checked; image = i })) (k : Conforms i t w p b.step.process) where
-    abbrev own : Process
-    own = b.step.process
-
-    sound : IsSound w
-    sound = sound_before i t range typing lib w p x w2 b
-
-    over_after : IsOverIn b.step.acted p → IsOverIn w2 p
-    over_after o = record { process = o.process; there = ended_still p o.process o.over lib w p x w2 b.step o.there; over = o.over }
-
-    goes : (y : Process) → get b.step.acted.processes p ≡ Some y → runs y.state ≡ true → y.program ≡ own.program → Conforms i t b.step.acted p y → StandsIn w2 p
-    goes y at running same c = inl (under_way p y w2 checked (ap (slice_get lib) same ∙ program) running (ends_step i t range typing lib w p x w2 b p y at running c))
-
-    moved : (c : Cpu) → next_at i own.cpu ≡ Moves c → b.step.acted ≡ on_process w p (λ y. record y { cpu = c }) → StandsIn w2 p
-    moved c next same =
-        let g = goes_on i t w p own range typing sound.handles b.step.is_there k b.step.is_ready c next in
-        goes (record own { cpu = c }) (ap (λ v. get v.processes p) same ∙ changed_here w p (λ (y : Process). record y { cpu = c }) own b.step.is_there) (ap runs b.step.is_ready) refl
-        (subst (λ v. Conforms i t v p (record own { cpu = c })) (sym same) g.conforms)
-
-    module _ (called : CallName) (s : Site) (next : next_at i own.cpu ≡ AtCall called s) where
-      stands : StandsAtCall i t w p own called s
-      stands = record {
-        range = range;
-        typing = typing;
-        sound = sound;
-        sized = queues_sized w (world_sized lib b.statements b.boot w b.items b.begins b.run);
-        there = b.step.is_there;
-        ready = b.step.is_ready;
-        conforms = k;
-        next = next;
-      }
-
-      -- where process_exit has ended it
-      exited_at : (x : CallInstr) → SiteAt own.cpu x s → (vs : List ℕ) (code : ℤ) → IsOverIn (ended (with_effect lib w (taken w p s) p s.request vs) p code) p
-      exited_at x here vs code =
-          let table = lost_and_got (new_handles w p s.request) (entering_at s.request vs) (taken_handles s.request) own in
-          ended_there (with_effect lib w (taken w p s) p s.request vs) p _
-          (caller_after own.cpu x s here lib w (taken w p s) p vs (losing_all (taken_handles s.request) own) (removed_here (taken_handles s.request) w p own b.step.is_there))
-          ((storing_same (stored_by w p s.request) (getting_all (new_handles w p s.request) (entering_at s.request vs) (losing_all (taken_handles s.request) own))).state ∙ (table.state ∙ b.step.is_ready)) code
-
-      exited : (code : ℤ) (choice : Choice) (r : Option Outcome) → CallBy lib w p s choice r (outcome.Ended code) b.step.acted → IsOverIn b.step.acted p
-      exited code Refused None c = absurd c
-      exited code Refused (Some (outcome.Answered answer)) c = let bad = c.0 in cc
-      exited code Refused (Some outcome.Blocked) c = let bad = c.0 in cc
-      exited code Refused (Some (outcome.Ended other)) c = subst (λ v. IsOverIn v p) (sym c.1) (ended_there w p own b.step.is_there b.step.is_ready other)
-      exited code WantsMemory None c = let bad = c.1 in cc
-      exited code WantsMemory (Some o) c = absurd c
-      exited code (Values vs) None c =
-          let at = at_call i own.cpu called s next in
-          subst (λ v. IsOverIn v p) (sym (c.2 ∙ ap (after_ok lib w p s vs) (sym c.1))) (exited_at at.call (site_at own.cpu s at.call at.site) vs code)
-      exited code (Values vs) (Some o) c = absurd c
-
-      by_outcome : (o : Outcome) → x ≡ item.Call p called o → Calls lib w p s o b.step.acted → Promised i t p own called s o b.step.acted → IsFineItem i p x × StandsIn w2 p
-      by_outcome (outcome.Answered answer) is h (fine, a) = (subst (IsFineItem i p) (sym is) (λ same. fine), goes a.after a.there (ap runs a.ready) a.program a.conforms)
-      by_outcome outcome.Blocked is h a = (subst (IsFineItem i p) (sym is) tt, goes _ a.there refl refl a.conforms)
-      by_outcome (outcome.Ended code) is h a = (subst (IsFineItem i p) (sym is) (λ same. a.named), inr (over_after (exited code h.0 (refusal lib w p s.request) h.1)))
-
-    by_next : (n : Next) → next_at i own.cpu ≡ n → Acts lib w p n x b.step.acted → IsFineItem i p x × StandsIn w2 p
-    by_next (Moves c) next a = (subst (IsFineItem i p) (sym a.0) tt, moved c next a.1)
-    by_next (AtCall called s) next (o, is, h) = by_outcome called s next o is h (promised i t w p own called s (stands called s next) lib o b.step.acted h)
-    by_next IsStuck next a = (subst (IsFineItem i p) (sym a.0) (λ same. (own.cpu, not_stuck i t w p own range typing sound.handles b.step.is_there k next)), inr (over_after (subst (λ v. IsOverIn v p) (sym a.1) (ended_there w p own b.step.is_there b.step.is_ready STUCK))))
-
-    own_step : IsFineItem i p x × StandsIn w2 p
-    own_step = by_next (next_at i own.cpu) refl (subst (λ n. Acts lib w p n x b.step.acted) (ap (λ o. next_in o own.cpu) program) b.step.acts)
-
-  -- ---- any step
-
   module _ (w : World) (m : ℕ) (x : TraceItem) (w2 : World) (b : IsRunStep lib w m x w2) where
     own_stands : StandsIn w m → IsFineItem i m x × StandsIn w2 m
-    own_stands (inl u) =
-        let same : u.process ≡ b.step.process = same_Some u.process b.step.process (sym u.there ∙ b.step.is_there) in
-        own_step w m x w2 b u.checked (ap (λ (y : Process). slice_get lib y.program) (sym same) ∙ u.program) (subst (Conforms i t w m) same u.conforms)
-    own_stands (inr o) =
-        let same : o.process ≡ b.step.process = same_Some o.process b.step.process (sym o.there ∙ b.step.is_there) in
-        let bad : false ≡ true = sym (ap has_ended b.step.is_ready) ∙ (ap (λ (y : Process). has_ended y.state) (sym same) ∙ o.over) in
-        cc
+    own_stands (inl u) = let (fine, h) = under_way_steps lib i t range typing w m x w2 b u in (fine, by h)
+      where
+        by : ((after : IsUnderWay lib i t w2 m) × Went i t u.process after.process x) ⊎ (IsOverIn w2 m × (executed x ≡ None)) → StandsIn w2 m
+        by (inl h) = inl h.0
+        by (inr h) = inr h.0
+    own_stands (inr o) = absurd (no_step lib w m x w2 b o)
+
+    other_ends : (p : ℕ) → (m == p) ≡ false → (u : IsUnderWay lib i t w p) → EndsStep i t p u.process w2
+    other_ends p apart u = others_end i t range typing lib w m x w2 b p u.process apart u.there u.running u.conforms
 
     other_stands : (p : ℕ) → (m == p) ≡ false → StandsIn w p → StandsIn w2 p
-    other_stands p apart (inl u) = inl (under_way p u.process w2 u.checked u.program u.running (others_end i t range typing lib w m x w2 b p u.process apart u.there u.running u.conforms))
-    other_stands p apart (inr o) = inr (record { process = o.process; there = ended_still p o.process o.over lib w m x w2 b.step (others_same lib w m x w2 b.step p apart ∙ o.there); over = o.over })
+    other_stands p apart (inl u) = inl (under_way lib i t range typing p u.process w2 u.checked u.program u.running (other_ends p apart u))
+    other_stands p apart (inr o) = inr (over_still lib w m x w2 b p apart o)
 
   stands_still : (w : World) (x : TraceItem) (w2 : World) → IsRunStep lib w (pid_of x) x w2 → (p : ℕ) → StandsIn w p → IsFineItem i p x × StandsIn w2 p
   stands_still w x w2 b p s = by (cases_Bool (pid_of x == p))
@@ -170,18 +73,102 @@ module _ (lib : Library) (i : Image) (t : ℕ → Option State) (range : is_in_r
           subst (λ j. IsFineItem i j x × StandsIn w2 j) same (own_stands w (pid_of x) x w2 b (subst (StandsIn w) (sym same) s))
       by (inr e) = (fine_other i p x e, other_stands w (pid_of x) x w2 b p e s)
 
-  -- ---- runs
-
-  one_more : (boot : World) (items : List TraceItem) (w : World) (x : TraceItem) (mid : World) → Runs lib boot items w → Step lib w (pid_of x) x mid → Runs lib boot (items ++ (x ∷ [])) mid
-  one_more boot [] w x mid e step = (mid, subst (λ v. Step lib v (pid_of x) x mid) e step, refl)
-  one_more boot (y ∷ items) w x mid (first, before, rest) step = (first, before, one_more first items w x mid rest step)
-
   module _ (statements : List Statement) (boot : World) (begins : IsSizedBoot lib statements boot) (p : ℕ) where
     run_fine : (more items : List TraceItem) (w after : World) → Runs lib boot items w → StandsIn w p → Runs lib w more after → AllByRecursion (IsFineItem i p) more
     run_fine [] items w after run s e = tt
     run_fine (x ∷ more) items w after run s (mid, step, rest) =
         let (fine, later) = stands_still w x mid (record { statements = statements; boot = boot; items = items; begins = begins; run = run; step = step }) p s in
-        (fine, run_fine more (items ++ (x ∷ [])) mid after (one_more boot items w x mid run step) later rest)
+        (fine, run_fine more (items ++ (x ∷ [])) mid after (one_more lib boot items w x mid run step) later rest)
 
     pub never_refused : (items more : List TraceItem) (w after : World) → Runs lib boot items w → IsUnderWay lib i t w p → Runs lib w more after → AllByRecursion (IsFineItem i p) more
     never_refused items more w after run u rest = run_fine more items w after run (inl u) rest
+
+  -- ---- the budget
+
+  module _ (steps : ℕ → Option ℕ) (bound : IsStepBound i t steps) where
+    -- so many instructions may follow here; as many as the budget, where it waits
+    record IsCounted (q : Process) (left : ℕ) : Type 0 where
+      number : IsBelow (steps q.cpu.counter) (left + 1)
+      waiting : (awaited : Awaited) (ds : List ℕ) → q.state ≡ Blocked awaited ds → left ≡ i.budget
+
+    whole_budget : (w : World) (p : ℕ) (q : Process) → Conforms i t w p q → IsCounted q i.budget
+    whole_budget w p q k = record { number = bound.within q.cpu.counter k.state k.stands; waiting = λ awaited ds e. refl }
+
+    one_below : (m k : ℕ) (ns : List ℕ) → AllBelow steps m ns → OneOf (λ n. k ≡ n) ns → IsBelow (steps k) m
+    one_below m k [] all h = absurd h
+    one_below m k (n ∷ ns) (one, all) (inl e) = subst (λ j. IsBelow (steps j) m) (sym e) one
+    one_below m k (n ∷ ns) (one, all) (inr h) = one_below m k ns all h
+
+    -- one instruction less is left
+    one_less : (o : Option ℕ) (m left : ℕ) → IsBelow o m → m < left + 1 → IsBelow o (left - 1 + 1) × (nat_le 1 left ≡ true)
+    one_less None m left h less = absurd h
+    one_less (Some k) m left h less = (omega arith, some left (omega arith))
+      where
+        some : (left : ℕ) → 1 ≤ left → nat_le 1 left ≡ true
+        some left le = grind (arith, nat_tests)
+
+    after_own : (w2 : World) (p : ℕ) (q y : Process) (x : TraceItem) (left : ℕ) → Conforms i t w2 p y → Went i t q y x → IsCounted q left → IsSomeAnd (left_behind i.budget left (executed x)) (IsCounted y)
+    after_own w2 p q y x left k (pauses is) c = rw is (whole_budget w2 p y k)
+    after_own w2 p q y x left k (goes is follows ready) c = by (steps q.cpu.counter) refl c.number
+      where
+        no_wait : (awaited : Awaited) (ds : List ℕ) → y.state ≡ Blocked awaited ds → left - 1 ≡ i.budget
+        no_wait awaited ds e = absurd (apart (sym ready ∙ e))
+          where
+            apart : Ready ≡ Blocked awaited ds → ⊥
+            apart e = cc
+
+        by : (o : Option ℕ) → steps q.cpu.counter ≡ o → IsBelow o (left + 1) → IsSomeAnd (left_behind i.budget left (executed x)) (IsCounted y)
+        by None at h = absurd h
+        by (Some m) at h =
+            let less = one_less (steps y.cpu.counter) m left (one_below m y.cpu.counter _ (bound.falls q.cpu.counter m at) follows) h in
+            rw (is, less.1) (record { number = less.0; waiting = no_wait })
+
+    -- p is under way and counted so, or over
+    abbrev CountsIn : World → ℕ → ℕ → Type 0
+    CountsIn w p left = ((u : IsUnderWay lib i t w p) × IsCounted u.process left) ⊎ IsOverIn w p
+
+    module _ (w : World) (m : ℕ) (x : TraceItem) (w2 : World) (b : IsRunStep lib w m x w2) where
+      own_counts : (left : ℕ) → CountsIn w m left → IsSomeAnd (left_behind i.budget left (executed x)) (CountsIn w2 m)
+      own_counts left (inl (u, c)) = by ((under_way_steps lib i t range typing w m x w2 b u).1)
+        where
+          then_so : (o : Option ℕ) (after : IsUnderWay lib i t w2 m) → IsSomeAnd o (IsCounted after.process) → IsSomeAnd o (CountsIn w2 m)
+          then_so None after h = absurd h
+          then_so (Some more) after h = inl (after, h)
+
+          by : ((after : IsUnderWay lib i t w2 m) × Went i t u.process after.process x) ⊎ (IsOverIn w2 m × (executed x ≡ None)) → IsSomeAnd (left_behind i.budget left (executed x)) (CountsIn w2 m)
+          by (inl (after, went)) = then_so (left_behind i.budget left (executed x)) after (after_own w2 m u.process after.process x left after.conforms went c)
+          by (inr (over, is)) = rw is (inr over)
+      own_counts left (inr o) = absurd (no_step lib w m x w2 b o)
+
+      other_counts : (p : ℕ) → (m == p) ≡ false → (left : ℕ) → CountsIn w p left → CountsIn w2 p left
+      other_counts p apart left (inr o) = inr (over_still lib w m x w2 b p apart o)
+      other_counts p apart left (inl (u, c)) = by (other_ends w m x w2 b p apart u)
+        where
+          by : EndsStep i t p u.process w2 → CountsIn w2 p left
+          by (stays at k) = inl (record { process = u.process; there = at; running = u.running; checked = u.checked; program = u.program; conforms = k }, c)
+          by (wakes awaited ds waited a) = inl (
+            record { process = a.after; there = a.there; running = ap runs a.ready; checked = u.checked; program = ap (slice_get lib) a.program ∙ u.program; conforms = a.conforms },
+            subst (IsCounted a.after) (sym (c.waiting awaited ds waited)) (whole_budget w2 p a.after a.conforms),
+          )
+
+    module _ (statements : List Statement) (boot : World) (begins : IsSizedBoot lib statements boot) (p : ℕ) where
+      run_counts : (more items : List TraceItem) (w after : World) (left : ℕ) → Runs lib boot items w → CountsIn w p left → Runs lib w more after → KeepsBudget i.budget p left more
+      run_counts [] items w after left run s e = tt
+      run_counts (x ∷ more) items w after left run s (mid, step, rest) =
+          by (λ fewer still. run_counts more (items ++ (x ∷ [])) mid after fewer (one_more lib boot items w x mid run step) still rest) (cases_Bool (pid_of x == p))
+        where
+          b : IsRunStep lib w (pid_of x) x mid
+          b = record { statements = statements; boot = boot; items = items; begins = begins; run = run; step = step }
+
+          all_later : (o : Option ℕ) → ((fewer : ℕ) → CountsIn mid p fewer → KeepsBudget i.budget p fewer more) → IsSomeAnd o (CountsIn mid p) → IsSomeAnd o (λ fewer. KeepsBudget i.budget p fewer more)
+          all_later None later h = absurd h
+          all_later (Some fewer) later h = later fewer h
+
+          by : ((fewer : ℕ) → CountsIn mid p fewer → KeepsBudget i.budget p fewer more) → ((pid_of x == p) ≡ true) ⊎ ((pid_of x == p) ≡ false) → KeepsBudget i.budget p left (x ∷ more)
+          by later (inl e) =
+              let same : pid_of x ≡ p = eqb-true (pid_of x) p e in
+              rw e (all_later (left_behind i.budget left (executed x)) later (subst (λ j. IsSomeAnd (left_behind i.budget left (executed x)) (CountsIn mid j)) same (own_counts w (pid_of x) x mid b left (subst (λ j. CountsIn w j left) (sym same) s))))
+          by later (inr e) = rw e (later left (other_counts w (pid_of x) x mid b p e left s))
+
+      pub budget_kept : (items more : List TraceItem) (w after : World) → Runs lib boot items w → IsUnderWay lib i t w p → Runs lib w more after → KeepsBudget i.budget p i.budget more
+      budget_kept items more w after run u rest = run_counts more items w after i.budget run (inl (u, whole_budget w p u.process u.conforms)) rest

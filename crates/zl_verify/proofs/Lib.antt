@@ -45,5 +45,6 @@ pub mod Woken
 pub mod Starting
 pub mod Others
 pub mod Ended
+pub mod OwnSteps
 pub mod CheckedRuns
 mod RowsConforms

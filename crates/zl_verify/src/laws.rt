@@ -18,12 +18,12 @@ ghost use Rattle.zl_code.specs.Steps.{Moves, IsStuck, Runs, next_at};
 ghost use Rattle.zl_abs.specs.States.{State};
 ghost use Rattle.zl_abs.specs.Rule.{Edge};
 ghost use Rattle.zl_abs.specs.Typing.{rule, IsTyping};
-ghost use Rattle.zl_verify.specs.Steps.{is_pause, IsOver};
+ghost use Rattle.zl_verify.specs.Steps.{is_pause, IsStepBound, IsOver};
 ghost use Rattle.zl_verify.specs.Over.{IsOverByCount};
 ghost use Rattle.zl_verify.specs.Conforms.{Conforms};
 ghost use Rattle.zl_verify.specs.LocalLaws.{IsUnbuilt, GoesOn};
 ghost use Rattle.zl_verify.specs.CallLaws.{QueuesAreSized, StandsAtCall, is_fault, IsAnswered, IsWaiting, IsOwnExit, CanCall};
-ghost use Rattle.zl_verify.specs.RunLaws.{IsFineItem, IsUnderWay};
+ghost use Rattle.zl_verify.specs.RunLaws.{IsFineItem, IsUnderWay, KeepsBudget};
 ghost use Rattle.zl_verify.specs.SizedLaws.{IsSizedBoot, CpusAreSized, HoldsInRuns, HoldsInHistories};
 ghost use Rattle.zl_verify.specs.WakeLaws.{IsProperStart, IsRunStep, EndsStep};
 
@@ -118,6 +118,18 @@ pub fn never_refused()
         (items more : List TraceItem) (p : ℕ)
         → IsSizedBoot lib statements boot → Runs lib boot items w → IsUnderWay lib i t w p
         → Runs lib w more after → AllByRecursion (IsFineItem i p) more }
+{}
+
+/// In a run from a boot world, from where a process runs and is as a typing of its image says that has a
+/// step bound, whatever others do: it takes no more instructions than the budget up to its next wait or
+/// its exit, and no more than the budget behind each wait. Own profile.
+pub fn budget_kept()
+    ensures { (i : Image) (t : ℕ → Option State) (steps : ℕ → Option ℕ)
+        → IsTrue (is_in_range i) → IsTyping i t → IsStepBound i t steps
+        → (lib : Library) (statements : List Statement) (boot w after : World)
+        (items more : List TraceItem) (p : ℕ)
+        → IsSizedBoot lib statements boot → Runs lib boot items w → IsUnderWay lib i t w p
+        → Runs lib w more after → KeepsBudget i.budget p i.budget more }
 {}
 
 /// From an instruction that is no wait and not `process_exit` an edge is followed wherever its rule

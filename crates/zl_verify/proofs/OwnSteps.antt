@@ -1,0 +1,222 @@
+-- The own step of a process that conforms, whatever it is: what it tells, and where it leads.
+use Rattle.std.proofs.Common.{◌≡◌, ℕ, ◌⊎◌, Bool, true, false, ◌==◌, List, refl, sym, ap, ◌∙◌, subst, Option, Some, None, inl, inr}
+use Rattle.std.specs.Prelude.{if◌then◌else◌, ℤ, slice_get}
+use Rattle.std.proofs.lemmas.Bool.{eq-eqb}
+use Rattle.std.proofs.lemmas.Option.{same_Some}
+use Rattle.zl_rights.specs.Common.{STUCK, get, runs, World, Cpu, Process, Ready, Blocked}
+use Rattle.zl_rights.specs.Signals.{has_ended}
+use Rattle.zl_rights.specs.World.{Awaited, SignalOf, PacketAt}
+use Rattle.zl_code.specs.declared.history.CallName.{CallName}
+use Rattle.zl_code.specs.declared.history.Outcome.{Outcome}
+use Rattle.zl_code.specs.declared.history.Outcome.TheVariants as outcome
+use Rattle.zl_code.specs.declared.history.TraceItem.{TraceItem}
+use Rattle.zl_code.specs.declared.history.TraceItem.TheVariants as item
+use Rattle.zl_code.specs.declared.instr.CallInstr.{CallInstr}
+use Rattle.zl_code.specs.declared.instr.CallInstr.TheVariants as call
+use Rattle.zl_code.specs.Image.{Image, Library, call_at, call_in}
+use Rattle.zl_code.specs.Spells.{is_in_range}
+use Rattle.zl_code.specs.Effects.{on_process, process_ended, ended}
+use Rattle.zl_code.specs.Request.{Site, name_of}
+use Rattle.zl_code.specs.CallTable.{new_handles, entering_at, stored_by}
+use Rattle.zl_code.specs.Refusals.{refusal}
+use Rattle.zl_code.specs.Calls.{Calls, CallBy, Choice, Refused, WantsMemory, Values, taken, taken_handles, with_effect, after_ok}
+use Rattle.zl_code.specs.Steps.{Next, Moves, AtCall, IsStuck, next_at, next_in, Acts, pid_of}
+use Rattle.zl_code.specs.Sound.{IsSound}
+use Rattle.zl_abs.specs.States.{State}
+use Rattle.zl_abs.specs.Typing.{IsTyping}
+use Rattle.zl_verify.specs.Conforms.{WaitsAt, Conforms}
+use Rattle.zl_verify.specs.CallLaws.{ends_by, ends_of, StandsAtCall, IsAnswered, IsWaiting}
+use Rattle.zl_verify.specs.WakeLaws.{IsRunStep, EndsStep, stays, wakes}
+use Rattle.zl_verify.specs.RunLaws.{is_pause_name, executed, IsFineItem, IsUnderWay}
+use Rattle.zl_verify.specs.Steps.{is_pause, leads, leads_by, OneOf}
+use Rattle.zl_verify.proofs.LocalSteps.{goes_on, not_stuck}
+use Rattle.zl_verify.proofs.AtCalls.{at_call}
+use Rattle.zl_verify.proofs.Sites.{SiteAt, site_at}
+use Rattle.zl_verify.proofs.Giving.{getting_all}
+use Rattle.zl_verify.proofs.Storing.{storing_same}
+use Rattle.zl_verify.proofs.OwnTable.{changed_here, losing_all, removed_here, lost_and_got}
+use Rattle.zl_verify.proofs.OwnCalls.{promised, Promised}
+use Rattle.zl_verify.proofs.OwnEffect.{caller_after}
+use Rattle.zl_verify.proofs.SizedWorlds.{queues_sized}
+use Rattle.zl_verify.proofs.SizedRuns.{world_sized}
+use Rattle.zl_verify.proofs.Woken.{sound_before, ends_step}
+use Rattle.zl_verify.proofs.Ended.{ended_still}
+
+-- ---- items
+
+pub fine_other : (i : Image) (p : ℕ) (x : TraceItem) → (pid_of x == p) ≡ false → IsFineItem i p x
+fine_other i p (item.Call pid called (outcome.Answered answer)) apart = λ same. let bad : (pid == p) ≡ true = eq-eqb pid p same in cc
+fine_other i p (item.Call pid called (outcome.Ended code)) apart = λ same. let bad : (pid == p) ≡ true = eq-eqb pid p same in cc
+fine_other i p (item.Call pid called outcome.Blocked) apart = tt
+fine_other i p (item.Run pid count) apart = tt
+fine_other i p (item.Stuck pid) apart = λ same. let bad : (pid == p) ≡ true = eq-eqb pid p same in cc
+
+-- ---- a process that is over
+
+-- p has ended in w
+pub record IsOverIn (w : World) (p : ℕ) : Type 0 where
+  pub process : Process
+  pub there : get w.processes p ≡ Some process
+  pub over : has_ended process.state ≡ true
+
+ended_there : (w : World) (p : ℕ) (q : Process) → get w.processes p ≡ Some q → q.state ≡ Ready → (code : ℤ) → IsOverIn (ended w p code) p
+unfolding ended
+ended_there w p q there ready code = record {
+  process = process_ended code q;
+  there = changed_here w p (process_ended code) q there;
+  over = rw ready refl;
+}
+
+-- ---- what is counted
+
+-- q did its step, of which x tells, and is y
+pub data Went (i : Image) (t : ℕ → Option State) (q y : Process) (x : TraceItem) : Type 0 where
+  -- one instruction that is no pause, to the end of a followed edge
+  goes : executed x ≡ Some 1 → OneOf (λ n. y.cpu.counter ≡ n) (leads i t q.cpu.counter) → y.state ≡ Ready → Went i t q y x
+  -- a wait
+  pauses : executed x ≡ None → Went i t q y x
+
+pause_named : (x : CallInstr) → is_pause (Some x) ≡ is_pause_name (name_of x)
+pause_named (call.WaitOne a b c d) = refl
+pause_named (call.PortWait a b c d e f) = refl
+pause_named (call.ProcessExit a) = refl
+pause_named _ = refl
+
+waits_pause : (awaited : Awaited) (ds : List ℕ) (o : Option CallInstr) → WaitsAt (Blocked awaited ds) o → is_pause o ≡ true
+waits_pause (SignalOf k m) ds (Some (call.WaitOne a b c d)) w = refl
+waits_pause (SignalOf k m) ds _ w = absurd w
+waits_pause (PacketAt k) ds (Some (call.PortWait a b c d e f)) w = refl
+waits_pause (PacketAt k) ds _ w = absurd w
+
+-- behind what is no pause, edges are followed as they are counted
+leads_so : (i : Image) (t : ℕ → Option State) (n : ℕ) → is_pause (call_at i n) ≡ false → ends_of i t n ≡ leads i t n
+leads_so i t n no_pause = by (t n)
+  where
+    by : (o : Option State) → ends_by i n o ≡ leads_by i n o
+    by None = refl
+    by (Some s) = rw no_pause refl
+
+-- what is ready doesn't wake
+still_there : (i : Image) (t : ℕ → Option State) (p : ℕ) (y : Process) (w2 : World) → y.state ≡ Ready → EndsStep i t p y w2 → (get w2.processes p ≡ Some y) × Conforms i t w2 p y
+still_there i t p y w2 ready (stays at k) = (at, k)
+still_there i t p y w2 ready (wakes awaited ds waited a) = absurd (apart (sym ready ∙ waited))
+  where
+    apart : Ready ≡ Blocked awaited ds → ⊥
+    apart e = cc
+
+-- ---- its own step
+
+module _ (lib : Library) (i : Image) (t : ℕ → Option State) (range : is_in_range i ≡ true) (typing : IsTyping i t) where
+  pub under_way : (p : ℕ) (y : Process) (w2 : World) (checked : Bool) → slice_get lib y.program ≡ Some (record { checked = checked; image = i }) → runs y.state ≡ true → EndsStep i t p y w2 → IsUnderWay lib i t w2 p
+  under_way p y w2 checked program running (stays at k) = record { process = y; there = at; running = running; checked = checked; program = program; conforms = k }
+  under_way p y w2 checked program running (wakes awaited ds waited a) =
+      record { process = a.after; there = a.there; running = ap runs a.ready; checked = checked; program = ap (slice_get lib) a.program ∙ program; conforms = a.conforms }
+
+  module _ (w : World) (p : ℕ) (x : TraceItem) (w2 : World) (b : IsRunStep lib w p x w2) (checked : Bool) (program : slice_get lib b.step.process.program ≡ Some (record { checked = checked; image = i })) (k : Conforms i t w p b.step.process) where
+    abbrev own : Process
+    own = b.step.process
+
+    sound : IsSound w
+    sound = sound_before i t range typing lib w p x w2 b
+
+    over_after : IsOverIn b.step.acted p → IsOverIn w2 p
+    over_after o = record { process = o.process; there = ended_still p o.process o.over lib w p x w2 b.step o.there; over = o.over }
+
+    -- p is under way at the end of the step, or over
+    abbrev HasGone : Type 0
+    HasGone = ((u : IsUnderWay lib i t w2 p) × Went i t own u.process x) ⊎ (IsOverIn w2 p × (executed x ≡ None))
+
+    ends : (y : Process) → get b.step.acted.processes p ≡ Some y → runs y.state ≡ true → Conforms i t b.step.acted p y → EndsStep i t p y w2
+    ends y at running c = ends_step i t range typing lib w p x w2 b p y at running c
+
+    -- it is ready, at the end of a followed edge
+    goes_to : (y : Process) → get b.step.acted.processes p ≡ Some y → y.state ≡ Ready → y.program ≡ own.program → Conforms i t b.step.acted p y → Went i t own y x → HasGone
+    goes_to y at ready same c went =
+        let still = still_there i t p y w2 ready (ends y at (ap runs ready) c) in
+        inl (record { process = y; there = still.0; running = ap runs ready; checked = checked; program = ap (slice_get lib) same ∙ program; conforms = still.1 }, went)
+
+    moved : (c : Cpu) → next_at i own.cpu ≡ Moves c → x ≡ item.Run p 1 → b.step.acted ≡ on_process w p (λ y. record y { cpu = c }) → HasGone
+    moved c next told same =
+        let g = goes_on i t w p own range typing sound.handles b.step.is_there k b.step.is_ready c next in
+        goes_to (record own { cpu = c }) (ap (λ v. get v.processes p) same ∙ changed_here w p (λ (y : Process). record y { cpu = c }) own b.step.is_there) b.step.is_ready refl
+        (subst (λ v. Conforms i t v p (record own { cpu = c })) (sym same) g.conforms)
+        (goes (ap executed told) g.follows b.step.is_ready)
+
+    module _ (called : CallName) (s : Site) (next : next_at i own.cpu ≡ AtCall called s) where
+      stands : StandsAtCall i t w p own called s
+      stands = record {
+        range = range;
+        typing = typing;
+        sound = sound;
+        sized = queues_sized w (world_sized lib b.statements b.boot w b.items b.begins b.run);
+        there = b.step.is_there;
+        ready = b.step.is_ready;
+        conforms = k;
+        next = next;
+      }
+
+      -- where process_exit has ended it
+      exited_at : (x : CallInstr) → SiteAt own.cpu x s → (vs : List ℕ) (code : ℤ) → IsOverIn (ended (with_effect lib w (taken w p s) p s.request vs) p code) p
+      exited_at x here vs code =
+          let table = lost_and_got (new_handles w p s.request) (entering_at s.request vs) (taken_handles s.request) own in
+          ended_there (with_effect lib w (taken w p s) p s.request vs) p _
+          (caller_after own.cpu x s here lib w (taken w p s) p vs (losing_all (taken_handles s.request) own) (removed_here (taken_handles s.request) w p own b.step.is_there))
+          ((storing_same (stored_by w p s.request) (getting_all (new_handles w p s.request) (entering_at s.request vs) (losing_all (taken_handles s.request) own))).state ∙ (table.state ∙ b.step.is_ready)) code
+
+      exited : (code : ℤ) (choice : Choice) (r : Option Outcome) → CallBy lib w p s choice r (outcome.Ended code) b.step.acted → IsOverIn b.step.acted p
+      exited code Refused None c = absurd c
+      exited code Refused (Some (outcome.Answered answer)) c = let bad = c.0 in cc
+      exited code Refused (Some outcome.Blocked) c = let bad = c.0 in cc
+      exited code Refused (Some (outcome.Ended other)) c = subst (λ v. IsOverIn v p) (sym c.1) (ended_there w p own b.step.is_there b.step.is_ready other)
+      exited code WantsMemory None c = let bad = c.1 in cc
+      exited code WantsMemory (Some o) c = absurd c
+      exited code (Values vs) None c =
+          let at = at_call i own.cpu called s next in
+          subst (λ v. IsOverIn v p) (sym (c.2 ∙ ap (after_ok lib w p s vs) (sym c.1))) (exited_at at.call (site_at own.cpu s at.call at.site) vs code)
+      exited code (Values vs) (Some o) c = absurd c
+
+      pause_here : is_pause (call_at i own.cpu.counter) ≡ is_pause_name called
+      pause_here = let at = at_call i own.cpu called s next in ap (λ o. is_pause (call_in o)) at.stands ∙ (pause_named at.call ∙ ap is_pause_name at.named)
+
+      answered : (o : Outcome) → x ≡ item.Call p called o → (a : IsAnswered i t p own b.step.acted) → HasGone
+      answered o is a = by (is_pause_name called) refl
+        where
+          told : (c : Bool) → is_pause_name called ≡ c → executed x ≡ (if c then None else Some 1)
+          told c same = ap executed is ∙ ap (λ (d : Bool). if d then None else Some 1) same
+
+          by : (c : Bool) → is_pause_name called ≡ c → HasGone
+          by true same = goes_to a.after a.there a.ready a.program a.conforms (pauses (told true same))
+          by false same = goes_to a.after a.there a.ready a.program a.conforms (goes (told false same) (subst (OneOf (λ n. a.after.cpu.counter ≡ n)) (leads_so i t own.cpu.counter (pause_here ∙ same)) a.follows) a.ready)
+
+      blocked : (o : Outcome) → x ≡ item.Call p called o → IsWaiting i t p own b.step.acted → HasGone
+      blocked o is a =
+          let pause : is_pause_name called ≡ true = sym pause_here ∙ waits_pause a.awaited a.destinations (call_at i own.cpu.counter) a.conforms.waits in
+          inl (under_way p (record own { state = Blocked a.awaited a.destinations }) w2 checked program refl (ends (record own { state = Blocked a.awaited a.destinations }) a.there refl a.conforms),
+          pauses (ap executed is ∙ ap (λ (d : Bool). if d then None else Some 1) pause))
+
+      by_outcome : (o : Outcome) → x ≡ item.Call p called o → Calls lib w p s o b.step.acted → Promised i t p own called s o b.step.acted → IsFineItem i p x × HasGone
+      by_outcome (outcome.Answered answer) is h (fine, a) = (subst (IsFineItem i p) (sym is) (λ same. fine), answered (outcome.Answered answer) is a)
+      by_outcome outcome.Blocked is h a = (subst (IsFineItem i p) (sym is) tt, blocked outcome.Blocked is a)
+      by_outcome (outcome.Ended code) is h a = (
+        subst (IsFineItem i p) (sym is) (λ same. a.named),
+        inr (over_after (exited code h.0 (refusal lib w p s.request) h.1), ap executed is ∙ ap (λ (n : CallName). if is_pause_name n then None else Some 1) a.named),
+      )
+
+    by_next : (n : Next) → next_at i own.cpu ≡ n → Acts lib w p n x b.step.acted → IsFineItem i p x × HasGone
+    by_next (Moves c) next a = (subst (IsFineItem i p) (sym a.0) tt, moved c next a.0 a.1)
+    by_next (AtCall called s) next (o, is, h) = by_outcome called s next o is h (promised i t w p own called s (stands called s next) lib o b.step.acted h)
+    by_next IsStuck next a = (
+      subst (IsFineItem i p) (sym a.0) (λ same. (own.cpu, not_stuck i t w p own range typing sound.handles b.step.is_there k next)),
+      inr (over_after (subst (λ v. IsOverIn v p) (sym a.1) (ended_there w p own b.step.is_there b.step.is_ready STUCK)), ap executed a.0),
+    )
+
+    own_step : IsFineItem i p x × HasGone
+    own_step = by_next (next_at i own.cpu) refl (subst (λ n. Acts lib w p n x b.step.acted) (ap (λ o. next_in o own.cpu) program) b.step.acts)
+
+  -- the step of a process that is under way
+  pub under_way_steps : (w : World) (m : ℕ) (x : TraceItem) (w2 : World) → IsRunStep lib w m x w2 → (u : IsUnderWay lib i t w m)
+      → IsFineItem i m x × (((after : IsUnderWay lib i t w2 m) × Went i t u.process after.process x) ⊎ (IsOverIn w2 m × (executed x ≡ None)))
+  under_way_steps w m x w2 b u =
+      let same : b.step.process ≡ u.process = same_Some b.step.process u.process (sym b.step.is_there ∙ u.there) in
+      subst (λ (q : Process). IsFineItem i m x × (((after : IsUnderWay lib i t w2 m) × Went i t q after.process x) ⊎ (IsOverIn w2 m × (executed x ≡ None)))) same
+      (own_step w m x w2 b u.checked (ap (λ (y : Process). slice_get lib y.program) same ∙ u.program) (subst (Conforms i t w m) (sym same) u.conforms))

@@ -1,6 +1,6 @@
 -- A process that conforms is never refused for a handle, no policy ends it, and it keeps its budget, whatever follows in the run.
-use Rattle.std.proofs.Common.{◌≡◌, ℕ, ◌+◌, ◌-◌, ◌<◌, ◌≤◌, ◌⊎◌, Bool, true, false, ◌==◌, List, [], ◌∷◌, ◌++◌, refl, sym, ap, ◌∙◌, subst, Option, Some, None, inl, inr, arith}
-use Rattle.std.specs.Prelude.{if◌then◌else◌, nat_le, slice_get, IsSomeAnd}
+use Rattle.std.proofs.Common.{◌≡◌, ℕ, ◌+◌, ◌-◌, ◌<◌, ◌≤◌, ◌⊎◌, true, false, ◌==◌, List, [], ◌∷◌, ◌++◌, refl, sym, ap, ◌∙◌, subst, Option, Some, None, inl, inr, arith}
+use Rattle.std.specs.Prelude.{nat_le, slice_get, IsSomeAnd}
 use Rattle.std.specs.List.{AllByRecursion}
 use Rattle.std.proofs.lemmas.Bool.{cases_Bool, eqb-true}
 use Rattle.std.proofs.lemmas.Bool.Decides.{nat_tests}
@@ -19,10 +19,10 @@ use Rattle.zl_verify.specs.Conforms.{Conforms}
 use Rattle.zl_verify.specs.Steps.{IsBelow, AllBelow, IsStepBound, OneOf}
 use Rattle.zl_verify.specs.SizedLaws.{IsSizedBoot}
 use Rattle.zl_verify.specs.WakeLaws.{IsRunStep, EndsStep, stays, wakes}
-use Rattle.zl_verify.specs.RunLaws.{IsFineItem, IsUnderWay, executed, left_behind, KeepsBudget}
+use Rattle.zl_verify.specs.RunLaws.{IsFineItem, IsUnderWay, HasEnded, executed, left_behind, KeepsBudget}
 use Rattle.zl_verify.proofs.Others.{others_end, others_same}
 use Rattle.zl_verify.proofs.Ended.{ended_still}
-use Rattle.zl_verify.proofs.OwnSteps.{fine_other, IsOverIn, Went, goes, pauses, under_way, under_way_steps}
+use Rattle.zl_verify.proofs.OwnSteps.{fine_other, Went, goes, pauses, under_way, under_way_steps}
 
 -- ---- runs
 
@@ -31,14 +31,14 @@ one_more lib boot [] w x mid e step = (mid, subst (λ v. Step lib v (pid_of x) x
 one_more lib boot (y ∷ items) w x mid (first, before, rest) step = (first, before, one_more lib first items w x mid rest step)
 
 -- who is over takes no step
-no_step : (lib : Library) (w : World) (p : ℕ) (x : TraceItem) (w2 : World) → IsRunStep lib w p x w2 → IsOverIn w p → ⊥
+no_step : (lib : Library) (w : World) (p : ℕ) (x : TraceItem) (w2 : World) → IsRunStep lib w p x w2 → HasEnded w p → ⊥
 no_step lib w p x w2 b o =
     let same : o.process ≡ b.step.process = same_Some o.process b.step.process (sym o.there ∙ b.step.is_there) in
     let bad : false ≡ true = sym (ap has_ended b.step.is_ready) ∙ (ap (λ (y : Process). has_ended y.state) (sym same) ∙ o.over) in
     cc
 
 -- who is over stays so while others act
-over_still : (lib : Library) (w : World) (m : ℕ) (x : TraceItem) (w2 : World) → IsRunStep lib w m x w2 → (p : ℕ) → (m == p) ≡ false → IsOverIn w p → IsOverIn w2 p
+over_still : (lib : Library) (w : World) (m : ℕ) (x : TraceItem) (w2 : World) → IsRunStep lib w m x w2 → (p : ℕ) → (m == p) ≡ false → HasEnded w p → HasEnded w2 p
 over_still lib w m x w2 b p apart o = record { process = o.process; there = ended_still p o.process o.over lib w m x w2 b.step (others_same lib w m x w2 b.step p apart ∙ o.there); over = o.over }
 
 module _ (lib : Library) (i : Image) (t : ℕ → Option State) (range : is_in_range i ≡ true) (typing : IsTyping i t) where
@@ -46,13 +46,13 @@ module _ (lib : Library) (i : Image) (t : ℕ → Option State) (range : is_in_r
 
   -- p is under way, or over
   abbrev StandsIn : World → ℕ → Type 0
-  StandsIn w p = IsUnderWay lib i t w p ⊎ IsOverIn w p
+  StandsIn w p = IsUnderWay lib i t w p ⊎ HasEnded w p
 
   module _ (w : World) (m : ℕ) (x : TraceItem) (w2 : World) (b : IsRunStep lib w m x w2) where
     own_stands : StandsIn w m → IsFineItem i m x × StandsIn w2 m
     own_stands (inl u) = let (fine, h) = under_way_steps lib i t range typing w m x w2 b u in (fine, by h)
       where
-        by : ((after : IsUnderWay lib i t w2 m) × Went i t u.process after.process x) ⊎ (IsOverIn w2 m × (executed x ≡ None)) → StandsIn w2 m
+        by : ((after : IsUnderWay lib i t w2 m) × Went i t u.process after.process x) ⊎ (HasEnded w2 m × (executed x ≡ None)) → StandsIn w2 m
         by (inl h) = inl h.0
         by (inr h) = inr h.0
     own_stands (inr o) = absurd (no_step lib w m x w2 b o)
@@ -79,6 +79,15 @@ module _ (lib : Library) (i : Image) (t : ℕ → Option State) (range : is_in_r
     run_fine (x ∷ more) items w after run s (mid, step, rest) =
         let (fine, later) = stands_still w x mid (record { statements = statements; boot = boot; items = items; begins = begins; run = run; step = step }) p s in
         (fine, run_fine more (items ++ (x ∷ [])) mid after (one_more lib boot items w x mid run step) later rest)
+
+    run_stands : (more items : List TraceItem) (w after : World) → Runs lib boot items w → StandsIn w p → Runs lib w more after → StandsIn after p
+    run_stands [] items w after run s e = rw e s
+    run_stands (x ∷ more) items w after run s (mid, step, rest) =
+        let (fine, later) = stands_still w x mid (record { statements = statements; boot = boot; items = items; begins = begins; run = run; step = step }) p s in
+        run_stands more (items ++ (x ∷ [])) mid after (one_more lib boot items w x mid run step) later rest
+
+    pub stays_so : (items more : List TraceItem) (w after : World) → Runs lib boot items w → IsUnderWay lib i t w p → Runs lib w more after → StandsIn after p
+    stays_so items more w after run u rest = run_stands more items w after run (inl u) rest
 
     pub never_refused : (items more : List TraceItem) (w after : World) → Runs lib boot items w → IsUnderWay lib i t w p → Runs lib w more after → AllByRecursion (IsFineItem i p) more
     never_refused items more w after run u rest = run_fine more items w after run (inl u) rest
@@ -125,7 +134,7 @@ module _ (lib : Library) (i : Image) (t : ℕ → Option State) (range : is_in_r
 
     -- p is under way and counted so, or over
     abbrev CountsIn : World → ℕ → ℕ → Type 0
-    CountsIn w p left = ((u : IsUnderWay lib i t w p) × IsCounted u.process left) ⊎ IsOverIn w p
+    CountsIn w p left = ((u : IsUnderWay lib i t w p) × IsCounted u.process left) ⊎ HasEnded w p
 
     module _ (w : World) (m : ℕ) (x : TraceItem) (w2 : World) (b : IsRunStep lib w m x w2) where
       own_counts : (left : ℕ) → CountsIn w m left → IsSomeAnd (left_behind i.budget left (executed x)) (CountsIn w2 m)
@@ -135,7 +144,7 @@ module _ (lib : Library) (i : Image) (t : ℕ → Option State) (range : is_in_r
           then_so None after h = absurd h
           then_so (Some more) after h = inl (after, h)
 
-          by : ((after : IsUnderWay lib i t w2 m) × Went i t u.process after.process x) ⊎ (IsOverIn w2 m × (executed x ≡ None)) → IsSomeAnd (left_behind i.budget left (executed x)) (CountsIn w2 m)
+          by : ((after : IsUnderWay lib i t w2 m) × Went i t u.process after.process x) ⊎ (HasEnded w2 m × (executed x ≡ None)) → IsSomeAnd (left_behind i.budget left (executed x)) (CountsIn w2 m)
           by (inl (after, went)) = then_so (left_behind i.budget left (executed x)) after (after_own w2 m u.process after.process x left after.conforms went c)
           by (inr (over, is)) = rw is (inr over)
       own_counts left (inr o) = absurd (no_step lib w m x w2 b o)

@@ -4,7 +4,6 @@ use Rattle.std.specs.Prelude.{if◌then◌else◌, ℤ, slice_get}
 use Rattle.std.proofs.lemmas.Bool.{eq-eqb}
 use Rattle.std.proofs.lemmas.Option.{same_Some}
 use Rattle.zl_rights.specs.Common.{STUCK, get, runs, World, Cpu, Process, Ready, Blocked}
-use Rattle.zl_rights.specs.Signals.{has_ended}
 use Rattle.zl_rights.specs.World.{Awaited, SignalOf, PacketAt}
 use Rattle.zl_code.specs.declared.history.CallName.{CallName}
 use Rattle.zl_code.specs.declared.history.Outcome.{Outcome}
@@ -27,7 +26,7 @@ use Rattle.zl_abs.specs.Typing.{IsTyping}
 use Rattle.zl_verify.specs.Conforms.{WaitsAt, Conforms}
 use Rattle.zl_verify.specs.CallLaws.{ends_by, ends_of, StandsAtCall, IsAnswered, IsWaiting}
 use Rattle.zl_verify.specs.WakeLaws.{IsRunStep, EndsStep, stays, wakes}
-use Rattle.zl_verify.specs.RunLaws.{is_pause_name, executed, IsFineItem, IsUnderWay}
+use Rattle.zl_verify.specs.RunLaws.{is_pause_name, executed, IsFineItem, IsUnderWay, HasEnded}
 use Rattle.zl_verify.specs.Steps.{is_pause, leads, leads_by, OneOf}
 use Rattle.zl_verify.proofs.LocalSteps.{goes_on, not_stuck}
 use Rattle.zl_verify.proofs.AtCalls.{at_call}
@@ -53,13 +52,7 @@ fine_other i p (item.Stuck pid) apart = λ same. let bad : (pid == p) ≡ true =
 
 -- ---- a process that is over
 
--- p has ended in w
-pub record IsOverIn (w : World) (p : ℕ) : Type 0 where
-  pub process : Process
-  pub there : get w.processes p ≡ Some process
-  pub over : has_ended process.state ≡ true
-
-ended_there : (w : World) (p : ℕ) (q : Process) → get w.processes p ≡ Some q → q.state ≡ Ready → (code : ℤ) → IsOverIn (ended w p code) p
+ended_there : (w : World) (p : ℕ) (q : Process) → get w.processes p ≡ Some q → q.state ≡ Ready → (code : ℤ) → HasEnded (ended w p code) p
 unfolding ended
 ended_there w p q there ready code = record {
   process = process_ended code q;
@@ -119,12 +112,12 @@ module _ (lib : Library) (i : Image) (t : ℕ → Option State) (range : is_in_r
     sound : IsSound w
     sound = sound_before i t range typing lib w p x w2 b
 
-    over_after : IsOverIn b.step.acted p → IsOverIn w2 p
+    over_after : HasEnded b.step.acted p → HasEnded w2 p
     over_after o = record { process = o.process; there = ended_still p o.process o.over lib w p x w2 b.step o.there; over = o.over }
 
     -- p is under way at the end of the step, or over
     abbrev HasGone : Type 0
-    HasGone = ((u : IsUnderWay lib i t w2 p) × Went i t own u.process x) ⊎ (IsOverIn w2 p × (executed x ≡ None))
+    HasGone = ((u : IsUnderWay lib i t w2 p) × Went i t own u.process x) ⊎ (HasEnded w2 p × (executed x ≡ None))
 
     ends : (y : Process) → get b.step.acted.processes p ≡ Some y → runs y.state ≡ true → Conforms i t b.step.acted p y → EndsStep i t p y w2
     ends y at running c = ends_step i t range typing lib w p x w2 b p y at running c
@@ -156,23 +149,23 @@ module _ (lib : Library) (i : Image) (t : ℕ → Option State) (range : is_in_r
       }
 
       -- where process_exit has ended it
-      exited_at : (x : CallInstr) → SiteAt own.cpu x s → (vs : List ℕ) (code : ℤ) → IsOverIn (ended (with_effect lib w (taken w p s) p s.request vs) p code) p
+      exited_at : (x : CallInstr) → SiteAt own.cpu x s → (vs : List ℕ) (code : ℤ) → HasEnded (ended (with_effect lib w (taken w p s) p s.request vs) p code) p
       exited_at x here vs code =
           let table = lost_and_got (new_handles w p s.request) (entering_at s.request vs) (taken_handles s.request) own in
           ended_there (with_effect lib w (taken w p s) p s.request vs) p _
           (caller_after own.cpu x s here lib w (taken w p s) p vs (losing_all (taken_handles s.request) own) (removed_here (taken_handles s.request) w p own b.step.is_there))
           ((storing_same (stored_by w p s.request) (getting_all (new_handles w p s.request) (entering_at s.request vs) (losing_all (taken_handles s.request) own))).state ∙ (table.state ∙ b.step.is_ready)) code
 
-      exited : (code : ℤ) (choice : Choice) (r : Option Outcome) → CallBy lib w p s choice r (outcome.Ended code) b.step.acted → IsOverIn b.step.acted p
+      exited : (code : ℤ) (choice : Choice) (r : Option Outcome) → CallBy lib w p s choice r (outcome.Ended code) b.step.acted → HasEnded b.step.acted p
       exited code Refused None c = absurd c
       exited code Refused (Some (outcome.Answered answer)) c = let bad = c.0 in cc
       exited code Refused (Some outcome.Blocked) c = let bad = c.0 in cc
-      exited code Refused (Some (outcome.Ended other)) c = subst (λ v. IsOverIn v p) (sym c.1) (ended_there w p own b.step.is_there b.step.is_ready other)
+      exited code Refused (Some (outcome.Ended other)) c = subst (λ v. HasEnded v p) (sym c.1) (ended_there w p own b.step.is_there b.step.is_ready other)
       exited code WantsMemory None c = let bad = c.1 in cc
       exited code WantsMemory (Some o) c = absurd c
       exited code (Values vs) None c =
           let at = at_call i own.cpu called s next in
-          subst (λ v. IsOverIn v p) (sym (c.2 ∙ ap (after_ok lib w p s vs) (sym c.1))) (exited_at at.call (site_at own.cpu s at.call at.site) vs code)
+          subst (λ v. HasEnded v p) (sym (c.2 ∙ ap (after_ok lib w p s vs) (sym c.1))) (exited_at at.call (site_at own.cpu s at.call at.site) vs code)
       exited code (Values vs) (Some o) c = absurd c
 
       pause_here : is_pause (call_at i own.cpu.counter) ≡ is_pause_name called
@@ -207,7 +200,7 @@ module _ (lib : Library) (i : Image) (t : ℕ → Option State) (range : is_in_r
     by_next (AtCall called s) next (o, is, h) = by_outcome called s next o is h (promised i t w p own called s (stands called s next) lib o b.step.acted h)
     by_next IsStuck next a = (
       subst (IsFineItem i p) (sym a.0) (λ same. (own.cpu, not_stuck i t w p own range typing sound.handles b.step.is_there k next)),
-      inr (over_after (subst (λ v. IsOverIn v p) (sym a.1) (ended_there w p own b.step.is_there b.step.is_ready STUCK)), ap executed a.0),
+      inr (over_after (subst (λ v. HasEnded v p) (sym a.1) (ended_there w p own b.step.is_there b.step.is_ready STUCK)), ap executed a.0),
     )
 
     own_step : IsFineItem i p x × HasGone
@@ -215,8 +208,8 @@ module _ (lib : Library) (i : Image) (t : ℕ → Option State) (range : is_in_r
 
   -- the step of a process that is under way
   pub under_way_steps : (w : World) (m : ℕ) (x : TraceItem) (w2 : World) → IsRunStep lib w m x w2 → (u : IsUnderWay lib i t w m)
-      → IsFineItem i m x × (((after : IsUnderWay lib i t w2 m) × Went i t u.process after.process x) ⊎ (IsOverIn w2 m × (executed x ≡ None)))
+      → IsFineItem i m x × (((after : IsUnderWay lib i t w2 m) × Went i t u.process after.process x) ⊎ (HasEnded w2 m × (executed x ≡ None)))
   under_way_steps w m x w2 b u =
       let same : b.step.process ≡ u.process = same_Some b.step.process u.process (sym b.step.is_there ∙ u.there) in
-      subst (λ (q : Process). IsFineItem i m x × (((after : IsUnderWay lib i t w2 m) × Went i t q after.process x) ⊎ (IsOverIn w2 m × (executed x ≡ None)))) same
+      subst (λ (q : Process). IsFineItem i m x × (((after : IsUnderWay lib i t w2 m) × Went i t q after.process x) ⊎ (HasEnded w2 m × (executed x ≡ None)))) same
       (own_step w m x w2 b u.checked (ap (λ (y : Process). slice_get lib y.program) same ∙ u.program) (subst (Conforms i t w m) (sym same) u.conforms))

@@ -1,6 +1,7 @@
 -- What the law of a checked process in a run says.
 use Rattle.std.specs.Prelude.{ℕ, ◌≡◌, Bool, false, Option, Some, IsTrue, slice_get, ◌-◌, true, ◌==◌, nat_le, List, [], ◌∷◌, None, IsSomeAnd, if◌then◌else◌}
 use Rattle.zl_rights.specs.Common.{get, runs, World, Cpu, Process}
+use Rattle.zl_rights.specs.Signals.{has_ended}
 use Rattle.zl_code.specs.declared.history.CallName.{CallName}
 use Rattle.zl_code.specs.declared.history.CallName.TheVariants as name
 use Rattle.zl_code.specs.declared.history.Outcome.TheVariants as outcome
@@ -29,6 +30,12 @@ pub record IsUnderWay (lib : Library) (i : Image) (t : ℕ → Option State) (w 
   pub checked : Bool
   pub program : slice_get lib process.program ≡ Some (record { checked = checked; image = i })
   pub conforms : Conforms i t w p process
+
+-- The process p of w has ended.
+pub record HasEnded (w : World) (p : ℕ) : Type 0 where
+  pub process : Process
+  pub there : get w.processes p ≡ Some process
+  pub over : IsTrue (has_ended process.state)
 
 -- ---- the budget
 

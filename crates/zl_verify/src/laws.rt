@@ -1,7 +1,7 @@
 //! Laws of the definitions: each function's contract is one law, and its body is empty.
 
 ghost use Rattle.std.specs.List.{AllByRecursion};
-ghost use Rattle.std.specs.Prelude.{ℕ, ◌≡◌, ◌≢◌, ◌==◌, ◌↔◌, ℤ, false, IsTrue, List, [], Option, Some, Ok};
+ghost use Rattle.std.specs.Prelude.{ℕ, ◌≡◌, ◌≢◌, ◌==◌, ◌↔◌, ◌⊎◌, ℤ, false, IsTrue, List, [], Option, Some, Ok};
 ghost use Rattle.zl_rights.specs.Common.{World, Cpu, Process, Ready, get, runs};
 ghost use Rattle.zl_rights.specs.declared.status.Status.{Status};
 ghost use Rattle.zl_code.specs.declared.boot.Statement.{Statement};
@@ -23,7 +23,7 @@ ghost use Rattle.zl_verify.specs.Over.{IsOverByCount};
 ghost use Rattle.zl_verify.specs.Conforms.{Conforms};
 ghost use Rattle.zl_verify.specs.LocalLaws.{IsUnbuilt, GoesOn};
 ghost use Rattle.zl_verify.specs.CallLaws.{QueuesAreSized, StandsAtCall, is_fault, IsAnswered, IsWaiting, IsOwnExit, CanCall};
-ghost use Rattle.zl_verify.specs.RunLaws.{IsFineItem, IsUnderWay, KeepsBudget};
+ghost use Rattle.zl_verify.specs.RunLaws.{IsFineItem, IsUnderWay, HasEnded, KeepsBudget};
 ghost use Rattle.zl_verify.specs.SizedLaws.{IsSizedBoot, CpusAreSized, HoldsInRuns, HoldsInHistories};
 ghost use Rattle.zl_verify.specs.WakeLaws.{IsProperStart, IsRunStep, EndsStep};
 
@@ -111,13 +111,18 @@ pub fn steps_of_others()
 /// In a run from a boot world, from where a process runs and is as a typing of its image says, whatever
 /// it and others do: none of its calls is answered BAD_HANDLE, WRONG_TYPE or ACCESS_DENIED, no call ends
 /// it but its own `process_exit`, so that no policy does, and it is stuck only at a call that isn't
-/// built. Own profile.
+/// built. In each world that follows it runs, and is as the typing says, or has ended. Own profile.
 pub fn never_refused()
-    ensures { (i : Image) (t : ℕ → Option State) → IsTrue (is_in_range i) → IsTyping i t
+    ensures fine { (i : Image) (t : ℕ → Option State) → IsTrue (is_in_range i) → IsTyping i t
         → (lib : Library) (statements : List Statement) (boot w after : World)
         (items more : List TraceItem) (p : ℕ)
         → IsSizedBoot lib statements boot → Runs lib boot items w → IsUnderWay lib i t w p
         → Runs lib w more after → AllByRecursion (IsFineItem i p) more }
+    ensures stays { (i : Image) (t : ℕ → Option State) → IsTrue (is_in_range i) → IsTyping i t
+        → (lib : Library) (statements : List Statement) (boot w after : World)
+        (items more : List TraceItem) (p : ℕ)
+        → IsSizedBoot lib statements boot → Runs lib boot items w → IsUnderWay lib i t w p
+        → Runs lib w more after → IsUnderWay lib i t after p ⊎ HasEnded after p }
 {}
 
 /// In a run from a boot world, from where a process runs and is as a typing of its image says that has a

@@ -48,3 +48,4 @@ pub mod Ended
 pub mod OwnSteps
 pub mod CheckedRuns
 mod RowsConforms
+mod RowsRuns

@@ -184,8 +184,10 @@ module _ (lib : Library) (i : Image) (t : ℕ → Option State) (range : is_in_r
       blocked : (o : Outcome) → x ≡ item.Call p called o → IsWaiting i t p own b.step.acted → HasGone
       blocked o is a =
           let pause : is_pause_name called ≡ true = sym pause_here ∙ waits_pause a.awaited a.destinations (call_at i own.cpu.counter) a.conforms.waits in
-          inl (under_way p (record own { state = Blocked a.awaited a.destinations }) w2 checked program refl (ends (record own { state = Blocked a.awaited a.destinations }) a.there refl a.conforms),
-          pauses (ap executed is ∙ ap (λ (d : Bool). if d then None else Some 1) pause))
+          inl (
+            under_way p (record own { state = Blocked a.awaited a.destinations }) w2 checked program refl (ends (record own { state = Blocked a.awaited a.destinations }) a.there refl a.conforms),
+            pauses (ap executed is ∙ ap (λ (d : Bool). if d then None else Some 1) pause),
+          )
 
       by_outcome : (o : Outcome) → x ≡ item.Call p called o → Calls lib w p s o b.step.acted → Promised i t p own called s o b.step.acted → IsFineItem i p x × HasGone
       by_outcome (outcome.Answered answer) is h (fine, a) = (subst (IsFineItem i p) (sym is) (λ same. fine), answered (outcome.Answered answer) is a)

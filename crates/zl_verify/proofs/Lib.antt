@@ -43,6 +43,7 @@ pub mod SizedRuns
 pub mod Awaking
 pub mod Woken
 pub mod Starting
+pub mod BootStarts
 pub mod Others
 pub mod Ended
 pub mod OwnSteps

@@ -1,5 +1,5 @@
 -- The words of the law of runs on worked examples: what counts against a budget, which starts are as declared.
-use Rattle.std.proofs.Common.{◌≡◌, ℕ, List, [], ◌∷◌, refl, Some, None}
+use Rattle.std.proofs.Common.{ℕ, List, [], ◌∷◌, refl, Some}
 use Rattle.zl_rights.specs.Common.{rights_of}
 use Rattle.zl_rights.specs.declared.entry.Entry.{Entry}
 use Rattle.zl_rights.specs.declared.kind.Kind.TheVariants as kind

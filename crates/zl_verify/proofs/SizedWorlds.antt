@@ -53,7 +53,7 @@ module _ {X : Type 0} (P : X → Type 0) (m : Map X) (all : Each P m) where
       by true (Some y) is e = subst P (same_Some (f y) x e) (keeps y (all k y is))
       by false o is e = all k x (is ∙ e)
 
-  each_each : (f : ℕ → X → X) → ((k : ℕ) (x : X) → P x → P (f k x)) → Each P (each f m)
+  pub each_each : (f : ℕ → X → X) → ((k : ℕ) (x : X) → P x → P (f k x)) → Each P (each f m)
   each_each f keeps k x there = by (get m k) refl (sym (get-each m f k) ∙ there)
     where
       by : (o : Option X) → get m k ≡ o → option_map (f k) o ≡ Some x → P x

@@ -60,3 +60,13 @@ pub record IsProperStart (i : Image) (w : World) (p : ℕ) (q : Process) : Type 
   pub declared : AreAsDeclared i.starts handles
   pub small : word ≤ ANY
   pub allowed : (c : Condition) → IsTrue (is_among i.needs c) → creates w p c ≡ None
+
+-- The process is as a statement of a boot started it: by a program of the library, with handles at values that they may get, and a word.
+pub record IsBooted (lib : Library) (q : Process) : Type 0 where
+  pub program : ℕ
+  pub handles : List Entry
+  pub values : List ℕ
+  pub word : ℕ
+  pub made : q ≡ started_process lib program handles values word
+  pub free : IsTrue (may_get_all (created_process lib program) handles values)
+  pub small : word ≤ ANY

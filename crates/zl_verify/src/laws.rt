@@ -1,7 +1,8 @@
 //! Laws of the definitions: each function's contract is one law, and its body is empty.
 
 ghost use Rattle.std.specs.List.{AllByRecursion};
-ghost use Rattle.std.specs.Prelude.{ℕ, ◌≡◌, ◌≢◌, ◌==◌, ◌↔◌, ◌⊎◌, ℤ, false, IsTrue, List, [], Option, Some, Ok};
+ghost use Rattle.std.specs.Prelude.{ℕ, ◌≡◌, ◌≢◌, ◌==◌, ◌↔◌, ◌⊎◌, ℤ, Bool};
+ghost use Rattle.std.specs.Prelude.{slice_get, false, IsTrue, List, [], Option, Some, Ok};
 ghost use Rattle.zl_rights.specs.Common.{World, Cpu, Process, Ready, get, runs};
 ghost use Rattle.zl_rights.specs.declared.status.Status.{Status};
 ghost use Rattle.zl_code.specs.declared.boot.Statement.{Statement};
@@ -22,10 +23,13 @@ ghost use Rattle.zl_verify.specs.Steps.{is_pause, IsStepBound, IsOver};
 ghost use Rattle.zl_verify.specs.Over.{IsOverByCount};
 ghost use Rattle.zl_verify.specs.Conforms.{Conforms};
 ghost use Rattle.zl_verify.specs.LocalLaws.{IsUnbuilt, GoesOn};
-ghost use Rattle.zl_verify.specs.CallLaws.{QueuesAreSized, StandsAtCall, is_fault, IsAnswered, IsWaiting, IsOwnExit, CanCall};
+ghost use Rattle.zl_verify.specs.CallLaws.{QueuesAreSized, StandsAtCall, is_fault};
+ghost use Rattle.zl_verify.specs.CallLaws.{IsAnswered, IsWaiting, IsOwnExit, CanCall};
 ghost use Rattle.zl_verify.specs.RunLaws.{IsFineItem, IsUnderWay, HasEnded, KeepsBudget};
-ghost use Rattle.zl_verify.specs.SizedLaws.{IsSizedBoot, CpusAreSized, HoldsInRuns, HoldsInHistories};
-ghost use Rattle.zl_verify.specs.WakeLaws.{IsProperStart, IsRunStep, EndsStep};
+ghost use Rattle.zl_verify.specs.SizedLaws.{IsSizedBoot, CpusAreSized};
+ghost use Rattle.zl_verify.specs.SizedLaws.{HoldsInRuns, HoldsInHistories};
+ghost use Rattle.zl_verify.specs.WakeLaws.{AreAsDeclared, IsProperStart};
+ghost use Rattle.zl_verify.specs.WakeLaws.{IsBooted, IsRunStep, EndsStep};
 
 /// In a world with sound handles, a process that is as a typing of its image says is never stuck, but
 /// at a call that isn't built yet: there the operands can be read and the memory is there. After a
@@ -70,11 +74,11 @@ pub fn own_call()
         → Calls lib w p s (outcome.Ended code) w2 → IsOwnExit called s code }
 {}
 
-/// In every world of a run from a boot world, and of a legal history from one, what is queued fits who
-/// receives it, where the images are in their ranges and each word with which a process starts has 64
-/// bits: a message has at most 65,536 bytes, each below 256, and at most 64 handles, and the numbers of
-/// a packet have 64 bits. For registers and slot arrays hold numbers of 64 bits, and memories bytes. Own
-/// profile.
+/// In every world of a run from a boot world, and of a legal history from one, what is queued fits
+/// who receives it, where the images are in their ranges and each word with which a process starts
+/// has 64 bits: a message has at most 65,536 bytes, each below 256, and at most 64 handles, and the
+/// numbers of a packet have 64 bits. For registers and slot arrays hold numbers of 64 bits, and
+/// memories bytes. Own profile.
 pub fn runs_keep_queues_sized()
     ensures queues { HoldsInRuns QueuesAreSized }
     ensures cpus { HoldsInRuns CpusAreSized }
@@ -82,13 +86,20 @@ pub fn runs_keep_queues_sized()
 {}
 
 /// A process that is started with handles as its image declares them, and whose job allows what the
-/// image needs, is as a typing of its image says. And in each step of a run from a boot world, a process
-/// that is so right after what the step does is so at its end, once handles that nothing holds are gone,
-/// waits have given their packets and processes are awake: it is as it was, or it waited, and stands
-/// ready at the end of a followed edge. Own profile.
+/// image needs, is as a typing of its image says; a boot starts each of its processes so, where the
+/// handles that it gives to it are as the image declares them. And in each step of a run from a
+/// boot world, a process that is so right after what the step does is so at its end, once handles
+/// that nothing holds are gone, waits have given their packets and processes are awake: it is as it
+/// was, or it waited, and stands ready at the end of a followed edge. Own profile.
 pub fn start_and_wake()
     ensures starts { (i : Image) (t : ℕ → Option State) (w : World) (p : ℕ) (q : Process)
         → IsTrue (is_in_range i) → IsTyping i t → IsProperStart i w p q → Conforms i t w p q }
+    ensures boots { (lib : Library) (statements : List Statement) (boot : World)
+        (p : ℕ) (q : Process)
+        → IsSizedBoot lib statements boot → get boot.processes p ≡ Some q
+        → (s : IsBooted lib q) × ((i : Image) (checked : Bool)
+        → slice_get lib s.program ≡ Some (record { checked = checked; image = i })
+        → AreAsDeclared i.starts s.handles → IsProperStart i boot p q) }
     ensures wakes { (i : Image) (t : ℕ → Option State)
         (lib : Library) (w : World) (p : ℕ) (x : TraceItem) (w2 : World)
         → IsTrue (is_in_range i) → IsTyping i t → (run : IsRunStep lib w p x w2)
@@ -97,9 +108,9 @@ pub fn start_and_wake()
         → EndsStep i t q process w2 }
 {}
 
-/// In each step of a run from a boot world, a process that runs and is as a typing of its image says is
-/// so after the step of another, whatever that does: it is as it was, or it waited, and stands ready at
-/// the end of a followed edge. Own profile.
+/// In each step of a run from a boot world, a process that runs and is as a typing of its image
+/// says is so after the step of another, whatever that does: it is as it was, or it waited, and
+/// stands ready at the end of a followed edge. Own profile.
 pub fn steps_of_others()
     ensures { (i : Image) (t : ℕ → Option State)
         (lib : Library) (w : World) (p : ℕ) (x : TraceItem) (w2 : World)
@@ -108,10 +119,11 @@ pub fn steps_of_others()
         → IsTrue (runs process.state) → Conforms i t w q process → EndsStep i t q process w2 }
 {}
 
-/// In a run from a boot world, from where a process runs and is as a typing of its image says, whatever
-/// it and others do: none of its calls is answered BAD_HANDLE, WRONG_TYPE or ACCESS_DENIED, no call ends
-/// it but its own `process_exit`, so that no policy does, and it is stuck only at a call that isn't
-/// built. In each world that follows it runs, and is as the typing says, or has ended. Own profile.
+/// In a run from a boot world, from where a process runs and is as a typing of its image says,
+/// whatever it and others do: none of its calls is answered BAD_HANDLE, WRONG_TYPE or
+/// ACCESS_DENIED, no call ends it but its own `process_exit`, so that no policy does, and it is
+/// stuck only at a call that isn't built. In each world that follows it runs, and is as the typing
+/// says, or has ended. Own profile.
 pub fn never_refused()
     ensures fine { (i : Image) (t : ℕ → Option State) → IsTrue (is_in_range i) → IsTyping i t
         → (lib : Library) (statements : List Statement) (boot w after : World)
@@ -125,9 +137,9 @@ pub fn never_refused()
         → Runs lib w more after → IsUnderWay lib i t after p ⊎ HasEnded after p }
 {}
 
-/// In a run from a boot world, from where a process runs and is as a typing of its image says that has a
-/// step bound, whatever others do: it takes no more instructions than the budget up to its next wait or
-/// its exit, and no more than the budget behind each wait. Own profile.
+/// In a run from a boot world, from where a process runs and is as a typing of its image says that
+/// has a step bound, whatever others do: it takes no more instructions than the budget up to its
+/// next wait or its exit, and no more than the budget behind each wait. Own profile.
 pub fn budget_kept()
     ensures { (i : Image) (t : ℕ → Option State) (steps : ℕ → Option ℕ)
         → IsTrue (is_in_range i) → IsTyping i t → IsStepBound i t steps

@@ -1,3 +1,4 @@
+use Rattle.zl_verify.proofs.BootStarts.{is_booted, proper}
 use Rattle.zl_verify.proofs.Starting.{starts_conforming}
 use Rattle.zl_verify.proofs.Woken.{ends_step}
 use Rattle.zl_verify.proofs.laws.start_and_wake.Goals as goal
@@ -7,3 +8,6 @@ returns-clause-starts c = λ i t w p q range typing k. starts_conforming i t ran
 
 pub returns-clause-wakes : goal.returns-clause-wakes
 returns-clause-wakes c = λ i t lib w p x w2 range typing run q process there running k. ends_step i t range typing lib w p x w2 run q process there running k
+
+pub returns-clause-boots : goal.returns-clause-boots
+returns-clause-boots c = λ lib statements boot p q b there. (is_booted lib statements boot b p q there, proper lib statements boot b p q (is_booted lib statements boot b p q there))

@@ -1,4 +1,5 @@
 pub mod Rounding
+pub mod Untagging
 pub mod StateSteps
 mod Infer
 mod Rows

@@ -1,4 +1,5 @@
 pub mod Values
+pub mod Tags
 pub mod States
 pub mod Bounds
 pub mod Found

@@ -1,9 +1,11 @@
 ghost use Rattle.std.specs.Prelude.{◌≡◌, ◌≤◌, ◌<◌, Some, None, IfSome, IfNone, not, length, map, replicate};
 ghost use Rattle.std.specs.Bool.{then_some};
+ghost use Rattle.std.specs.List.{list_any};
 ghost use Rattle.std.specs.Result.{result_ok};
 ghost use Rattle.zl_code.specs.Limits.{register_count};
 ghost use Rattle.zl_abs.specs.declared.value.AbsVal.TheVariants as value;
 ghost use Rattle.zl_abs.specs.Values.{untagged, retagged};
+ghost use Rattle.zl_abs.specs.Tags.{names};
 ghost use Rattle.zl_abs.specs.States.{all_below, all_joined, value_at, with_value, with_all, refined, starts_from, start_value, start_state};
 ghost use Rattle.zl_abs.specs.LocalRules.{moved};
 ghost use Rattle.zl_abs.specs.Rule.{word_at};
@@ -102,7 +104,10 @@ impl AbsState {
         ensures { self.new ≡ with_value self.old register value }
     {
         self.refine(register, value);
-        untag(&mut self.registers, register);
+        // Most registers have no tag on them, and then nothing else is written.
+        if is_named(&self.registers, register) {
+            untag(&mut self.registers, register);
+        }
     }
 
     /// The state after the register was written.
@@ -162,6 +167,13 @@ impl AbsState {
             ),
         }
     }
+}
+
+/// Whether a tag names the register.
+fn is_named(values: &[AbsVal], register: Register) -> bool
+    ensures { result ≡ list_any (λ v. names register v) values.now }
+{
+    values.iter().any(|value| value.names(register))
 }
 
 /// No tag names the register any more.

@@ -1,6 +1,7 @@
 ghost use Rattle.std.specs.Prelude.{◌≡◌, ◌==◌};
 ghost use Rattle.zl_rights.specs.Numbers.{same_kind};
 ghost use Rattle.zl_abs.specs.Values.{below, joined, is_has, bound_of, kind_below, kind_joined, untagged, retagged};
+ghost use Rattle.zl_abs.specs.Tags.{names};
 
 use bitflags::Flags;
 use zl_code::Register;
@@ -189,6 +190,17 @@ impl AbsVal {
             AbsVal::Word(most) => Some(most),
             AbsVal::Has { .. } => None,
             _ => Some(u64::MAX),
+        }
+    }
+
+    /// Whether it is a tag that names the register.
+    pub(crate) fn names(self, register: Register) -> bool
+        ensures { result ≡ names register self }
+    {
+        match self {
+            AbsVal::KindOf(tagged) => is_register(tagged, register),
+            AbsVal::RightsOf(tagged) => is_register(tagged, register),
+            _ => false,
         }
     }
 

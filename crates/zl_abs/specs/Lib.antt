@@ -10,6 +10,7 @@ pub mod LocalRules
 pub mod CallRules
 pub mod Operands
 pub mod Typing
+pub mod Targets
 pub mod Successors
 pub mod Changes
 pub mod Laws

@@ -29,7 +29,7 @@ mod ways;
 pub use bounds::Bounds;
 pub use cause::{Cause, Conflict};
 pub use change::Change;
-pub use rules::{Edge, Successors, step_by, transfer, transfer_by};
+pub use rules::{Edge, Successors, jump_target, step_by, transfer, transfer_by};
 pub use state::{AbsState, below, join};
 pub use steps::{Step, Steps};
 pub use value::AbsVal;

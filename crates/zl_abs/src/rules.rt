@@ -1,11 +1,16 @@
 //! The rule of each instruction, with its edges.
 
-ghost use Rattle.std.specs.Prelude.{◌≡◌};
+ghost use Rattle.std.specs.Prelude.{◌≡◌, ◌<◌, length, IsTrue};
+ghost use Rattle.zl_code.specs.Limits.{most_instructions};
+ghost use Rattle.zl_code.specs.Spells.{is_call_in_range};
+ghost use Rattle.zl_abs.specs.CallRules.{call_rule};
+ghost use Rattle.zl_abs.specs.Rule.{and_then, edges};
 ghost use Rattle.zl_abs.specs.Bounds.{bounds_of};
 ghost use Rattle.zl_abs.specs.Found.{bounds_in};
 ghost use Rattle.zl_abs.specs.Successors.{edges_told, edge_in};
 ghost use Rattle.zl_abs.specs.Changes.{step_in, steps_told};
 ghost use Rattle.zl_abs.specs.Typing.{rule, rule_with, target_of};
+ghost use Rattle.zl_abs.specs.Targets.{jump_of};
 
 use crate::bounds::Bounds;
 use crate::call_rules::call_rule;
@@ -14,7 +19,7 @@ use crate::local_rules::local_rule;
 use crate::round_up::Rounding;
 use crate::state::AbsState;
 use crate::steps::{Step, Steps, steps_from};
-use zl_code::{Image, LocalInstr};
+use zl_code::{CallInstr, Image, LocalInstr};
 
 /// An edge: the instruction to which it leads, and what is known there. Own profile.
 #[derive(Clone, Copy)]
@@ -66,6 +71,42 @@ fn target_of(local: &LocalInstr) -> u32
     }
 }
 
+/// The edges that are followed from the call, which is the instruction of this number, or why its
+/// rule doesn't hold. The state becomes what they change, and stays where it doesn't hold.
+fn steps_of_call(
+    bounds: Rounding<'_>,
+    image: &Image,
+    at: usize,
+    call: CallInstr,
+    state: &mut AbsState,
+) -> Result<Steps, Cause>
+    requires in_range { IsTrue (is_call_in_range call) }
+    requires inside { at < most_instructions }
+    ensures { steps_told state.new result
+        ≡ and_then (call_rule (bounds_in bounds.entry) image.now call state.old)
+            (edges (length image.now.code) at 0) }
+{
+    let before = *state;
+    let changes = call_rule(bounds, image, call, &before, state);
+    match steps_from(image, state, at, 0, changes) {
+        Ok(steps) => Ok(steps),
+        Err(cause) => {
+            *state = before;
+            Err(cause)
+        }
+    }
+}
+
+/// Where the instruction of this number may jump, 0 where it doesn't jump. Own profile.
+pub fn jump_target(image: &Image, at: usize) -> usize
+    ensures { result ≡ jump_of image.now at }
+{
+    match image.local_at(at) {
+        Some(local) => target_of(&local) as usize,
+        None => 0,
+    }
+}
+
 /// The edges that are followed from the instruction of this number in this state, or why its rule
 /// doesn't hold there. The state becomes what they change.
 #[tactic(auto, using(crate::proofs::RuleSteps::call_in_range, crate::proofs::RuleSteps::unknown_there, crate::proofs::RuleSteps::nothing_there))]
@@ -85,9 +126,7 @@ fn steps_rounding(
         return steps_from(image, state, at, target, changes);
     }
     if let Some(call) = image.call_at(at) {
-        let before = *state;
-        let changes = call_rule(bounds, image, call, &before, state);
-        return steps_from(image, state, at, 0, changes);
+        return steps_of_call(bounds, image, at, call, state);
     }
     if at < length {
         Err(Cause::IllegalOp)

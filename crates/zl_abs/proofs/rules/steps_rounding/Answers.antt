@@ -10,5 +10,5 @@ returns-in-Some c =
 
 pub returns-in-Some-call_at : goal.returns-in-Some-call_at
 returns-in-Some-call_at c =
-    (rw (c.call_rule-changes.ensures) at c.steps_from-in-Some-call_at.ensures)
+    c.steps_of_call.ensures
     ∙ sym (call_there (bounds_in c.args.bounds) c.args.image.now c.args.at _ c.in-Some-call_at.call c.in-Some-call_at.ensures.value)

@@ -84,7 +84,7 @@ fn steps_of_call(
     requires inside { at < most_instructions }
     ensures { steps_told state.new result
         ≡ and_then (call_rule (bounds_in bounds.entry) image.now call state.old)
-            (edges (length image.now.code) at 0) }
+        (edges (length image.now.code) at 0) }
 {
     let before = *state;
     let changes = call_rule(bounds, image, call, &before, state);

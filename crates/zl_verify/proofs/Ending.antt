@@ -12,15 +12,14 @@ use Rattle.zl_code.specs.Spells.{is_in_range}
 use Rattle.zl_abs.specs.declared.cause.Cause.{Cause}
 use Rattle.zl_abs.specs.States.{State, all_below, all_joined}
 use Rattle.zl_abs.specs.Rule.{Edge}
-use Rattle.zl_abs.specs.Bounds.{bounds_of}
 use Rattle.zl_abs.specs.Fine.{IsFine, AllFine}
-use Rattle.zl_abs.specs.Typing.{rule}
 use Rattle.zl_abs.proofs.FineStates.{fine_joined}
-use Rattle.zl_abs.proofs.FineRules.{rule_fine}
 use Rattle.zl_abs.proofs.Room.{room, TOP, room_top, room_falls}
 use Rattle.zl_verify.specs.Lists.{within, at}
 use Rattle.zl_verify.specs.Numbers.{one_if}
 use Rattle.zl_verify.specs.Search.{Table, put, raised_over, raised, raised_all, cleared}
+use Rattle.zl_verify.specs.Blocks.{Blocks, block, start_of}
+use Rattle.zl_verify.proofs.Leaving.{out_fine}
 use Rattle.zl_verify.proofs.Places.{there, get_put, get_put_other, equal_or_not}
 
 abbrev pub room_in : Option State → ℕ
@@ -124,13 +123,13 @@ drop_one t n w =
 cleared_fine : (t : Table) (n : ℕ) → AreFine t → AreFine (cleared t n)
 cleared_fine t n f = record { each = f.each; same = f.same ∙ sym (length-set t.waiting n false) }
 
-edges_fine : (i : Image) → IsTrue (is_in_range i) → (n : ℕ) (s : State) (es : List Edge) → IsFine s → rule i n s ≡ Ok es → AllFine es
-edges_fine i range n s es f r = subst (λ (x : Result (List Edge) Cause). IfOk x AllFine) r (rule_fine (bounds_of i.code) i n s range f)
+edges_fine : (i : Image) (bs : Blocks) → IsTrue (is_in_range i) → (n : ℕ) (s : State) (es : List Edge) → IsFine s → block i bs n s ≡ Ok es → AllFine es
+edges_fine i bs range n s es f r = subst (λ (x : Result (List Edge) Cause). IfOk x AllFine) r (out_fine i range bs.numbers (length i.code - start_of i bs n) (start_of i bs n) s f)
 
-pub tiring : (i : Image) → IsTrue (is_in_range i) → (t u : Table) (n : ℕ) (s : State) (es : List Edge) → AreFine t → at t.states n ≡ Some s → slice_get t.waiting n ≡ Some true → rule i n s ≡ Ok es → raised_all (cleared t n) es ≡ Some u → Tires t u
+pub tiring : (i : Image) (bs : Blocks) → IsTrue (is_in_range i) → (t u : Table) (n : ℕ) (s : State) (es : List Edge) → AreFine t → at t.states n ≡ Some s → slice_get t.waiting n ≡ Some true → block i bs n s ≡ Ok es → raised_all (cleared t n) es ≡ Some u → Tires t u
 unfolding remaining
-tiring i range t u n s es f e w r k =
-    let a = subst (EasesOr (cleared t n)) k (easing_all (cleared t n) es (cleared_fine t n f) (edges_fine i range n s es (f.each n s e) r)) in
+tiring i bs range t u n s es f e w r k =
+    let a = subst (EasesOr (cleared t n)) k (easing_all (cleared t n) es (cleared_fine t n f) (edges_fine i bs range n s es (f.each n s e) r)) in
     let d = drop_one t n w in
     record { fine = a.fine; less = smaller (energy u) (energy t) (length u.states) (length t.states) u.from t.from a.long (omega (arith, a.no_more)); long = a.long }
 

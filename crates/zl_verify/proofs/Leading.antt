@@ -1,6 +1,7 @@
 -- Where the instructions of a typing lead, from the edges that the code hands out.
-use Rattle.std.proofs.Common.{◌≡◌, ℕ, ◌<◌, Bool, true, false, List, [], ◌∷◌, ◌++◌, map, length, Option, Some, None, refl, sym, subst}
-use Rattle.std.specs.Prelude.{Result, Ok, Err, if◌then◌else◌}
+use Rattle.std.proofs.Common.{◌≡◌, ◌≢◌, ℕ, suc, ◌+◌, ◌<◌, ◌≤◌, Bool, true, false, List, [], ◌∷◌, ◌++◌, map, length, Option, Some, None, refl, sym, ap, ◌∙◌, subst, ◌⊎◌, inl, inr, arith}
+use Rattle.std.specs.Prelude.{Result, Ok, Err, if◌then◌else◌, slice_get, slice_set}
+use Rattle.std.proofs.Math.ListN.{length-set}
 use Rattle.std.specs.Option.{option_to_list}
 use Rattle.zl_code.specs.Image.{Image, call_at}
 use Rattle.zl_abs.specs.declared.cause.Cause.{Cause}
@@ -10,12 +11,14 @@ use Rattle.zl_abs.specs.Rule.{Edge as Lead}
 use Rattle.zl_abs.specs.Changes.{step_in}
 use Rattle.zl_abs.specs.States.{State}
 use Rattle.zl_abs.specs.Typing.{rule, IsAbove, AllLead, Holds, IsTyping}
-use Rattle.zl_verify.specs.Lists.{at}
+use Rattle.zl_verify.specs.Lists.{within, at}
 use Rattle.zl_verify.specs.Steps.{is_pause, targets_of, leads_by, leads}
-use Rattle.zl_verify.specs.Numbers.{places_at, AllInside, IsClosed}
-use Rattle.zl_verify.specs.Leading.{target_in, AreTargets}
+use Rattle.zl_verify.specs.Numbers.{places, places_by, places_at, AllInside, IsClosed}
+use Rattle.zl_verify.specs.Leading.{flow_in, target_in, unless_pause, AreTargets}
+use Rattle.zl_verify.specs.Blocks.{inner, inner_of, known_by, flows, passed_on, known, states_of}
 use Rattle.zl_verify.specs.declared.steps.Targets.{Targets}
-use Rattle.zl_verify.proofs.Places.{mapped}
+use Rattle.zl_verify.proofs.Places.{get_put, get_put_other, get_past, equal_or_not, below_or_not, mapped}
+use Rattle.zl_verify.proofs.Filling.{length_listed, at_listed}
 
 -- ---- one instruction
 
@@ -25,22 +28,74 @@ ends t None (Some y) = refl
 ends t (Some x) None = refl
 ends t (Some x) (Some y) = refl
 
-pub leads_told : (i : Image) (n : ℕ) (s t : State) (x : Steps) → is_pause (call_at i n) ≡ false → Ok (step_in t x.jump ++ step_in t x.next) ≡ rule i n s
-    → option_to_list (target_in x.jump) ++ option_to_list (target_in x.next) ≡ leads_by i n (Some s)
-leads_told i n s t x p h = rw (p, ← h) (ends t x.jump x.next)
+by_pause : (b : Bool) (ns : List ℕ) → unless_pause b ns ≡ (if b then [] else ns)
+by_pause true ns = refl
+by_pause false ns = refl
 
-pub leads_nowhere : (i : Image) (n : ℕ) (s : State) (c : Cause) → is_pause (call_at i n) ≡ false → Err c ≡ rule i n s → [] ≡ leads_by i n (Some s)
-leads_nowhere i n s c p h = rw (p, ← h) refl
+pub leads_told : (i : Image) (n : ℕ) (s t : State) (x : Steps) → Ok (step_in t x.jump ++ step_in t x.next) ≡ rule i n s
+    → unless_pause (is_pause (call_at i n)) (option_to_list (target_in x.jump) ++ option_to_list (target_in x.next)) ≡ leads_by i n (Some s)
+leads_told i n s t x h = rw (← h) (rw (ends t x.jump x.next) (by_pause (is_pause (call_at i n)) (map (λ e. e.0) (step_in t x.jump ++ step_in t x.next))))
 
-pub pauses : (i : Image) (n : ℕ) (s : State) → is_pause (call_at i n) ≡ true → [] ≡ leads_by i n (Some s)
-pauses i n s p = rw p refl
+pub leads_nowhere : (i : Image) (n : ℕ) (s : State) (c : Cause) → Err c ≡ rule i n s → [] ≡ leads_by i n (Some s)
+leads_nowhere i n s c h = rw (← h) (by (is_pause (call_at i n)))
+  where
+    by : (b : Bool) → ◌≡◌ {A = List ℕ} [] (if b then [] else [])
+    by true = refl
+    by false = refl
+
+pub inner_told : (numbers : List (Option ℕ)) (o : Option State) (t : State) (x : Steps) (r : Result (List Lead) Cause) → Ok (step_in t x.jump ++ step_in t x.next) ≡ r
+    → o ≡ inner numbers (step_in t x.jump ++ step_in t x.next) → o ≡ inner_of numbers r
+inner_told numbers o t x r h k = k ∙ ap (inner_of numbers) h
+
+pub inner_none : (numbers : List (Option ℕ)) (c : Cause) (r : Result (List Lead) Cause) → Err c ≡ r → None ≡ inner_of numbers r
+inner_none numbers c r h = ap (inner_of numbers) h
 
 -- ---- one instruction after another
 
--- what holds before this instruction is looked at
-pub record Leading (i : Image) (states : List (Option State)) (targets : List Targets) (p : ℕ) : Type 0 where
-  pub long : length targets ≡ length states
-  pub same : (n : ℕ) → n < p → places_at targets n ≡ leads i (at states) n
+-- what holds before this instruction is looked at, where the state that flows to it is this, if it is there
+pub record Flowing (i : Image) (numbers : List (Option ℕ)) (kept : List (Option State)) (targets : List Targets) (there : Bool) (s : State) (p : ℕ) : Type 0 where
+  pub long : length targets ≡ length i.code
+  pub same : (n : ℕ) → n < p → places_at targets n ≡ leads_by i n (known i numbers kept n)
+  pub flow : flow_in there s ≡ flows i numbers kept p
+
+pub flow_begins : (i : Image) (numbers : List (Option ℕ)) (kept : List (Option State)) (targets : List Targets) (s : State) → length targets ≡ length i.code → Flowing i numbers kept targets false s 0
+unfolding flows
+flow_begins i numbers kept targets s h = record { long = h; same = λ n k. absurd (omega arith); flow = refl }
+
+pub flow_more : (i : Image) (numbers : List (Option ℕ)) (kept : List (Option State)) (targets : List Targets) (b : Bool) (s : State) (p : ℕ) → Flowing i numbers kept targets b s p → p < length i.code
+    → (b2 : Bool) (s2 : State) → flow_in b2 s2 ≡ known_by kept (flow_in b s) (at numbers p) → (x : Targets) → places x ≡ leads_by i p (flow_in b2 s2)
+    → (b3 : Bool) (s3 : State) → flow_in b3 s3 ≡ passed_on i numbers p (flow_in b2 s2) → Flowing i numbers kept (slice_set targets p x) b3 s3 (p + 1)
+unfolding flows
+flow_more i numbers kept targets b s p a inside b2 s2 known_is x places_are b3 s3 passed_is = record {
+  long = length-set targets p x ∙ a.long;
+  same = λ n h. same n h (equal_or_not p n);
+  flow = passed_is ∙ (ap (passed_on i numbers p) there ∙ behind);
+}
+  where
+    there : flow_in b2 s2 ≡ known i numbers kept p
+    there = known_is ∙ ap (λ o. known_by kept o (at numbers p)) a.flow
+
+    behind : passed_on i numbers p (known i numbers kept p) ≡ flows i numbers kept (p + 1)
+    behind = let e : p + 1 ≡ suc p = omega arith in subst (λ (m : ℕ). passed_on i numbers p (known i numbers kept p) ≡ flows i numbers kept m) (sym e) refl
+
+    same : (n : ℕ) → n < p + 1 → (p ≡ n) ⊎ (p ≢ n) → places_at (slice_set targets p x) n ≡ leads_by i n (known i numbers kept n)
+    same n h (inl e) = subst (λ (m : ℕ). places_at (slice_set targets p x) m ≡ leads_by i m (known i numbers kept m)) e
+        (ap places_by (get_put targets p x (omega (arith, a.long))) ∙ (places_are ∙ ap (leads_by i p) there))
+    same n h (inr d) = ap places_by (get_put_other targets p n x d) ∙ a.same n (omega arith)
+
+pub flow_ends : (i : Image) (numbers : List (Option ℕ)) (kept : List (Option State)) (targets : List Targets) (b : Bool) (s : State) (p : ℕ) → Flowing i numbers kept targets b s p → length i.code ≤ p
+    → AreTargets i (states_of i numbers kept) targets
+flow_ends i numbers kept targets b s p a past = record {
+  long = a.long ∙ sym (length_listed (length i.code) (known i numbers kept));
+  same = λ n. same n (below_or_not n (length i.code));
+}
+  where
+    same : (n : ℕ) → (n < length i.code) ⊎ (length i.code ≤ n) → places_at targets n ≡ leads i (at (states_of i numbers kept)) n
+    same n (inl h) = a.same n (omega arith) ∙ ap (leads_by i n) (sym (at_listed (length i.code) (known i numbers kept) n h))
+    same n (inr h) =
+        let e : slice_get targets n ≡ None = get_past targets n (omega (arith, a.long)) in
+        let f : at (states_of i numbers kept) n ≡ None = ap within (get_past (states_of i numbers kept) n (omega (arith, length_listed (length i.code) (known i numbers kept)))) in
+        ap places_by e ∙ ap (leads_by i n) (sym f)
 
 -- ---- a typing's instructions lead to such that have a state
 

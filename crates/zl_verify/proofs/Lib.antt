@@ -2,6 +2,11 @@ pub mod Places
 pub mod Numbering
 pub mod Rising
 pub mod Searching
+pub mod Lowers
+pub mod Parting
+pub mod Leaving
+pub mod Filling
+pub mod Marking
 pub mod Ending
 pub mod Turning
 pub mod Leading

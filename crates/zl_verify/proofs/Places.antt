@@ -32,6 +32,11 @@ nowhere [] n e h = omega arith
 nowhere (x ∷ xs) zero e h = cc
 nowhere (x ∷ xs) (suc n) e h = nowhere xs n e (omega arith)
 
+pub get_past : {X : Type 0} (xs : List X) (n : ℕ) → length xs ≤ n → slice_get xs n ≡ None
+get_past [] n h = refl
+get_past (x ∷ xs) zero h = absurd (omega arith)
+get_past (x ∷ xs) (suc n) h = get_past xs n (omega arith)
+
 pub off : (xs : List Bool) (n : ℕ) → slice_get (slice_set xs n false) n ≡ Some true → ⊥
 off [] n e = cc
 off (x ∷ xs) zero e = cc

@@ -1,5 +1,5 @@
 -- What states that come to instructions make of the table of the search.
-use Rattle.std.proofs.Common.{◌≡◌, ◌≢◌, ℕ, ◌<◌, Bool, true, false, List, [], ◌∷◌, ◌++◌, Option, Some, None, refl, sym, ap, ◌∙◌, subst, IsTrue, length, ◌⊎◌, inl, inr, arith}
+use Rattle.std.proofs.Common.{◌≡◌, ◌≢◌, ℕ, ◌<◌, Bool, true, false, List, [], ◌∷◌, Option, Some, None, refl, sym, ap, ◌∙◌, subst, IsTrue, length, ◌⊎◌, inl, inr, arith}
 use Rattle.std.specs.Prelude.{slice_get, slice_set, if◌then◌else◌, Result, Ok, Err}
 use Rattle.std.specs.Option.{option_map, option_and_then}
 use Rattle.std.proofs.lemmas.Option.{same_Some}
@@ -169,7 +169,7 @@ raising t n s q = found (slice_get t.states n) refl
 
 -- ---- the states of all edges
 
--- a typing's states stand within the code
+-- states stand at so many places
 abbrev pub Inside : (ℕ → Option State) → ℕ → Type 0
 Inside y length = (n : ℕ) (s : State) → IsAbove (y n) s → n < length
 
@@ -198,21 +198,3 @@ raising_all t (e ∷ es) q = one (λ u k. raising_all u es k) (raised t (e.0) (e
     one : ((u : Table) → length u.states ≡ length u.waiting → AllRaiseOr u es (raised_all u es)) → (o : Option Table) → RaisesOr t (e.0) (e.1) o → AllRaiseOr t (e ∷ es) (option_and_then (λ u. raised_all u es) o)
     one more None h = λ y l a i. h y l (a.0) (i (e.0) (e.1) (a.0))
     one more (Some u) h = both u h (raised_all u es) (more u (h.rises.same ∙ (q ∙ sym h.rises.long)))
-
--- ---- edges one list after another
-
-raised_append : (t : Table) (es fs : List Edge) → raised_all t (es ++ fs) ≡ option_and_then (λ u. raised_all u fs) (raised_all t es)
-unfolding raised_all
-raised_append t [] fs = refl
-raised_append t (e ∷ es) fs = by (λ u. raised_append u es fs) (raised t (e.0) (e.1))
-  where
-    by : ((u : Table) → raised_all u (es ++ fs) ≡ option_and_then (λ v. raised_all v fs) (raised_all u es)) → (o : Option Table)
-        → option_and_then (λ u. raised_all u (es ++ fs)) o ≡ option_and_then (λ u. raised_all u fs) (option_and_then (λ u. raised_all u es) o)
-    by more None = refl
-    by more (Some u) = more u
-
-pub first_fails : (t : Table) (es fs : List Edge) → None ≡ raised_all t es → None ≡ raised_all t (es ++ fs)
-first_fails t es fs h = rw (raised_append t es fs, ← h) refl
-
-pub both_rise : (t u : Table) (o : Option Table) (es fs : List Edge) → Some u ≡ raised_all t es → o ≡ raised_all u fs → o ≡ raised_all t (es ++ fs)
-both_rise t u o es fs h k = rw (raised_append t es fs, ← h) k

@@ -1,90 +1,50 @@
--- The search for the least typing: what holds at each turn of it.
-use Rattle.std.proofs.Common.{◌≡◌, ◌≢◌, ℕ, ◌+◌, ◌<◌, ◌≤◌, Bool, true, false, List, [], ◌∷◌, Option, Some, None, refl, sym, ◌∙◌, subst, length, ◌⊎◌, inl, inr, arith}
+-- The search for the least typing, block by block: what holds at each turn of it.
+use Rattle.std.proofs.Common.{◌≡◌, ◌≢◌, ℕ, ◌+◌, ◌<◌, ◌≤◌, Bool, true, false, List, Option, Some, None, refl, sym, ◌∙◌, subst, length, ◌⊎◌, inl, inr, arith}
 use Rattle.std.specs.Prelude.{slice_get, slice_set, Result, Ok, Err}
 use Rattle.std.proofs.lemmas.Option.{same_Some}
 use Rattle.std.proofs.Math.ListN.{length-set}
 use Rattle.zl_code.specs.Image.{Image}
 use Rattle.zl_abs.specs.declared.cause.Cause.{Cause}
-use Rattle.zl_abs.specs.declared.cause.Cause.TheVariants as cause
 use Rattle.zl_abs.specs.States.{State, start_state}
 use Rattle.zl_abs.specs.Rule.{Edge}
-use Rattle.zl_abs.specs.Bounds.{bounds_of}
-use Rattle.zl_abs.specs.Laws.{IsAmong, AreAmong, RuleBelow}
-use Rattle.zl_abs.specs.Typing.{rule, IsAbove, AllLead, Holds, IsTyping}
-use Rattle.zl_abs.proofs.RuleLowering.{rule_below}
-use Rattle.zl_abs.proofs.RuleSteps.{nothing_there}
+use Rattle.zl_abs.specs.Typing.{IsAbove, Holds, IsTyping}
 use Rattle.zl_verify.specs.Lists.{at}
 use Rattle.zl_verify.specs.Search.{Table, raised_all, cleared}
-use Rattle.zl_verify.proofs.Places.{get_put, get_put_other, off, nowhere, equal_or_not, below_or_not, mapped}
-use Rattle.zl_verify.proofs.Rising.{Quiet, Lower, Inside, AllRaise, AllRaiseOr, above_trans, leads_still, typed_still, raising_all}
+use Rattle.zl_verify.specs.Blocks.{Blocks, AreBlocks, block}
+use Rattle.zl_verify.proofs.Places.{get_put, get_put_other, off, nowhere, equal_or_not, mapped}
+use Rattle.zl_verify.proofs.Rising.{Quiet, Lower, AllRaise, AllRaiseOr, leads_still, typed_still, raising_all}
+use Rattle.zl_verify.proofs.Leaving.{at_starts, leads_out, at_block}
 
 none_some : {X : Type 0} (x : X) → None ≡ Some x → ⊥
 none_some x e = cc
 
--- ---- a typing at a state below its own
-
-lead_among : (t : ℕ → Option State) (e : Edge) (fs : List Edge) → IsAmong fs e → AllLead t fs → IsAbove (t (e.0)) (e.1)
-lead_among t e [] h k = absurd h
-lead_among t e (f ∷ fs) h k = elim h [
-  | inl p ↦ above_trans (t (e.0)) (e.1) (f.1) (p.1) (subst (λ (n : ℕ). IsAbove (t n) (f.1)) (sym (p.0)) (k.0))
-  | inr q ↦ lead_among t e fs q (k.1)
-]
-
-all_lead_among : (t : ℕ → Option State) (es fs : List Edge) → AreAmong fs es → AllLead t fs → AllLead t es
-all_lead_among t [] fs h k = tt
-all_lead_among t (e ∷ es) fs h k = (lead_among t e fs (h.0) k, all_lead_among t es fs (h.1) k)
-
-typed_below : (t : ℕ → Option State) (r q : Result (List Edge) Cause) → RuleBelow r q → Holds t q → Holds t r
-typed_below t r (Err c) h k = absurd k
-typed_below t (Err c) (Ok fs) h k = absurd h
-typed_below t (Ok es) (Ok fs) h k = all_lead_among t es fs h k
-
--- the rule holds at each state below a typing's, and leads to its states
-pub typed_at : (i : Image) (t : ℕ → Option State) → IsTyping i t → (n : ℕ) (s : State) → IsAbove (t n) s → Holds t (rule i n s)
-typed_at i t y n s h = by (t n) refl h
-  where
-    by : (o : Option State) → t n ≡ o → IsAbove o s → Holds t (rule i n s)
-    by None e k = absurd k
-    by (Some u) e k = typed_below t (rule i n s) (rule i n u) (rule_below (bounds_of i.code) i n s u k) (y.holds n u e)
-
 -- ---- the search
 
-pub record Searching (i : Image) (t : Table) : Type 0 where
+pub record Searching (i : Image) (bs : Blocks) (t : Table) : Type 0 where
   pub same : length t.states ≡ length t.waiting
   pub begins : IsAbove (at t.states 0) (start_state i)
-  pub settled : (n : ℕ) (s : State) → at t.states n ≡ Some s → slice_get t.waiting n ≡ Some false → Holds (at t.states) (rule i n s)
-  pub lower : (y : ℕ → Option State) → IsTyping i y → Lower y t
+  pub settled : (n : ℕ) (s : State) → at t.states n ≡ Some s → slice_get t.waiting n ≡ Some false → Holds (at t.states) (block i bs n s)
+  pub lower : (y : ℕ → Option State) → IsTyping i y → Lower (at_starts i bs y) t
   pub quiet : Quiet t
 
--- the rule holds at no place outside the code
-pub outside : (i : Image) (n : ℕ) (s : State) → length i.code ≤ n → rule i n s ≡ Err cause.FallsOff
-outside i n s h = sym (nothing_there (bounds_of i.code) i n s h)
-
-inside : (i : Image) (y : ℕ → Option State) → IsTyping i y → Inside y (length i.code)
-inside i y h n s a = by (below_or_not n (length i.code))
-  where
-    by : (n < length i.code) ⊎ (length i.code ≤ n) → n < length i.code
-    by (inl b) = b
-    by (inr b) = absurd (subst (λ (r : Result (List Edge) Cause). Holds y r) (outside i n s b) (typed_at i y h n s a))
-
 -- no rule at a state that was found: no typing
-pub none_by_rule : (i : Image) (t : Table) → Searching i t → (n : ℕ) (s : State) → at t.states n ≡ Some s → (c : Cause) → rule i n s ≡ Err c → (y : ℕ → Option State) → IsTyping i y → ⊥
-none_by_rule i t h n s e c r y k = subst (λ (x : Result (List Edge) Cause). Holds y x) r (typed_at i y k n s (h.lower y k n s e))
+pub none_by_rule : (i : Image) (bs : Blocks) → AreBlocks i bs → (t : Table) → Searching i bs t → (n : ℕ) (s : State) → at t.states n ≡ Some s → (c : Cause) → block i bs n s ≡ Err c → (y : ℕ → Option State) → IsTyping i y → ⊥
+none_by_rule i bs a t h n s e c r y k = subst (λ (x : Result (List Edge) Cause). Holds (at_starts i bs y) x) r (leads_out i bs a y k n s (h.lower y k n s e))
 
 -- an edge that can't be followed: no typing
-pub none_by_edge : (i : Image) (t : Table) → Searching i t → length t.states ≡ length i.code → (n : ℕ) (s : State) (es : List Edge) → at t.states n ≡ Some s → rule i n s ≡ Ok es → raised_all (cleared t n) es ≡ None → (y : ℕ → Option State) → IsTyping i y → ⊥
-none_by_edge i t h l n s es e r f y k =
-    subst (λ (o : Option Table). AllRaiseOr (cleared t n) es o) f (raising_all (cleared t n) es (h.same ∙ sym (length-set t.waiting n false))) y (h.lower y k)
-    (subst (λ (x : Result (List Edge) Cause). Holds y x) r (typed_at i y k n s (h.lower y k n s e))) (λ m x a. let b = inside i y k m x a in omega arith)
+pub none_by_edge : (i : Image) (bs : Blocks) → AreBlocks i bs → (t : Table) → Searching i bs t → length t.states ≡ length bs.starts → (n : ℕ) (s : State) (es : List Edge) → at t.states n ≡ Some s → block i bs n s ≡ Ok es → raised_all (cleared t n) es ≡ None → (y : ℕ → Option State) → IsTyping i y → ⊥
+none_by_edge i bs a t h l n s es e r f y k =
+    subst (λ (o : Option Table). AllRaiseOr (cleared t n) es o) f (raising_all (cleared t n) es (h.same ∙ sym (length-set t.waiting n false))) (at_starts i bs y) (h.lower y k)
+    (subst (λ (x : Result (List Edge) Cause). Holds (at_starts i bs y) x) r (leads_out i bs a y k n s (h.lower y k n s e))) (λ m x g. let b = at_block i bs a y k m x g in omega arith)
 
 -- one turn
-pub turned_on : (i : Image) (t u : Table) → Searching i t → (n : ℕ) (s : State) (es : List Edge) → at t.states n ≡ Some s → rule i n s ≡ Ok es → raised_all (cleared t n) es ≡ Some u → Searching i u
-turned_on i t u h n s es e r f = record {
+pub turned_on : (i : Image) (bs : Blocks) → AreBlocks i bs → (t u : Table) → Searching i bs t → (n : ℕ) (s : State) (es : List Edge) → at t.states n ≡ Some s → block i bs n s ≡ Ok es → raised_all (cleared t n) es ≡ Some u → Searching i bs u
+turned_on i bs a t u h n s es e r f = record {
   same = all.rises.same ∙ (q ∙ sym all.rises.long);
   begins = leads_still t0 u all.rises 0 (start_state i) h.begins;
   settled = λ m x g w. settled m x g w (all.rises.kept m);
-  lower = λ y k. all.lower y (h.lower y k) (subst (λ (x : Result (List Edge) Cause). Holds y x) r (typed_at i y k n s (h.lower y k n s e)));
-  quiet = all.rises.quiet (λ m a g. quiet m a g (equal_or_not n m));
+  lower = λ y k. all.lower (at_starts i bs y) (h.lower y k) (subst (λ (x : Result (List Edge) Cause). Holds (at_starts i bs y) x) r (leads_out i bs a y k n s (h.lower y k n s e)));
+  quiet = all.rises.quiet (λ m l g. quiet m l g (equal_or_not n m));
 }
   where
     t0 : Table
@@ -100,47 +60,47 @@ turned_on i t u h n s es e r f = record {
     here = get_put t.waiting n false (let b = mapped t.states n s e in omega (arith, h.same))
 
     quiet : (m : ℕ) → m < t.from → slice_get (slice_set t.waiting n false) m ≡ Some true → (n ≡ m) ⊎ (n ≢ m) → ⊥
-    quiet m a g (inl p) = off t.waiting n (subst (λ (x : ℕ). slice_get (slice_set t.waiting n false) x ≡ Some true) (sym p) g)
-    quiet m a g (inr d) = h.quiet m a (sym (get_put_other t.waiting n m false d) ∙ g)
+    quiet m l g (inl p) = off t.waiting n (subst (λ (x : ℕ). slice_get (slice_set t.waiting n false) x ≡ Some true) (sym p) g)
+    quiet m l g (inr d) = h.quiet m l (sym (get_put_other t.waiting n m false d) ∙ g)
 
-    settled : (m : ℕ) (x : State) → at u.states m ≡ Some x → slice_get u.waiting m ≡ Some false → ((at u.states m ≡ at t.states m) × (slice_get u.waiting m ≡ slice_get (slice_set t.waiting n false) m)) ⊎ (slice_get u.waiting m ≡ Some true) → Holds (at u.states) (rule i m x)
+    settled : (m : ℕ) (x : State) → at u.states m ≡ Some x → slice_get u.waiting m ≡ Some false → ((at u.states m ≡ at t.states m) × (slice_get u.waiting m ≡ slice_get (slice_set t.waiting n false) m)) ⊎ (slice_get u.waiting m ≡ Some true) → Holds (at u.states) (block i bs m x)
     settled m x g w (inr p) = let z : Some false ≡ Some true = sym w ∙ p in absurd (cc)
     settled m x g w (inl p) = by (equal_or_not n m)
       where
-        by : (n ≡ m) ⊎ (n ≢ m) → Holds (at u.states) (rule i m x)
+        by : (n ≡ m) ⊎ (n ≢ m) → Holds (at u.states) (block i bs m x)
         by (inl k) =
-            let a : at t.states n ≡ Some x = rw k (sym (p.0) ∙ g) in
-            let b : s ≡ x = same_Some s x (sym e ∙ a) in
-            let c : rule i m x ≡ Ok es = rw (← k, ← b) r in
+            let z : at t.states n ≡ Some x = rw k (sym (p.0) ∙ g) in
+            let b : s ≡ x = same_Some s x (sym e ∙ z) in
+            let c : block i bs m x ≡ Ok es = rw (← k, ← b) r in
             rw c all.leads
-        by (inr d) = typed_still t0 u all.rises (rule i m x) (h.settled m x (sym (p.0) ∙ g) (sym (get_put_other t.waiting n m false d) ∙ (sym (p.1) ∙ w)))
+        by (inr d) = typed_still t0 u all.rises (block i bs m x) (h.settled m x (sym (p.0) ∙ g) (sym (get_put_other t.waiting n m false d) ∙ (sym (p.1) ∙ w)))
 
 -- an instruction that waits and has no state is looked at for nothing
-pub cleared_on : (i : Image) (t : Table) → Searching i t → (n : ℕ) → at t.states n ≡ None → Searching i (cleared t n)
-cleared_on i t h n e = record {
+pub cleared_on : (i : Image) (bs : Blocks) → AreBlocks i bs → (t : Table) → Searching i bs t → (n : ℕ) → at t.states n ≡ None → Searching i bs (cleared t n)
+cleared_on i bs a t h n e = record {
   same = h.same ∙ sym (length-set t.waiting n false);
   begins = h.begins;
   settled = λ m x g w. settled m x g w (equal_or_not n m);
   lower = h.lower;
-  quiet = λ m a g. quiet m a g (equal_or_not n m);
+  quiet = λ m l g. quiet m l g (equal_or_not n m);
 }
   where
-    settled : (m : ℕ) (x : State) → at t.states m ≡ Some x → slice_get (slice_set t.waiting n false) m ≡ Some false → (n ≡ m) ⊎ (n ≢ m) → Holds (at t.states) (rule i m x)
+    settled : (m : ℕ) (x : State) → at t.states m ≡ Some x → slice_get (slice_set t.waiting n false) m ≡ Some false → (n ≡ m) ⊎ (n ≢ m) → Holds (at t.states) (block i bs m x)
     settled m x g w (inl p) = absurd (none_some x (sym e ∙ rw p g))
     settled m x g w (inr d) = h.settled m x g (sym (get_put_other t.waiting n m false d) ∙ w)
 
     quiet : (m : ℕ) → m < t.from → slice_get (slice_set t.waiting n false) m ≡ Some true → (n ≡ m) ⊎ (n ≢ m) → ⊥
-    quiet m a g (inl p) = off t.waiting n (subst (λ (x : ℕ). slice_get (slice_set t.waiting n false) x ≡ Some true) (sym p) g)
-    quiet m a g (inr d) = h.quiet m a (sym (get_put_other t.waiting n m false d) ∙ g)
+    quiet m l g (inl p) = off t.waiting n (subst (λ (x : ℕ). slice_get (slice_set t.waiting n false) x ≡ Some true) (sym p) g)
+    quiet m l g (inr d) = h.quiet m l (sym (get_put_other t.waiting n m false d) ∙ g)
 
 -- one instruction on
-pub moved_on : (i : Image) (t : Table) → Searching i t → slice_get t.waiting t.from ≡ Some false → Searching i (record t { from = t.from + 1 })
-moved_on i t h e = record {
+pub moved_on : (i : Image) (bs : Blocks) → AreBlocks i bs → (t : Table) → Searching i bs t → slice_get t.waiting t.from ≡ Some false → Searching i bs (record t { from = t.from + 1 })
+moved_on i bs a t h e = record {
   same = h.same;
   begins = h.begins;
   settled = h.settled;
   lower = h.lower;
-  quiet = λ m a g. by m g (equal_or_not t.from m) a;
+  quiet = λ m l g. by m g (equal_or_not t.from m) l;
 }
   where
     by : (m : ℕ) → slice_get t.waiting m ≡ Some true → (t.from ≡ m) ⊎ (t.from ≢ m) → m < t.from + 1 → ⊥
@@ -148,8 +108,8 @@ moved_on i t h e = record {
     by m g (inr d) a = h.quiet m (omega arith) g
 
 -- at the end each state is settled
-pub all_settled : (i : Image) (t : Table) → Searching i t → length t.states ≤ t.from → (n : ℕ) (s : State) → at t.states n ≡ Some s → Holds (at t.states) (rule i n s)
-all_settled i t h k n s e = h.settled n s e (let b = mapped t.states n s e in not_waiting (slice_get t.waiting n) refl (omega arith) (omega (arith, h.same)))
+pub all_settled : (i : Image) (bs : Blocks) → AreBlocks i bs → (t : Table) → Searching i bs t → length t.states ≤ t.from → (n : ℕ) (s : State) → at t.states n ≡ Some s → Holds (at t.states) (block i bs n s)
+all_settled i bs a t h k n s e = h.settled n s e (let b = mapped t.states n s e in not_waiting (slice_get t.waiting n) refl (omega arith) (omega (arith, h.same)))
   where
     not_waiting : (o : Option Bool) → slice_get t.waiting n ≡ o → n < t.from → n < length t.waiting → slice_get t.waiting n ≡ Some false
     not_waiting None e a b = absurd (nowhere t.waiting n e b)

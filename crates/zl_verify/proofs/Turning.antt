@@ -9,64 +9,70 @@ use Rattle.zl_abs.specs.declared.cause.Cause.{Cause}
 use Rattle.zl_abs.specs.States.{State, start_state}
 use Rattle.zl_abs.specs.Rule.{Edge}
 use Rattle.zl_abs.specs.Fine.{IsFine}
-use Rattle.zl_abs.specs.Typing.{rule, IsAbove, Holds, IsTyping}
+use Rattle.zl_abs.specs.Typing.{IsAbove, Holds, IsTyping}
 use Rattle.zl_abs.proofs.StateOrder.{all_below_refl}
 use Rattle.zl_abs.proofs.FineStates.{start_fine}
 use Rattle.zl_verify.specs.Lists.{within, at}
-use Rattle.zl_verify.specs.Search.{Table, raised_all, turned_over, turned_at, turned, cleared, started}
+use Rattle.zl_verify.specs.Search.{Table, raised_all, turned_over, cleared, started}
+use Rattle.zl_verify.specs.Blocks.{Blocks, AreBlocks, block, states_of, turned_at, turned}
 use Rattle.zl_verify.specs.declared.refusal.RefusalCause.{RefusalCause}
 use Rattle.zl_verify.specs.declared.refusal.RefusalCause.TheVariants as why
 use Rattle.zl_verify.specs.Checks.{IsLeastTyping, HasNoTyping, IsRefused, is_of_rules}
-use Rattle.zl_verify.proofs.Places.{get_put, get_put_other, equal_or_not}
-use Rattle.zl_verify.proofs.Searching.{Searching, outside, turned_on, cleared_on, moved_on, all_settled, none_by_rule, none_by_edge}
+use Rattle.zl_verify.proofs.Places.{get_put, get_put_other, equal_or_not, there}
+use Rattle.zl_verify.proofs.Searching.{Searching, turned_on, cleared_on, moved_on, all_settled, none_by_rule, none_by_edge}
+use Rattle.zl_verify.proofs.Lowers.{outside}
+use Rattle.zl_verify.proofs.Leaving.{at_starts, begins_at}
+use Rattle.zl_verify.proofs.Filling.{least_typing}
 use Rattle.zl_verify.proofs.Ending.{AreFine, remaining, tiring, clearing, moving}
 
 -- what holds at each turn
-pub record Goes (i : Image) (t : Table) : Type 0 where
-  pub searching : Searching i t
+pub record Goes (i : Image) (bs : Blocks) (t : Table) : Type 0 where
+  pub blocks : AreBlocks i bs
+  pub searching : Searching i bs t
   pub fine : AreFine t
-  pub long : length t.states ≡ length i.code
+  pub long : length t.states ≡ length bs.starts
   pub range : IsTrue (is_in_range i)
 
-pub record GoesOn (i : Image) (t u : Table) : Type 0 where
-  pub goes : Goes i u
+pub record GoesOn (i : Image) (bs : Blocks) (t u : Table) : Type 0 where
+  pub goes : Goes i bs u
   pub less : remaining u < remaining t
 
 -- ---- the turn
 
-abbrev TurnOr : Image → Table → Option Table → Type 0
-TurnOr i t None = HasNoTyping i
-TurnOr i t (Some u) = GoesOn i t u
+abbrev TurnOr : Image → Blocks → Table → Option Table → Type 0
+TurnOr i bs t None = HasNoTyping i
+TurnOr i bs t (Some u) = GoesOn i bs t u
 
-turns : (i : Image) (t : Table) → Goes i t → (n : ℕ) → slice_get t.waiting n ≡ Some true → TurnOr i t (turned i t n)
-turns i t g n w = at_state (at t.states n) refl
+turns : (i : Image) (bs : Blocks) (t : Table) → Goes i bs t → (n : ℕ) → slice_get t.waiting n ≡ Some true → TurnOr i bs t (turned i bs t n)
+turns i bs t g n w = at_state (at t.states n) refl
   where
-    edges : (s : State) (es : List Edge) → at t.states n ≡ Some s → rule i n s ≡ Ok es → (o : Option Table) → raised_all (cleared t n) es ≡ o → TurnOr i t o
-    edges s es e r None k = record { none = none_by_edge i t g.searching g.long n s es e r k }
+    edges : (s : State) (es : List Edge) → at t.states n ≡ Some s → block i bs n s ≡ Ok es → (o : Option Table) → raised_all (cleared t n) es ≡ o → TurnOr i bs t o
+    edges s es e r None k = record { none = none_by_edge i bs g.blocks t g.searching g.long n s es e r k }
     edges s es e r (Some u) k =
-        let a = tiring i g.range t u n s es g.fine e w r k in
-        record { goes = record { searching = turned_on i t u g.searching n s es e r k; fine = a.fine; long = a.long ∙ g.long; range = g.range }; less = a.less }
+        let a = tiring i bs g.range t u n s es g.fine e w r k in
+        record { goes = record { blocks = g.blocks; searching = turned_on i bs g.blocks t u g.searching n s es e r k; fine = a.fine; long = a.long ∙ g.long; range = g.range }; less = a.less }
 
-    by_rule : (s : State) → at t.states n ≡ Some s → (r : Result (List Edge) Cause) → rule i n s ≡ r → TurnOr i t (turned_over (cleared t n) r)
-    by_rule s e (Err c) r = record { none = none_by_rule i t g.searching n s e c r }
+    by_rule : (s : State) → at t.states n ≡ Some s → (r : Result (List Edge) Cause) → block i bs n s ≡ r → TurnOr i bs t (turned_over (cleared t n) r)
+    by_rule s e (Err c) r = record { none = none_by_rule i bs g.blocks t g.searching n s e c r }
     by_rule s e (Ok es) r = edges s es e r (raised_all (cleared t n) es) refl
 
-    at_state : (o : Option State) → at t.states n ≡ o → TurnOr i t (turned_at i (cleared t n) n o)
+    at_state : (o : Option State) → at t.states n ≡ o → TurnOr i bs t (turned_at i bs (cleared t n) n o)
     at_state None e =
         let a = clearing t n g.fine w in
-        record { goes = record { searching = cleared_on i t g.searching n e; fine = a.fine; long = g.long; range = g.range }; less = a.less }
-    at_state (Some s) e = by_rule s e (rule i n s) refl
+        record { goes = record { blocks = g.blocks; searching = cleared_on i bs g.blocks t g.searching n e; fine = a.fine; long = g.long; range = g.range }; less = a.less }
+    at_state (Some s) e = by_rule s e (block i bs n s) refl
 
-pub turn_goes : (i : Image) (t u : Table) → Goes i t → (n : ℕ) → Some true ≡ slice_get t.waiting n → Some u ≡ turned i t n → GoesOn i t u
-turn_goes i t u g n w k = subst (TurnOr i t) (sym k) (turns i t g n (sym w))
+pub turn_goes : (i : Image) (bs : Blocks) (t u : Table) → Goes i bs t → (n : ℕ) → Some true ≡ slice_get t.waiting n → Some u ≡ turned i bs t n → GoesOn i bs t u
+turn_goes i bs t u g n w k = subst (TurnOr i bs t) (sym k) (turns i bs t g n (sym w))
 
-pub turn_none : (i : Image) (t : Table) → Goes i t → (n : ℕ) → Some true ≡ slice_get t.waiting n → None ≡ turned i t n → HasNoTyping i
-turn_none i t g n w k = subst (TurnOr i t) (sym k) (turns i t g n (sym w))
+pub turn_none : (i : Image) (bs : Blocks) (t : Table) → Goes i bs t → (n : ℕ) → Some true ≡ slice_get t.waiting n → None ≡ turned i bs t n → HasNoTyping i
+turn_none i bs t g n w k = subst (TurnOr i bs t) (sym k) (turns i bs t g n (sym w))
 
-pub goes_on : (i : Image) (t u : Table) → Goes i t → (n : ℕ) → n ≡ t.from → t.from < length i.code → Some false ≡ slice_get t.waiting n → u ≡ record t { from = t.from + 1 } → GoesOn i t u
-goes_on i t u g n e h w k = rw k (record {
+pub goes_on : (i : Image) (bs : Blocks) (t u : Table) → Goes i bs t → (n : ℕ) → n ≡ t.from → t.from < length bs.starts → Some false ≡ slice_get t.waiting n → u ≡ record t { from = t.from + 1 } → GoesOn i bs t u
+goes_on i bs t u g n e h w k = rw k (record {
   goes = record {
-    searching = moved_on i t g.searching (sym (subst (λ (x : ℕ). Some false ≡ slice_get t.waiting x) e w));
+    blocks = g.blocks;
+    searching = moved_on i bs g.blocks t g.searching (sym (subst (λ (x : ℕ). Some false ≡ slice_get t.waiting x) e w));
     fine = record { each = g.fine.each; same = g.fine.same };
     long = g.long;
     range = g.range;
@@ -74,11 +80,10 @@ goes_on i t u g n e h w k = rw k (record {
   less = moving t (omega (arith, g.long));
 })
 
-pub ends : (i : Image) (t : Table) → Goes i t → length i.code ≤ t.from → IsLeastTyping i (at t.states)
-ends i t g h = record {
-  typing = record { begins = g.searching.begins; state = λ n s e. (g.fine.each n s e).state; holds = all_settled i t g.searching (omega (arith, g.long)) };
-  least = g.searching.lower;
-}
+pub ends : (i : Image) (bs : Blocks) (t : Table) → Goes i bs t → length bs.starts ≤ t.from → IsLeastTyping i (at (states_of i bs.numbers t.states))
+ends i bs t g h =
+    least_typing i g.range bs g.blocks t.states (all_settled i bs g.blocks t g.searching (omega (arith, g.long))) g.fine.each
+    (λ y k b s e. g.searching.lower y k b s e) g.searching.begins
 
 -- ---- the beginning
 
@@ -87,8 +92,9 @@ nothing zero m = refl
 nothing (suc n) zero = refl
 nothing (suc n) (suc m) = nothing n m
 
-pub begins : (i : Image) → IsTrue (is_in_range i) → 0 < length i.code → Goes i (started (length i.code) (start_state i))
-begins i range h = record {
+pub begins : (i : Image) (bs : Blocks) → IsTrue (is_in_range i) → AreBlocks i bs → 0 < length bs.starts → Goes i bs (started (length bs.starts) (start_state i))
+begins i bs range a h = record {
+  blocks = a;
   searching = record {
     same = same;
     begins = rw (get_put nones 0 (Some start) (omega (arith, long_none))) (all_below_refl start);
@@ -105,16 +111,16 @@ begins i range h = record {
     start = start_state i
 
     nones : List (Option State)
-    nones = replicate {A = Option State} (length i.code) None
+    nones = replicate {A = Option State} (length bs.starts) None
 
     off : List Bool
-    off = replicate (length i.code) false
+    off = replicate (length bs.starts) false
 
-    long_none : length nones ≡ length i.code
-    long_none = length-replicate {A = Option State} (length i.code) None
+    long_none : length nones ≡ length bs.starts
+    long_none = length-replicate {A = Option State} (length bs.starts) None
 
-    long_false : length off ≡ length i.code
-    long_false = length-replicate (length i.code) false
+    long_false : length off ≡ length bs.starts
+    long_false = length-replicate (length bs.starts) false
 
     same : length (slice_set nones 0 (Some start)) ≡ length (slice_set off 0 true)
     same = (length-set nones 0 (Some start) ∙ long_none) ∙ sym (length-set off 0 true ∙ long_false)
@@ -123,7 +129,7 @@ begins i range h = record {
     first n s p e = same_Some start s (sym (ap within (get_put nones 0 (Some start) (omega (arith, long_none)))) ∙ subst (λ (x : ℕ). at (slice_set nones 0 (Some start)) x ≡ Some s) (sym p) e)
 
     other : (n : ℕ) (s : State) → 0 ≢ n → at (slice_set nones 0 (Some start)) n ≡ Some s → ⊥
-    other n s d e = let z : None ≡ Some s = sym (ap within (get_put_other nones 0 n (Some start) d) ∙ nothing (length i.code) n) ∙ e in cc
+    other n s d e = let z : None ≡ Some s = sym (ap within (get_put_other nones 0 n (Some start) d) ∙ nothing (length bs.starts) n) ∙ e in cc
 
     settled : (n : ℕ) (s : State) → at (slice_set nones 0 (Some start)) n ≡ Some s → slice_get (slice_set off 0 true) n ≡ Some false → (0 ≡ n) ⊎ (0 ≢ n) → ⊥
     settled n s e w (inl p) =
@@ -131,8 +137,8 @@ begins i range h = record {
         let b : Some true ≡ Some false = sym (get_put off 0 true (omega (arith, long_false))) ∙ a in cc
     settled n s e w (inr d) = other n s d e
 
-    lower : (y : ℕ → Option State) → IsTyping i y → (n : ℕ) (s : State) → at (slice_set nones 0 (Some start)) n ≡ Some s → (0 ≡ n) ⊎ (0 ≢ n) → IsAbove (y n) s
-    lower y k n s e (inl p) = subst (λ (x : ℕ). IsAbove (y x) s) p (subst (λ (x : State). IsAbove (y 0) x) (first n s p e) k.begins)
+    lower : (y : ℕ → Option State) → IsTyping i y → (n : ℕ) (s : State) → at (slice_set nones 0 (Some start)) n ≡ Some s → (0 ≡ n) ⊎ (0 ≢ n) → IsAbove (at_starts i bs y n) s
+    lower y k n s e (inl p) = subst (λ (x : ℕ). IsAbove (at_starts i bs y x) s) p (subst (λ (m : ℕ). IsAbove (y m) s) (sym (begins_at i bs a 0 0 a.first)) (subst (λ (x : State). IsAbove (y 0) x) (first n s p e) k.begins))
     lower y k n s e (inr d) = absurd (other n s d e)
 
     fine : (n : ℕ) (s : State) → at (slice_set nones 0 (Some start)) n ≡ Some s → (0 ≡ n) ⊎ (0 ≢ n) → IsFine s
@@ -152,3 +158,7 @@ refused i n (why.Rule c) h e = h
 refused i n why.JoinConflict h e = h
 refused i n why.Budget h e = absurd (cc)
 refused i n why.NoMemory h e = tt
+
+-- there is a block, where blocks are found
+pub some_block : (i : Image) (bs : Blocks) → AreBlocks i bs → 0 < length bs.starts
+some_block i bs a = there bs.starts 0 0 (a.begin 0 0 a.first)

@@ -1,5 +1,5 @@
 -- Where the instructions of a typing lead, as the code keeps it. No public clause cites this module.
-use Rattle.std.specs.Prelude.{ℕ, ◌≡◌, List, length, Option, Some, None}
+use Rattle.std.specs.Prelude.{ℕ, ◌≡◌, Bool, true, false, List, [], length, Option, Some, None}
 use Rattle.zl_code.specs.Image.{Image}
 use Rattle.zl_abs.specs.declared.steps.Step.{Step}
 use Rattle.zl_abs.specs.States.{State}
@@ -17,3 +17,13 @@ target_in (Some e) = Some e.target
 pub record AreTargets (i : Image) (states : List (Option State)) (targets : List Targets) : Type 0 where
   pub long : length targets ≡ length states
   pub same : (n : ℕ) → places_at targets n ≡ leads i (at states) n
+
+-- nowhere from a pause
+abbrev pub unless_pause : Bool → List ℕ → List ℕ
+unless_pause true ns = []
+unless_pause false ns = ns
+
+-- the state, if it is there
+abbrev pub flow_in : Bool → State → Option State
+flow_in false s = None
+flow_in true s = Some s

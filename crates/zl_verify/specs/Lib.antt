@@ -3,6 +3,8 @@ pub mod Steps
 pub mod Over
 pub mod Numbers
 pub mod Search
+pub mod Marks
+pub mod Blocks
 pub mod Leading
 pub mod Checks
 pub mod Names

@@ -4,17 +4,18 @@ ghost use Rattle.std.specs.Prelude.{◌≡◌, length, IfOk, IfErr};
 ghost use Rattle.zl_abs.specs.Bounds.{RoundAlike, bounds_of};
 ghost use Rattle.zl_abs.specs.Typing.{IsTyping};
 ghost use Rattle.zl_verify.specs.Lists.{at};
+ghost use Rattle.zl_verify.specs.Blocks.{states_of};
 ghost use Rattle.zl_verify.specs.Steps.{IsStepBound};
 ghost use Rattle.zl_verify.specs.Checks.{IsLeastTyping, IsRefused};
 
 use crate::refusal::{Refusal, RefusalCause};
-use crate::search::{Fault, solve};
+use crate::search::{Fault, Found, solve};
 use crate::seen::Seen;
 use crate::steps::{first_over, numbers};
 use crate::targets::targets_of;
 use std::alloc::Global;
 use std::marker::Model;
-use zl_abs::{AbsState, Bounds};
+use zl_abs::Bounds;
 use zl_code::Image;
 
 /// An accepted image, with what is known at each instruction that can be reached, and how many
@@ -22,18 +23,24 @@ use zl_code::Image;
 #[derive(Drop)]
 pub struct Checked {
     image: Image,
-    states: Vec<Option<AbsState>>,
+    found: Found,
     steps: Vec<Option<u32>>,
 }
 
 impl Model for Checked {
     ghost use Rattle.zl_verify.specs.Checks.{Accepted, IsAccepted};
+    ghost use Rattle.zl_verify.specs.Blocks.{states_of};
 
     ghost Value = { Accepted };
 
-    ghost view = { λ c. record { image = c.image; states = c.states.items; steps = c.steps.items } };
+    ghost view = { λ c. record {
+      image = c.image;
+      states = states_of c.image c.found.blocks.numbers c.found.states.items;
+      steps = c.steps.items;
+    } };
 
-    ghost invariant = { λ c. IsAccepted c.image c.states.items c.steps.items };
+    ghost invariant = { λ c. IsAccepted c.image
+        (states_of c.image c.found.blocks.numbers c.found.states.items) c.steps.items };
 }
 
 impl Checked {
@@ -53,15 +60,17 @@ fn bound(
     alloc: Global,
     bounds: &Bounds,
     image: &Image,
-    states: &[Option<AbsState>],
+    found: &Found,
 ) -> Result<Vec<Option<u32>>, Fault>
     requires alike { RoundAlike bounds.now (bounds_of image.now.code) }
-    requires typing { IsLeastTyping image.now (at states.now) }
-    ensures bound { IfOk result (λ steps.
-        IsStepBound image.now (at states.now) (at steps.items)) }
+    requires typing { IsLeastTyping image.now
+        (at (states_of image.now found.now.blocks.numbers found.now.states.items)) }
+    ensures bound { IfOk result (λ steps. IsStepBound image.now
+        (at (states_of image.now found.now.blocks.numbers found.now.states.items))
+        (at steps.items)) }
     ensures exact { IfErr result (λ fault. IsRefused image.now fault.at fault.cause) }
 {
-    let Ok(targets) = targets_of(alloc, bounds, image, states) else {
+    let Ok(targets) = targets_of(alloc, bounds, image, found) else {
         return Err(Fault::at_once(RefusalCause::NoMemory));
     };
     let most = image.budget() + 1;
@@ -106,14 +115,14 @@ pub fn check(alloc: Global, image: Image) -> Result<Checked, Refusal>
     let Ok(bounds) = Bounds::of(alloc, &image) else {
         return Err(refuse(image, Fault::at_once(RefusalCause::NoMemory)));
     };
-    let states = match solve(alloc, &bounds, &image, &mut Seen::NOTHING) {
-        Ok(states) => states,
+    let found = match solve(alloc, &bounds, &image, &mut Seen::NOTHING) {
+        Ok(found) => found,
         Err(fault) => return Err(refuse(image, fault)),
     };
-    match bound(alloc, &bounds, &image, &states) {
+    match bound(alloc, &bounds, &image, &found) {
         Ok(steps) => Ok(Checked {
             image,
-            states,
+            found,
             steps,
         }),
         Err(fault) => Err(refuse(image, fault)),

@@ -1,16 +1,23 @@
 //! The search for the least typing of an image. It knows nothing of handles.
+//!
+//! A state is kept for the first instruction of each block alone. Within a block one state is
+//! followed from instruction to instruction, so that these want no place in the table, no copy and no
+//! comparison.
 
-ghost use Rattle.std.specs.Prelude.{◌≡◌, ◌≤◌, ◌<◌, ◌+◌, ◌++◌, length, Some, true, slice_get, IfOk, IfErr};
+ghost use Rattle.std.specs.Prelude.{◌≡◌, ◌≤◌, ◌<◌, ◌+◌, ◌++◌, length, Some, true, slice_get, IsTrue, IfOk, IfErr};
 ghost use Rattle.std.specs.Bool.{then_some};
 ghost use Rattle.std.specs.Result.{is_ok};
-ghost use Rattle.zl_code.specs.Limits.{most_instructions};
+ghost use Rattle.zl_code.specs.Spells.{is_in_range};
 ghost use Rattle.zl_abs.specs.Bounds.{RoundAlike, bounds_of};
 ghost use Rattle.zl_abs.specs.States.{start_state};
-ghost use Rattle.zl_abs.specs.Changes.{step_in};
+ghost use Rattle.zl_abs.specs.Changes.{changed, step_in};
+ghost use Rattle.zl_abs.specs.Typing.{rule};
 ghost use Rattle.zl_verify.specs.Lists.{at};
-ghost use Rattle.zl_verify.specs.Search.{put, raised, raised_all, turned, cleared, started};
+ghost use Rattle.zl_verify.specs.Search.{put, raised, turned_over, cleared, started};
+ghost use Rattle.zl_verify.specs.Blocks.{AreBlocks, entered, out_from, states_of, stepped, told, turned, went, went_last};
 ghost use Rattle.zl_verify.specs.Checks.{IsLeastTyping, IsRefused, is_of_rules};
 
+use crate::blocks::Blocks;
 use crate::edges::edges_at;
 use crate::refusal::RefusalCause;
 use crate::seen::Seen;
@@ -39,11 +46,11 @@ impl Fault {
 /// How far the search has come.
 #[derive(Drop)]
 struct Search {
-    // What was found of each instruction, if a way to it was.
+    // What was found of the first instruction of each block, if a way to it was.
     states: Vec<Option<AbsState>>,
-    // Which states rose since their instruction was looked at.
+    // Which states rose since their block was looked at.
     waiting: Vec<bool>,
-    // No instruction below waits.
+    // No block below waits.
     from: usize,
 }
 
@@ -59,14 +66,13 @@ impl Model for Search {
 }
 
 impl Search {
-    /// The first instruction alone has a state, that of the start, and waits.
-    fn new(alloc: Global, image: &Image) -> Result<Search, AllocError>
-        requires { 0 < length image.now.code }
-        ensures { IfOk result (λ search.
-            search ≡ started (length image.now.code) (start_state image.now)) }
+    /// Of so many blocks the first alone has a state, that of the start, and waits.
+    fn new(alloc: Global, image: &Image, count: usize) -> Result<Search, AllocError>
+        requires { 0 < count }
+        ensures { IfOk result (λ search. search ≡ started count (start_state image.now)) }
     {
-        let mut states = vec![in alloc; None; image.len()]?;
-        let mut waiting = vec![in alloc; false; image.len()]?;
+        let mut states = vec![in alloc; None; count]?;
+        let mut waiting = vec![in alloc; false; count]?;
         states[0] = Some(AbsState::start(image));
         waiting[0] = true;
         Ok(Search {
@@ -76,7 +82,7 @@ impl Search {
         })
     }
 
-    /// The instruction to look at next.
+    /// The block to look at next.
     fn place(&self) -> usize
         ensures { result ≡ self.now.from }
     {
@@ -91,7 +97,7 @@ impl Search {
     }
 
     fn go_on(&mut self)
-        requires { self.old.from < most_instructions }
+        requires { self.old.from < length self.old.states }
         ensures { self.new ≡ record self.old { from = self.old.from + 1 } }
     {
         self.from += 1;
@@ -103,7 +109,7 @@ impl Search {
         self.states
     }
 
-    /// The instruction gets the state, and waits.
+    /// The block gets the state, and waits.
     fn put(&mut self, place: usize, state: &AbsState)
         requires { place < length self.old.states }
         ensures { self.new ≡ put self.old place state.now }
@@ -113,8 +119,7 @@ impl Search {
         self.from = self.from.min(place);
     }
 
-    /// A state comes to an instruction. Not where the instruction isn't there, or no state is above
-    /// both.
+    /// A state comes to a block. Not where the block isn't there, or no state is above both.
     fn raise(&mut self, place: usize, state: &AbsState) -> bool
         ensures { then_some result self.new ≡ raised self.old place state.now }
     {
@@ -135,102 +140,247 @@ impl Search {
         }
     }
 
-    /// What was found of the instruction.
-    fn known_at(&self, place: usize) -> Option<AbsState> {
-        match self.states.get(place) {
+    /// What was found of the block.
+    fn known_at(&self, block: usize) -> Option<AbsState> {
+        match self.states.get(block) {
             Some(known) => *known,
             None => None,
         }
     }
 
-    /// The state of an edge that is followed comes to its end. `state` becomes that state.
-    #[tactic(auto, unfolding(crate::specs::Search::raised_all))]
-    fn follow(
-        &mut self,
-        edge: &Option<Step>,
-        state: &mut AbsState,
-        seen: &mut Seen,
-    ) -> Result<(), Fault>
-        ensures raised { then_some (is_ok result) self.new
-            ≡ raised_all self.old (step_in state.old edge.now) }
-        ensures cause { IfErr result (λ fault. is_of_rules fault.cause ≡ true) }
+    /// Why a state can't come to the block at this place.
+    fn conflict(&self, place: usize, block: usize, state: &AbsState, seen: &mut Seen) -> Fault
+        ensures { is_of_rules result.cause ≡ true }
     {
-        let Some(edge) = edge else {
-            return Ok(());
-        };
-        state.change(edge.change);
-        if self.raise(edge.target, state) {
-            return Ok(());
-        }
-        seen.known = self.known_at(edge.target);
+        seen.known = self.known_at(block);
         seen.other = Some(*state);
-        Err(Fault {
-            at: edge.target,
+        Fault {
+            at: place,
             cause: RefusalCause::JoinConflict,
-        })
+        }
     }
 
-    /// The same, where the state is wanted afterwards.
-    #[tactic(auto, unfolding(crate::specs::Search::raised_all))]
-    fn follow_first(
+    /// The last edge of an instruction is followed: to a block, or on within this one, which is
+    /// answered. `state` becomes the state at its end.
+    fn leave(
         &mut self,
-        edge: &Option<Step>,
+        blocks: &Blocks,
+        edge: &Step,
+        state: &mut AbsState,
+        seen: &mut Seen,
+    ) -> Result<bool, Fault>
+        ensures told { told result self.new state.new ≡ went_last self.old
+            (changed state.old edge.now.change) (at blocks.now.numbers edge.now.target) }
+        ensures cause { IfErr result (λ fault. is_of_rules fault.cause ≡ true) }
+    {
+        state.change(edge.change);
+        let Some(block) = blocks.number(edge.target) else {
+            return Ok(true);
+        };
+        if self.raise(block, state) {
+            return Ok(false);
+        }
+        Err(self.conflict(edge.target, block, state, seen))
+    }
+
+    /// An edge is followed before the last one: to a block.
+    fn enter(
+        &mut self,
+        blocks: &Blocks,
+        edge: &Step,
         state: &AbsState,
         seen: &mut Seen,
     ) -> Result<(), Fault>
-        ensures raised { then_some (is_ok result) self.new
-            ≡ raised_all self.old (step_in state.now edge.now) }
+        ensures entered { then_some (is_ok result) self.new ≡ entered self.old
+            (changed state.now edge.now.change) (at blocks.now.numbers edge.now.target) }
         ensures cause { IfErr result (λ fault. is_of_rules fault.cause ≡ true) }
     {
-        let Some(_) = edge else {
-            return Ok(());
+        // Each place to which an instruction jumps begins a block.
+        let Some(block) = blocks.number(edge.target) else {
+            return Err(Fault {
+                at: edge.target,
+                cause: RefusalCause::Rule(Cause::BadJump),
+            });
         };
         let mut state = *state;
-        self.follow(edge, &mut state, seen)
+        state.change(edge.change);
+        if self.raise(block, &state) {
+            return Ok(());
+        }
+        Err(self.conflict(edge.target, block, &state, seen))
     }
 
-    /// The states of all edges that are followed come to their ends.
-    fn arrive(&mut self, edges: &Steps, state: &mut AbsState, seen: &mut Seen) -> Result<(), Fault>
-        ensures raised { then_some (is_ok result) self.new ≡ raised_all self.old
-            (step_in state.old edges.now.jump ++ step_in state.old edges.now.next) }
+    /// Both edges of an instruction are followed.
+    #[tactic(auto, unfolding(crate::specs::Blocks::went))]
+    fn part(
+        &mut self,
+        blocks: &Blocks,
+        jump: &Step,
+        next: &Step,
+        state: &mut AbsState,
+        seen: &mut Seen,
+    ) -> Result<bool, Fault>
+        ensures told { told result self.new state.new ≡ went blocks.now.numbers self.old
+            (step_in state.old (Some jump.now) ++ step_in state.old (Some next.now)) }
         ensures cause { IfErr result (λ fault. is_of_rules fault.cause ≡ true) }
     {
-        match self.follow_first(&edges.jump, state, seen) {
-            Ok(()) => self.follow(&edges.next, state, seen),
+        match self.enter(blocks, jump, state, seen) {
+            Ok(()) => self.leave(blocks, next, state, seen),
             Err(fault) => Err(fault),
         }
     }
 
-    /// An instruction is looked at once. Not where its rule doesn't hold, or an edge can't be
-    /// followed.
+    /// The edges of an instruction are followed. Whether the block goes on behind it.
+    #[tactic(auto, unfolding(crate::specs::Blocks::went))]
+    fn arrive(
+        &mut self,
+        blocks: &Blocks,
+        edges: &Steps,
+        state: &mut AbsState,
+        seen: &mut Seen,
+    ) -> Result<bool, Fault>
+        ensures told { told result self.new state.new ≡ went blocks.now.numbers self.old
+            (step_in state.old edges.now.jump ++ step_in state.old edges.now.next) }
+        ensures cause { IfErr result (λ fault. is_of_rules fault.cause ≡ true) }
+    {
+        let Some(jump) = &edges.jump else {
+            let Some(next) = &edges.next else {
+                return Ok(false);
+            };
+            return self.leave(blocks, next, state, seen);
+        };
+        let Some(next) = &edges.next else {
+            return self.leave(blocks, jump, state, seen);
+        };
+        self.part(blocks, jump, next, state, seen)
+    }
+
+    /// One instruction of a block, in this state. Whether the block goes on behind it, and then the
+    /// state is that of the next one. Not where its rule doesn't hold, or an edge can't be followed.
+    fn step(
+        &mut self,
+        bounds: &Bounds,
+        image: &Image,
+        blocks: &Blocks,
+        place: usize,
+        state: &mut AbsState,
+        seen: &mut Seen,
+    ) -> Result<bool, Fault>
+        requires alike { RoundAlike bounds.now (bounds_of image.now.code) }
+        ensures told { told result self.new state.new
+            ≡ stepped blocks.now.numbers self.old (rule image.now place state.old) }
+        ensures cause { IfErr result (λ fault. is_of_rules fault.cause ≡ true) }
+    {
+        match edges_at(bounds, image, place, state) {
+            Ok(edges) => self.arrive(blocks, &edges, state, seen),
+            Err(cause) => {
+                seen.known = Some(*state);
+                Err(Fault {
+                    at: place,
+                    cause: RefusalCause::Rule(cause),
+                })
+            }
+        }
+    }
+
+    /// The instructions of a block, from this one on, in this state.
+    fn run(
+        &mut self,
+        bounds: &Bounds,
+        image: &Image,
+        blocks: &Blocks,
+        first: usize,
+        state: &mut AbsState,
+        seen: &mut Seen,
+    ) -> Result<(), Fault>
+        requires alike { RoundAlike bounds.now (bounds_of image.now.code) }
+        ensures turned { then_some (is_ok result) self.new
+            ≡ turned_over self.old (out_from blocks.now.numbers image.now first state.old) }
+        ensures cause { IfErr result (λ fault. is_of_rules fault.cause ≡ true) }
+    {
+        for place in first..image.len() {
+            match self.step(bounds, image, blocks, place, state, seen) {
+                Ok(true) => {}
+                Ok(false) => return Ok(()),
+                Err(fault) => return Err(fault),
+            }
+        }
+        Err(Fault {
+            at: first,
+            cause: RefusalCause::Rule(Cause::FallsOff),
+        })
+    }
+
+    /// A block is looked at once. Not where the rule of one of its instructions doesn't hold, or an
+    /// edge can't be followed.
     fn turn(
         &mut self,
         bounds: &Bounds,
         image: &Image,
-        place: usize,
+        blocks: &Blocks,
+        block: usize,
         seen: &mut Seen,
     ) -> Result<(), Fault>
-        requires inside { place < length self.old.states }
+        requires inside { block < length self.old.states }
         requires alike { RoundAlike bounds.now (bounds_of image.now.code) }
-        ensures turned { then_some (is_ok result) self.new ≡ turned image.now self.old place }
+        ensures turned { then_some (is_ok result) self.new
+            ≡ turned image.now blocks.now self.old block }
         ensures cause { IfErr result (λ fault. is_of_rules fault.cause ≡ true) }
     {
-        self.waiting[place] = false;
-        let Some(mut state) = self.states[place] else {
+        self.waiting[block] = false;
+        let Some(mut state) = self.states[block] else {
             return Ok(());
         };
-        let edges = match edges_at(bounds, image, place, &mut state) {
-            Ok(edges) => edges,
-            Err(cause) => {
-                seen.known = self.known_at(place);
-                return Err(Fault {
-                    at: place,
-                    cause: RefusalCause::Rule(cause),
-                });
-            }
-        };
-        self.arrive(&edges, &mut state, seen)
+        self.run(
+            bounds,
+            image,
+            blocks,
+            blocks.start(image, block),
+            &mut state,
+            seen,
+        )
     }
+}
+
+/// What a search found: the blocks, and what is known where each begins. What is known at the other
+/// instructions follows from that.
+#[derive(Drop)]
+pub(crate) struct Found {
+    pub blocks: Blocks,
+    pub states: Vec<Option<AbsState>>,
+}
+
+/// What is known at these blocks of the image in its least typing.
+fn settle(
+    alloc: Global,
+    bounds: &Bounds,
+    image: &Image,
+    blocks: &Blocks,
+    seen: &mut Seen,
+) -> Result<Vec<Option<AbsState>>, Fault>
+    requires alike { RoundAlike bounds.now (bounds_of image.now.code) }
+    requires in_range { IsTrue (is_in_range image.now) }
+    requires blocks { AreBlocks image.now blocks.now }
+    ensures typing { IfOk result (λ states. IsLeastTyping image.now
+        (at (states_of image.now blocks.now.numbers states.items))) }
+    ensures exact { IfErr result (λ fault. IsRefused image.now fault.at fault.cause) }
+{
+    let count = blocks.count();
+    let Ok(mut search) = Search::new(alloc, image, count) else {
+        return Err(Fault::at_once(RefusalCause::NoMemory));
+    };
+    while search.place() < count {
+        let block = search.place();
+        if search.is_waiting(block) {
+            match search.turn(bounds, image, blocks, block, seen) {
+                Ok(()) => {}
+                Err(fault) => return Err(fault),
+            }
+        } else {
+            search.go_on();
+        }
+    }
+    Ok(search.found())
 }
 
 /// The least typing of the image. Bounds of words are rounded up by `bounds`. Of an image that has no
@@ -240,29 +390,21 @@ pub(crate) fn solve(
     bounds: &Bounds,
     image: &Image,
     seen: &mut Seen,
-) -> Result<Vec<Option<AbsState>>, Fault>
+) -> Result<Found, Fault>
     requires alike { RoundAlike bounds.now (bounds_of image.now.code) }
-    ensures long { IfOk result (λ states. length states.items ≡ length image.now.code) }
-    ensures typing { IfOk result (λ states. IsLeastTyping image.now (at states.items)) }
+    ensures typing { IfOk result (λ found. IsLeastTyping image.now
+        (at (states_of image.now found.blocks.numbers found.states.items))) }
     ensures exact { IfErr result (λ fault. IsRefused image.now fault.at fault.cause) }
 {
     let length = image.len();
     if length == 0 {
         return Err(Fault::at_once(RefusalCause::Rule(Cause::FallsOff)));
     }
-    let Ok(mut search) = Search::new(alloc, image) else {
+    let Ok(blocks) = Blocks::of(alloc, image) else {
         return Err(Fault::at_once(RefusalCause::NoMemory));
     };
-    while search.place() < length {
-        let place = search.place();
-        if search.is_waiting(place) {
-            match search.turn(bounds, image, place, seen) {
-                Ok(()) => {}
-                Err(fault) => return Err(fault),
-            }
-        } else {
-            search.go_on();
-        }
+    match settle(alloc, bounds, image, &blocks, seen) {
+        Ok(states) => Ok(Found { blocks, states }),
+        Err(fault) => Err(fault),
     }
-    Ok(search.found())
 }

@@ -2,14 +2,15 @@
 
 ghost use Rattle.zl_abs.specs.Bounds.{RoundAlike, bounds_of};
 ghost use Rattle.zl_verify.specs.Lists.{at};
+ghost use Rattle.zl_verify.specs.Blocks.{states_of};
 ghost use Rattle.zl_verify.specs.Checks.{IsLeastTyping};
 
-use crate::search::solve;
+use crate::search::{Found, solve};
 use crate::seen::Seen;
 use crate::steps::{Targets, numbers};
 use crate::targets::targets_of;
 use std::alloc::Global;
-use zl_abs::{AbsState, Bounds};
+use zl_abs::Bounds;
 use zl_code::Image;
 
 /// Instructions that may follow one another without a wait or an exit. Own profile.
@@ -28,23 +29,18 @@ pub(crate) fn way_from(alloc: Global, image: &Image, first: usize) -> Option<Way
         return None;
     };
     match solve(alloc, &bounds, image, &mut Seen::NOTHING) {
-        Ok(states) => way_in(alloc, &bounds, image, &states, first),
+        Ok(found) => way_in(alloc, &bounds, image, &found, first),
         Err(_) => None,
     }
 }
 
-/// The same where these states are known.
-fn way_in(
-    alloc: Global,
-    bounds: &Bounds,
-    image: &Image,
-    states: &[Option<AbsState>],
-    first: usize,
-) -> Option<Way>
+/// The same where this was found.
+fn way_in(alloc: Global, bounds: &Bounds, image: &Image, found: &Found, first: usize) -> Option<Way>
     requires alike { RoundAlike bounds.now (bounds_of image.now.code) }
-    requires typing { IsLeastTyping image.now (at states.now) }
+    requires typing { IsLeastTyping image.now
+        (at (states_of image.now found.now.blocks.numbers found.now.states.items)) }
 {
-    let Ok(targets) = targets_of(alloc, bounds, image, states) else {
+    let Ok(targets) = targets_of(alloc, bounds, image, found) else {
         return None;
     };
     let most = image.budget() + 1;

@@ -1,0 +1,81 @@
+-- The edges of an instruction lead to where it jumps, and behind it: all but the last to a block, and that one to a
+-- block or to the next instruction.
+use Rattle.std.proofs.Common.{◌≡◌, ℕ, ◌+◌, ◌<◌, Bool, true, false, List, [], ◌∷◌, ◌++◌, length, Option, Some, None, refl, sym, ◌∙◌, subst, arith}
+use Rattle.std.specs.Prelude.{Result, Ok, Err, IfOk, nat_lt, if◌then◌else◌}
+use Rattle.std.proofs.lemmas.Bool.Decides.{nat_tests}
+use Rattle.zl_code.specs.declared.instr.Instr.{Instr}
+use Rattle.zl_code.specs.declared.instr.Instr.TheVariants as instr
+use Rattle.zl_code.specs.Image.{Image, instr_at, local_in}
+use Rattle.zl_abs.specs.declared.cause.Cause.{Cause}
+use Rattle.zl_abs.specs.declared.cause.Cause.TheVariants as cause
+use Rattle.zl_abs.specs.States.{State}
+use Rattle.zl_abs.specs.Bounds.{bounds_of}
+use Rattle.zl_abs.specs.Ways.{Ways}
+use Rattle.zl_abs.specs.Rule.{and_then, Edge, edge_to, edges}
+use Rattle.zl_abs.specs.LocalRules.{local_rule}
+use Rattle.zl_abs.specs.CallRules.{call_rule}
+use Rattle.zl_abs.specs.Targets.{jump_in}
+use Rattle.zl_abs.specs.Typing.{rule, rule_by, rule_with, target_of}
+use Rattle.zl_verify.specs.Lists.{at}
+use Rattle.zl_verify.specs.Blocks.{Blocks, AreBlocks}
+use Rattle.zl_verify.proofs.Places.{there}
+
+-- a block begins there
+abbrev pub Begins : List (Option ℕ) → ℕ → Type 0
+Begins numbers n = at numbers n ≡ None → ⊥
+
+unfoldable pub AreParted : List (Option ℕ) → ℕ → List Edge → Type 0
+AreParted numbers n [] = Unit {0}
+AreParted numbers n (e ∷ []) = at numbers e.0 ≡ None → e.0 ≡ n + 1
+AreParted numbers n (e ∷ f ∷ es) = Begins numbers e.0 × AreParted numbers n (f ∷ es)
+
+module _ (numbers : List (Option ℕ)) (size n target : ℕ) where
+  inside : (b : Bool) → nat_lt target size ≡ b → b ≡ true → target < size
+  inside b e h = grind (arith, nat_tests)
+
+  edges_parted : (target < size → Begins numbers target) → (w : Ways) → IfOk (edges size n target w) (AreParted numbers n)
+  unfolding AreParted
+  edges_parted begin w = by (w.jumped) (w.passed)
+    where
+      passes : (xs : List Edge) → ((y : Edge) → y.0 ≡ n + 1 → AreParted numbers n (xs ++ y ∷ [])) → AreParted numbers n xs → (s : State) → (b : Bool)
+          → IfOk (and_then (if b then Ok ((n + 1, s) ∷ []) else Err cause.FallsOff) (λ ys. Ok (xs ++ ys))) (AreParted numbers n)
+      passes xs more none s true = more (n + 1, s) refl
+      passes xs more none s false = tt
+
+      behind : (xs : List Edge) → ((y : Edge) → y.0 ≡ n + 1 → AreParted numbers n (xs ++ y ∷ [])) → AreParted numbers n (xs ++ []) → (p : Option State)
+          → IfOk (and_then (edge_to size cause.FallsOff (n + 1) p) (λ ys. Ok (xs ++ ys))) (AreParted numbers n)
+      behind xs more none None = none
+      behind xs more none (Some s) = passes xs more (tt_or xs none) s (nat_lt (n + 1) size)
+        where
+          tt_or : (xs : List Edge) → AreParted numbers n (xs ++ []) → AreParted numbers n xs
+          tt_or [] h = tt
+          tt_or (x ∷ []) h = h
+          tt_or (x ∷ y ∷ ys) h = (h.0, tt_or (y ∷ ys) (h.1))
+
+      by : (j p : Option State) → IfOk (and_then (edge_to size cause.BadJump target j) (λ xs. and_then (edge_to size cause.FallsOff (n + 1) p) (λ ys. Ok (xs ++ ys)))) (AreParted numbers n)
+      by None p = behind [] (λ y e k. e) tt p
+      by (Some s) p = jumps (nat_lt target size) refl
+        where
+          jumps : (b : Bool) → nat_lt target size ≡ b
+              → IfOk (and_then (if b then Ok ((target, s) ∷ []) else Err cause.BadJump) (λ xs. and_then (edge_to size cause.FallsOff (n + 1) p) (λ ys. Ok (xs ++ ys)))) (AreParted numbers n)
+          jumps false e = tt
+          jumps true e = behind ((target, s) ∷ []) (λ y k. (begin (inside true e refl), λ z. k)) (λ z. absurd (begin (inside true e refl) z)) p
+
+then_parted : (numbers : List (Option ℕ)) (n : ℕ) (r : Result Ways Cause) (f : Ways → Result (List Edge) Cause) → ((w : Ways) → IfOk (f w) (AreParted numbers n)) → IfOk (and_then r f) (AreParted numbers n)
+then_parted numbers n (Err c) f h = tt
+then_parted numbers n (Ok w) f h = h w
+
+pub rule_parted : (i : Image) (bs : Blocks) → AreBlocks i bs → (n : ℕ) (s : State) → IfOk (rule i n s) (AreParted bs.numbers n)
+unfolding rule_with
+rule_parted i bs a n s = by (instr_at i n) refl
+  where
+    by : (o : Option Instr) → instr_at i n ≡ o → IfOk (rule_by (bounds_of i.code) i n s o) (AreParted bs.numbers n)
+    by None e = tt
+    by (Some (instr.Local x)) e =
+        let j : jump_in (local_in (instr_at i n)) ≡ target_of x = rw e refl in
+        then_parted bs.numbers n (local_rule (bounds_of i.code) i x s) (edges (length i.code) n (target_of x))
+        (λ w. edges_parted bs.numbers (length i.code) n (target_of x) (λ h. subst (λ (m : ℕ). Begins bs.numbers m) j (a.jumps n (there i.code n (instr.Local x) e) (subst (λ (m : ℕ). m < length i.code) (sym j) h))) w)
+    by (Some (instr.Call x)) e =
+        then_parted bs.numbers n (call_rule (bounds_of i.code) i x s) (edges (length i.code) n 0)
+        (λ w. edges_parted bs.numbers (length i.code) n 0 (λ h z. let q : None ≡ Some 0 = sym z ∙ a.first in cc) w)
+    by (Some (instr.Unknown x)) e = tt

@@ -5,7 +5,7 @@ ghost use Rattle.std.specs.Result.{result_ok};
 ghost use Rattle.zl_code.specs.Limits.{register_count};
 ghost use Rattle.zl_abs.specs.declared.value.AbsVal.TheVariants as value;
 ghost use Rattle.zl_abs.specs.Values.{untagged, retagged};
-ghost use Rattle.zl_abs.specs.Tags.{names};
+ghost use Rattle.zl_abs.specs.Tags.{is_tag};
 ghost use Rattle.zl_abs.specs.States.{all_below, all_joined, value_at, with_value, with_all, refined, starts_from, start_value, start_state};
 ghost use Rattle.zl_abs.specs.LocalRules.{moved};
 ghost use Rattle.zl_abs.specs.Rule.{word_at};
@@ -104,8 +104,8 @@ impl AbsState {
         ensures { self.new ≡ with_value self.old register value }
     {
         self.refine(register, value);
-        // Most registers have no tag on them, and then nothing else is written.
-        if is_named(&self.registers, register) {
+        // Most states have no tags, and then nothing else is written.
+        if has_tag(&self.registers) {
             untag(&mut self.registers, register);
         }
     }
@@ -169,11 +169,11 @@ impl AbsState {
     }
 }
 
-/// Whether a tag names the register.
-fn is_named(values: &[AbsVal], register: Register) -> bool
-    ensures { result ≡ list_any (λ v. names register v) values.now }
+/// Whether one of the values is a tag.
+fn has_tag(values: &[AbsVal]) -> bool
+    ensures { result ≡ list_any (λ v. is_tag v) values.now }
 {
-    values.iter().any(|value| value.names(register))
+    values.iter().any(|value| value.is_tag())
 }
 
 /// No tag names the register any more.

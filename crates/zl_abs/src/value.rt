@@ -1,7 +1,7 @@
 ghost use Rattle.std.specs.Prelude.{◌≡◌, ◌==◌};
 ghost use Rattle.zl_rights.specs.Numbers.{same_kind};
 ghost use Rattle.zl_abs.specs.Values.{below, joined, is_has, bound_of, kind_below, kind_joined, untagged, retagged};
-ghost use Rattle.zl_abs.specs.Tags.{names};
+ghost use Rattle.zl_abs.specs.Tags.{is_tag};
 
 use bitflags::Flags;
 use zl_code::Register;
@@ -193,15 +193,11 @@ impl AbsVal {
         }
     }
 
-    /// Whether it is a tag that names the register.
-    pub(crate) fn names(self, register: Register) -> bool
-        ensures { result ≡ names register self }
+    /// Whether it is a tag, on whatever register.
+    pub(crate) fn is_tag(self) -> bool
+        ensures { result ≡ is_tag self }
     {
-        match self {
-            AbsVal::KindOf(tagged) => is_register(tagged, register),
-            AbsVal::RightsOf(tagged) => is_register(tagged, register),
-            _ => false,
-        }
+        matches!(self, AbsVal::KindOf(_) | AbsVal::RightsOf(_))
     }
 
     /// The value after the register was written: a tag that names it is lost.

@@ -10,8 +10,7 @@ use Rattle.zl_code.specs.declared.history.Outcome.TheVariants as outcome
 use Rattle.zl_code.specs.declared.history.TraceItem.{TraceItem}
 use Rattle.zl_code.specs.declared.history.TraceItem.TheVariants as item
 use Rattle.zl_code.proofs.Changes.{times, times-behind, times-last, times-same, times-other}
-use Rattle.zl_code.proofs.StepsBeside.{acts_among, blocked_by, next_looks, settles_beside, tells_blocking, waits_by}
-use Rattle.zl_code.proofs.Waiters.{waits_after, with_waiters}
+use Rattle.zl_code.proofs.StepsBeside.{blocked_by, tells_blocking}
 use Rattle.zl_calls.specs.declared.process.Process.{Process}
 use Rattle.zl_calls.specs.Blocking.{then_blocked}
 use Rattle.zl_calls.proofs.Answered.{IsWrite}
@@ -88,7 +87,7 @@ no_more ps blocked are =
     let fewer : length blocked ≤ length (map process_entry ps) = few (map process_entry ps) blocked (λ k. omega (arith, are.once k)) in
     omega (arith, fewer, length-map ps process_entry)
 
--- ---- what a process does beside the blocked
+-- ---- what a process leaves of it
 
 -- the list stays, where no call blocked
 pub same_list : (pid : ℕ) (x : TraceItem) (blocked : List ℕ) → tells_blocking x ≡ false → then_blocked pid x blocked ≡ blocked
@@ -108,39 +107,9 @@ none_filtered p (q ∷ ps) none = by_test (q == p) none (λ h. none_filtered p p
     by_test false none rest = ap (λ (xs : List ℕ). q ∷ xs) (rest none)
 
 -- a step of a process that isn't among the blocked leaves them
-same_blocked : (pid : ℕ) (x : TraceItem) (blocked : List ℕ) → pid_of x ≡ pid → ◌≡◌ {A = ℕ} (times pid blocked) 0 → blocked_by x blocked ≡ blocked
+pub same_blocked : (pid : ℕ) (x : TraceItem) (blocked : List ℕ) → pid_of x ≡ pid → ◌≡◌ {A = ℕ} (times pid blocked) 0 → blocked_by x blocked ≡ blocked
 same_blocked pid (item.Run at count) blocked same none = refl
 same_blocked pid (item.Call at call (outcome.Answered answer)) blocked same none = refl
 same_blocked pid (item.Call at call (outcome.Ended code)) blocked same none = rw same (none_filtered pid blocked none)
 same_blocked pid (item.Call at call outcome.Blocked) blocked same none = refl
 same_blocked pid (item.Stuck at) blocked same none = rw same (none_filtered pid blocked none)
-
--- what a process does that isn't blocked is the same, whichever processes block
-pub beside_list : (lib : Library) (before after : List Process) (r r2 : Objects) (pid : ℕ) (x : TraceItem) (blocked : List ℕ) → state_passes is_blocked (get (map process_entry before) pid) ≡ false → AreBlocked before blocked
-    → pid_of x ≡ pid → tells_blocking x ≡ false → (acted : IsActed lib (world_value before r) pid x (world_value after r2)) → next_looks (next_for lib acted.process) ≡ false
-    → IsActed lib (world_blocked before r blocked) pid x (world_blocked after r2 blocked)
-beside_list lib before after r r2 pid x blocked unblocked are same goes acted looks = record {
-  process = acted.process;
-  is_there = acted.is_there;
-  is_ready = acted.is_ready;
-  acted = with_waiters acted.acted (waits_by (next_for lib acted.process) x []) 0 (blocked_by x blocked);
-  acts = acts_among lib (world_value before r) pid [] 0 blocked (next_for lib acted.process) x acted.acted looks goes acted.acts;
-  settles = subst (λ (b : List ℕ). Settles (with_waiters acted.acted (waits_by (next_for lib acted.process) x []) 0 (blocked_by x blocked)) (world_blocked after r2 b)) (same_blocked pid x blocked same none)
-      (subst (λ (ws : List Wait). Settles (with_waiters acted.acted ws 0 (blocked_by x blocked)) (world_blocked after r2 (blocked_by x blocked))) (sym (no_waits (next_for lib acted.process) x)) (settles_beside acted.acted (world_value after r2) 0 (blocked_by x blocked) acted.settles));
-}
-  where
-    none : ◌≡◌ {A = ℕ} (times pid blocked) 0
-    none = are.once pid ∙ rw unblocked refl
-
-    no_waits_after : (request : Request) (o : Outcome) (at : ℕ) → waits_after request o at [] ≡ []
-    no_waits_after (replace h rights) (outcome.Answered status.Ok) at = refl
-    no_waits_after (replace h rights) (outcome.Answered s) at = refl
-    no_waits_after (replace h rights) o at = refl
-    no_waits_after (close h) o at = refl
-    no_waits_after request o at = refl
-
-    no_waits : (next : Next) (y : TraceItem) → waits_by next y [] ≡ []
-    no_waits (AtCall call s) (item.Call at name o) = no_waits_after s.request o at
-    no_waits (AtCall call s) _ = refl
-    no_waits (Moves c) y = refl
-    no_waits IsStuck y = refl

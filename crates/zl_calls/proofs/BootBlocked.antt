@@ -1,8 +1,9 @@
--- In a world that boots no process is blocked.
-use Rattle.zl_calls.proofs.Common.{◌≡◌, ℕ, List, [], if◌then◌else◌, Bool, true, false, Option, IsTrue, arith, subst, is_process, state_passes, Library, Objects, world_value, AreBlocked}
+-- In a world that boots no process is blocked, and no wait is registered.
+use Rattle.zl_calls.proofs.Common.{◌≡◌, ℕ, List, [], if◌then◌else◌, Bool, true, false, Option, IsTrue, arith, subst, sym, is_process, state_passes, Library, Objects, world_blocked, world_value, AreBlocked}
 use Rattle.zl_code.proofs.Common.{IsBoot, IsSound, Process as ProcessValue, is_blocked}
 use Rattle.zl_code.proofs.SoundRuns.{boot_sound}
 use Rattle.zl_code.specs.declared.boot.Statement.{Statement}
+use Rattle.zl_calls.specs.Making.{IsUnwatched}
 use Rattle.zl_calls.specs.declared.process.Process.{Process}
 
 pub none_blocked : (lib : Library) (statements : List Statement) (ps : List Process) (r : Objects) (blocked : List ℕ) → IsBoot lib statements (world_value ps r) → blocked ≡ [] → AreBlocked ps blocked
@@ -20,3 +21,13 @@ none_blocked lib statements ps r blocked boots none =
       where
         false_true : IsTrue false → ⊥
         false_true e = cc
+
+-- it is the world with its waits and blocked processes
+pub booted_world : (ps : List Process) (r : Objects) (blocked : List ℕ) → IsUnwatched r → blocked ≡ [] → world_value ps r ≡ world_blocked ps r blocked
+booted_world ps r blocked unwatched none = λ i. record (world_value ps r) { waits = sym unwatched.none i; waits_made = sym unwatched.none_made i; blocked = sym none i }
+
+pub booted_sound : (lib : Library) (statements : List Statement) (ps : List Process) (r : Objects) (blocked : List ℕ) → IsBoot lib statements (world_value ps r) → IsUnwatched r → blocked ≡ [] → IsSound (world_blocked ps r blocked)
+booted_sound lib statements ps r blocked boots unwatched none = subst IsSound (booted_world ps r blocked unwatched none) (boot_sound lib statements (world_value ps r) boots)
+
+pub booted_boots : (lib : Library) (statements : List Statement) (ps : List Process) (r : Objects) (blocked : List ℕ) → IsBoot lib statements (world_value ps r) → IsUnwatched r → blocked ≡ [] → IsBoot lib statements (world_blocked ps r blocked)
+booted_boots lib statements ps r blocked boots unwatched none = subst (IsBoot lib statements) (booted_world ps r blocked unwatched none) boots

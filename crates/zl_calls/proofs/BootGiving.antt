@@ -227,6 +227,7 @@ module _ (gs : List Grant) (old new : Made) (p p2 : Process) (so_far : Gives gs 
     making = record {
       sound = rw inserts.entries (holding_sound ps p2.table.entries r so_far.making.sound value e inserts.unused room);
       few = λ k. omega (arith, so_far.making.few k, same_tables ps r r3 k (queues_updated held_once_more held_body r.objects e.koid k));
+      unwatched = record { none = so_far.making.unwatched.none; none_made = so_far.making.unwatched.none_made };
     };
     processes = so_far.processes;
     same = ap (λ (os : Map ObjectValue). record (seen new) { objects = os }) (update_unseen object_value r.objects e.koid held_once_more held_value) ∙ so_far.same;

@@ -1,5 +1,8 @@
 -- What a boot has made meets the invariant of the world, once what isn't held is gone.
-use Rattle.zl_calls.proofs.Common.{◌≡◌, ◌<◌, ◌+◌, ◌==◌, ◌++◌, ◌⊎◌, false, false≢true, ℕ, zero, suc, List, [], ◌∷◌, refl, ◌∙◌, subst, IsTrue, arith, list_any, or_left, or_right, inl, inr, cases_Bool, nat_tests, get, none-some, Objects, AreKeptBut, Cascades, Releases, none_left, IsMaking}
+use Rattle.std.specs.List.{filter}
+use Rattle.zl_objects.specs.Listed.{LeavesListed, is_there}
+use Rattle.zl_calls.specs.Making.{IsUnwatched}
+use Rattle.zl_calls.proofs.Common.{ap, ◌≡◌, ◌<◌, ◌+◌, ◌==◌, ◌++◌, ◌⊎◌, false, false≢true, ℕ, zero, suc, List, [], ◌∷◌, refl, ◌∙◌, subst, IsTrue, arith, list_any, or_left, or_right, inl, inr, cases_Bool, nat_tests, get, none-some, Objects, AreKeptBut, Cascades, Releases, none_left, IsMaking}
 use Rattle.zl_objects.proofs.Released.{cascades_then}
 use Rattle.zl_calls.specs.declared.process.Process.{Process}
 use Rattle.zl_calls.proofs.Settled.{IsSettled, settled}
@@ -33,21 +36,26 @@ pub record IsSwept (r r2 : Objects) (bound : ℕ) : Type 0 where
   pub cascades : Cascades [] r.objects r2.objects
   pub kept : AreKeptBut (below bound) r2.objects
   pub koids : r2.next_koid ≡ r.next_koid
+  pub unwatched : IsUnwatched r → IsUnwatched r2
 
 pub none_swept : (ps : List Process) (r : Objects) → IsMaking ps [] r → IsSwept r r r.next_koid
 none_swept ps r making = record {
   cascades = none_left r.objects;
   kept = record { in_order = making.sound.objects_in_order; noted = λ k o at unkept. is_below k r.next_koid (making.sound.given_objects k (rw at refl)) };
   koids = refl;
+  unwatched = λ before. before;
 }
 
-pub one_swept : (r r2 r3 : Objects) (k : ℕ) → IsSwept r r2 (k + 1) → Releases [] (k ∷ []) r2 r3 → IsSwept r r3 k
-one_swept r r2 r3 k so_far releases =
+pub one_swept : (r r2 r3 : Objects) (k : ℕ) → IsSwept r r2 (k + 1) → Releases [] (k ∷ []) r2 r3 → LeavesListed r2 r3 → IsSwept r r3 k
+one_swept r r2 r3 k so_far releases left =
     let next : k + 1 ≡ suc k = omega arith in
     record {
       cascades = cascades_then [] [] r.objects r2.objects r3.objects so_far.cascades releases.cascades;
       kept = releases.keeps (below k) (subst (λ (n : ℕ). AreKeptBut (below n) r2.objects) next so_far.kept);
       koids = releases.koids ∙ so_far.koids;
+      unwatched = λ before.
+          let mid : IsUnwatched r2 = so_far.unwatched before in
+          record { none = left.waits ∙ ap (filter (is_there r3.objects)) mid.none; none_made = left.made ∙ mid.none_made };
     }
 
 pub all_swept : (ps : List Process) (r r2 : Objects) → IsMaking ps [] r → IsSwept r r2 0 → IsSettled ps r r2

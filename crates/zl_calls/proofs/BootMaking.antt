@@ -203,6 +203,7 @@ module _ (ps : List Process) (p : Process) (r : Objects) (making : IsMaking ps p
         let own : count_by (λ (h : ℕ × Entry). h.1.koid == k) p.table.entries ≤ length p.table.entries = count_by-le-length (λ h. h.1.koid == k) p.table.entries in
         let one_more : length after ≡ length ps + 1 = length-append ps (p ∷ []) in
         omega (arith, own, table.few, making.few k, counts k, one_more);
+    unwatched = record { none = making.unwatched.none; none_made = making.unwatched.none_made };
   }
 
   -- the world is that of the definitions
@@ -326,6 +327,7 @@ starts_making = record {
     in_jobs = λ k o at. found (λ j x. IsTrue (is_in_job root_alone.objects x.body)) refl k o at;
   };
   few = λ k. omega arith;
+  unwatched = record { none = refl; none_made = refl };
 }
   where
     found : (P : ℕ → Object → Type 0) → P 1 root_job → (k : ℕ) (o : Object) → get root_alone.objects k ≡ Some o → P k o

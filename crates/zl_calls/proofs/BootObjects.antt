@@ -136,6 +136,7 @@ module _ (ps : List Process) (r : Objects) (making : IsMaking ps [] r) (b : Body
     grown_making = record {
       sound = grown_sound;
       few = λ k. omega (arith, making.few k, same_handles k);
+      unwatched = record { none = making.unwatched.none; none_made = making.unwatched.none_made };
     }
 
   -- the world is that of the definitions

@@ -1,5 +1,5 @@
 -- That a call is done: it is a step up to where processes wake, and the invariant holds afterwards.
-use Rattle.zl_calls.proofs.Common.{◌≡◌, ℕ, Bool, List, [], ap, sym, ◌∙◌, subst, Option, Result, Ok, Err, Ready, Library, Site, refusal, AtCall, next_for, Calls, grows, replied, taken, Handles, Objects, Does, Replies, status_of, values_of, process_value, state_value, world_value, IsConsistent, World, IsActed}
+use Rattle.zl_calls.proofs.Common.{◌≡◌, ℕ, Bool, List, [], ap, sym, ◌∙◌, subst, Option, Result, Ok, Err, Ready, Library, Site, refusal, AtCall, next_for, Calls, grows, replied, taken, Handles, Objects, Does, Replies, status_of, values_of, process_value, state_value, world_blocked, world_value, IsConsistent, World, IsActed}
 use Rattle.zl_rights.specs.declared.status.Status.{Status}
 use Rattle.zl_rights.specs.declared.status.Status.TheVariants as status
 use Rattle.zl_code.specs.declared.history.CallName.{CallName}
@@ -21,6 +21,11 @@ pub record IsDone (lib : Library) (before after : List Process) (r r2 : Objects)
 -- the call in its world, and the invariant
 pub record IsCalled (lib : Library) (before after : List Process) (r r2 : Objects) (pid : ℕ) (s : Site) (ends : Outcome) : Type 0 where
   pub calls : Calls lib (world_value before r) pid s ends (world_value after r2)
+  pub keeps : IsConsistent after r2
+
+-- the call beside registered waits and any blocked processes, and the invariant
+pub record IsCalledAmong (lib : Library) (before after : List Process) (r r2 : Objects) (pid : ℕ) (s : Site) (ends : Outcome) : Type 0 where
+  pub calls : (blocked : List ℕ) → Calls lib (world_blocked before r blocked) pid s ends (world_blocked after r2 blocked)
   pub keeps : IsConsistent after r2
 
 -- a ready process of a lab, at the call

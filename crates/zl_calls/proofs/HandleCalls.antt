@@ -11,6 +11,7 @@ use Rattle.zl_code.specs.declared.history.Outcome.TheVariants as outcome
 use Rattle.zl_calls.specs.declared.process.Process.{Process}
 use Rattle.zl_calls.specs.calls.Answer.{without_handle}
 use Rattle.zl_calls.specs.calls.Handle.{CloseDoes, Closes, close_answer, Dups, DupDoes, dup_refusal, dup_refusal_of, Replaces, ReplaceDoes, replace_refusal, replace_refusal_of}
+use Rattle.zl_calls.proofs.Beside.{beside_lab, beside_world}
 use Rattle.zl_calls.proofs.Answered.{IsWrite, table_is, replies_none, replied_with, may_get_inserted, replied_inserted}
 use Rattle.zl_calls.proofs.Done.{IsDone, IsCalled, answered_done}
 use Rattle.zl_calls.proofs.Labs.{no_policy, call_settles, handles_counted}
@@ -27,7 +28,7 @@ use Rattle.zl_rights.proofs.Narrowed.{narrowed_within}
 use Rattle.zl_objects.specs.declared.object.Object.{Object}
 use Rattle.zl_calls.proofs.Updates.{update_twice, update_unseen}
 
-no_bits : (n : ℕ) → IsTrue (within 0 n)
+pub no_bits : (n : ℕ) → IsTrue (within 0 n)
 no_bits n = eq-eqb (bit_and n 0) 0 (omega (arith, and_le_r n 0))
 
 -- ---- the answer of close
@@ -309,7 +310,7 @@ module _ (lib : Library) (before after : List Process) (r r2 : Objects) (p p2 : 
     replace_refused_here : refusal lib w p.pid (replace h asked) ≡ answers (replace_refusal p.table.entries h asked)
     replace_refused_here = replace_refused lib w (no_policy before r lab) p.pid h asked ∙ rw (table_is before after p p2 write r) refl
 
-    module _ (made : ℕ) (replaces : Replaces p.table r h asked made p2.table r2) (replies : Replies replace_site status.Ok (made ∷ []) p p2) where
+    module _ (made : ℕ) (replaces : Replaces p.pid p.table r h asked made p2.table r2) (replies : Replies replace_site status.Ok (made ∷ []) p p2) where
       abbrev narrower : Entry → Entry
       narrower e = record e { rights = replaces.granted }
 
@@ -344,7 +345,10 @@ module _ (lib : Library) (before after : List Process) (r r2 : Objects) (p p2 : 
       replace_ends : world_value after r2 ≡ replied (with_effect lib w (taken w p.pid replace_site) p.pid (replace h asked) []) p.pid replace_site status.Ok (h ∷ [])
       unfolding taken_handles handle_operands row_of remove_all new_handles effect insert_all on_process
       replace_ends = rw is_copy (replied_with before after p p2 write r2 replace_site status.Ok (h ∷ []) replaced (on_process (taken w p.pid replace_site) p.pid (process_with h replacement))
-          (update_twice (map process_entry before) p.pid (process_without h) (process_with h replacement)) (rw replaces.objects refl) is_replaced)
+          (update_twice (map process_entry before) p.pid (process_without h) (process_with h replacement)) same_rest is_replaced)
+        where
+          same_rest : (record (on_process (taken w p.pid replace_site) p.pid (process_with h replacement)) { processes = map process_entry after }) ≡ world_value after r2
+          same_rest = sym (beside_world after r r2 replaces.ends.beside)
 
       -- ---- the invariant
 
@@ -382,12 +386,12 @@ module _ (lib : Library) (before after : List Process) (r r2 : Objects) (p p2 : 
       unfolding gives_ok
       replace_called = record {
         calls = (Values [], rw (replace_refused_here, replaces.unrefused) (replace_chosen, refl, replace_ends));
-        keeps = rw replaces.objects (keeps before after p p2 write r r lab (ap (λ (q : Process). q.state) replies) table_again still_named (recounted_next before after r lab recounted));
+        keeps = beside_lab after r r2 replaces.ends.beside (keeps before after p p2 write r r lab (ap (λ (q : Process). q.state) replies) table_again still_named (recounted_next before after r lab recounted));
       }
 
     -- ---- the step
 
-    pub replace_done : state_value p.state ≡ Ready → (call : CallName) → next_for lib (process_value p) ≡ AtCall call replace_site → (o : Outcome) → IsAnswered (told_by one_value) (ReplaceDoes h asked) replace_site p r o p2 r2 → IsDone lib before after r r2 p.pid call o
+    pub replace_done : state_value p.state ≡ Ready → (call : CallName) → next_for lib (process_value p) ≡ AtCall call replace_site → (o : Outcome) → IsAnswered (told_by one_value) (ReplaceDoes p.pid h asked) replace_site p r o p2 r2 → IsDone lib before after r r2 p.pid call o
     unfolding row_of taken_handles handle_operands gives_refused
-    replace_done ready call next o acts = taking_done lib before after r r2 p p2 lab write ready call replace_site next (h ∷ []) refl one_value (Replaces p.table r h asked) false (replace_refusal p.table.entries h asked)
+    replace_done ready call next o acts = taking_done lib before after r r2 p p2 lab write ready call replace_site next (h ∷ []) refl one_value (Replaces p.pid p.table r h asked) false (replace_refusal p.table.entries h asked)
         replace_refused_here refl (λ answer. refl) replace_called o acts.answer acts.acts acts.replied acts.ends

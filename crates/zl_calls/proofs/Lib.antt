@@ -8,6 +8,14 @@ pub mod EnteredTables
 pub mod Told
 pub mod Places
 pub mod Quiet
+pub mod Beside
+pub mod Sifting
+pub mod Ending
+pub mod Firing
+pub mod FiringWorlds
+pub mod KeptLists
+pub mod LeftWaits
+pub mod ListsKept
 pub mod Refused
 pub mod Positions
 pub mod Searching
@@ -40,6 +48,10 @@ pub mod Repacked
 pub mod PortCalls
 pub mod BlockedLists
 pub mod Sleeping
+pub mod Among
+pub mod AsyncCalls
+pub mod CancelCalls
+pub mod Cancelled
 pub mod Performed
 pub mod Performing
 pub mod Woken

@@ -1,4 +1,4 @@
--- Worlds in which nothing waits: no packet comes to a port, and where all objects stay, settling leaves all as it is.
+-- Where all objects stay, settling leaves all as it is.
 use Rattle.zl_calls.proofs.Common.{◌≡◌, ℕ, true, ◌==◌, List, [], ◌∷◌, map, refl, ap, Some, IsTrue, eq-eqb, is_some, cond, false, Map, get, has_key, where_key, each, Koids, process_settled, wakes, fired, append-nil, PortBody, Objects, process_entry, state_value, world_blocked, world_value, without_others, state_without, Bool, World}
 use Rattle.zl_code.proofs.Common.{Body as BodyValue}
 use Rattle.std.specs.List.{fold}
@@ -8,22 +8,6 @@ use Rattle.zl_calls.specs.declared.process.State.{State}
 use Rattle.zl_calls.specs.declared.process.State.TheVariants as state
 use Rattle.zl_calls.specs.declared.process.Process.{Process}
 use Rattle.zl_objects.specs.Seen.{with_all, object_entry}
-
--- ---- waking
-
-no_packets : (b : BodyValue) → body_with_packets [] b ≡ b
-no_packets (PortBody packets) = ap PortBody (append-nil packets)
-no_packets _ = refl
-
--- no registered wait gives its packet
-pub fires_nothing : (ps : List Process) (r : Objects) (blocked : List ℕ) → fired (world_blocked ps r blocked) ≡ world_blocked ps r blocked
-unfolding fired
-fires_nothing ps r blocked = ap (λ objects. record (world_blocked ps r blocked) { objects = objects }) (each_same (λ k o. record o { body = body_with_packets [] o.body }) (λ k o. ap (λ b. record o { body = b }) (no_packets o.body)) (map object_entry r.objects))
-
--- just the blocked processes wake, one after another
-pub wakes_each : (ps : List Process) (r : Objects) (blocked : List ℕ) → wakes (world_blocked ps r blocked) ≡ fold woken (world_blocked ps r blocked) blocked
-unfolding wakes
-wakes_each ps r blocked = ap (λ (w : World). fold woken w blocked) (fires_nothing ps r blocked)
 
 -- ---- settling
 

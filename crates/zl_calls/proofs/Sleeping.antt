@@ -1,5 +1,5 @@
 -- A call blocks: it is a step up to where processes wake, its process is the last of the blocked, and the invariant holds afterwards.
-use Rattle.zl_calls.proofs.Common.{◌≡◌, ◌<◌, ◌^◌, ℕ, List, [], ◌∷◌, ◌++◌, refl, sym, ap, ◌∙◌, subst, Some, None, Ready, Blocked, Library, Site, refusal, on_process, runs, lives, Map, AtCall, next_for, Calls, Objects, process_value, state_value, world_blocked, world_value, AreBlocked, IsActed, IsConsistent, Agrees}
+use Rattle.zl_calls.proofs.Common.{◌≡◌, ◌<◌, ◌^◌, ℕ, List, [], ◌∷◌, ◌++◌, refl, sym, ap, ◌∙◌, subst, Some, None, Ready, Blocked, Library, Site, refusal, on_process, runs, lives, Map, AtCall, next_for, Objects, Settles, process_value, state_value, world_blocked, world_value, AreBlocked, IsActed, IsConsistent, Agrees}
 use Rattle.zl_code.proofs.Common.{Process as ProcessValue, State as StateValue, is_blocked}
 use Rattle.zl_rights.specs.Signals.{has_ended}
 use Rattle.zl_rights.specs.World.{Awaited}
@@ -8,12 +8,15 @@ use Rattle.zl_code.specs.declared.history.CallName.{CallName}
 use Rattle.zl_code.specs.declared.history.Outcome.{Outcome}
 use Rattle.zl_code.specs.declared.history.Outcome.TheVariants as outcome
 use Rattle.zl_code.specs.declared.history.TraceItem.TheVariants as item
-use Rattle.zl_code.proofs.StepsBeside.{blocked_in, blocks_among, settles_beside}
-use Rattle.zl_code.proofs.Waiters.{with_waiters}
+use Rattle.zl_code.proofs.StepsBeside.{blocked_in}
+use Rattle.zl_code.proofs.StepsWaiting.{block_waiting}
+use Rattle.zl_code.specs.Sound.{IsSound as IsSoundWorld}
 use Rattle.zl_objects.specs.declared.object.Body.{Body}
 use Rattle.zl_calls.specs.declared.process.Process.{Process}
 use Rattle.zl_calls.proofs.Answered.{IsWrite}
+use Rattle.zl_calls.specs.Registered.{world_left}
 use Rattle.zl_calls.proofs.BlockedLists.{one_asleep}
+use Rattle.zl_calls.proofs.LeftWaits.{left_by}
 use Rattle.zl_calls.proofs.SameBodies.{alike_agrees}
 use Rattle.zl_calls.proofs.Settled.{still_settles}
 use Rattle.zl_calls.proofs.Written.{alike_states, keeps_agreeing, recounted_next, same_counts}
@@ -63,16 +66,9 @@ module _ (lib : Library) (before after : List Process) (r r2 : Objects) (p p2 : 
       is : process_value p2 ≡ record (process_value p) { state = Blocked sleeps.awaited sleeps.at.destinations }
       is = ap process_value sleeps.process ∙ ap (λ (s : StateValue). record (process_value p) { state = s }) sleeps.state
 
-  asleep_calls : (blocked : List ℕ) → Calls lib (world_blocked before r blocked) p.pid sleeps.at outcome.Blocked (world_blocked after r (blocked ++ (p.pid ∷ [])))
-  asleep_calls blocked = subst (λ u. Calls lib (world_blocked before r blocked) p.pid sleeps.at outcome.Blocked (with_waiters u [] 0 (blocked ++ (p.pid ∷ [])))) asleep_world
-      (blocks_among lib (world_value before r) p.pid (process_value p) write.there [] 0 blocked sleeps.at sleeps.awaited sleeps.passes sleeps.is_awaited)
-
-  pub asleep_acts : (blocked : List ℕ) → IsActed lib (world_blocked before r blocked) p.pid (item.Call p.pid name outcome.Blocked) (world_blocked after r (blocked ++ (p.pid ∷ [])))
-  asleep_acts blocked = record {
-    process = process_value p;
-    is_there = write.there;
-    is_ready = ready;
-    acted = world_blocked after r (blocked ++ (p.pid ∷ []));
-    acts = rw sleeps.next (outcome.Blocked, refl, asleep_calls blocked);
-    settles = settles_beside (world_value after r) (world_value after r) 0 (blocked ++ (p.pid ∷ [])) (still_settles after r asleep_keeps);
-  }
+  -- beside registered waits and other blocked processes
+  pub asleep_acts : (blocked : List ℕ) → IsSoundWorld (world_blocked before r blocked) → IsActed lib (world_blocked before r blocked) p.pid (item.Call p.pid name outcome.Blocked) (world_left after r (blocked ++ (p.pid ∷ [])))
+  asleep_acts blocked sound = left_by lib before after r r p.pid (item.Call p.pid name outcome.Blocked) blocked sound r.waits r.waits_made (blocked ++ (p.pid ∷ []))
+      (block_waiting lib (world_value before r) p.pid (process_value p) write.there ready name sleeps.at sleeps.next sleeps.awaited sleeps.passes sleeps.is_awaited (world_value after r)
+      (subst (λ u. Settles u (world_value after r)) (sym asleep_world) (still_settles after r asleep_keeps)) r.waits r.waits_made blocked)
+      (record { waits = λ test there. refl; made = refl })

@@ -19,7 +19,13 @@ use Rattle.zl_code.proofs.CallRows.{has, asks_or, asks_again, row_again}
 use Rattle.zl_code.proofs.Stepping.{wanting_step}
 use Rattle.std.specs.Prelude.{slice_get}
 use Rattle.zl_calls.specs.declared.process.Process.{Process}
+use Rattle.zl_code.proofs.Common.{pid_of}
+use Rattle.zl_code.proofs.SoundRuns.{step_sound}
+use Rattle.zl_code.specs.Sound.{IsSound}
+use Rattle.zl_calls.specs.Registered.{EndsUnheld, FiresWaits, world_left}
 use Rattle.zl_calls.specs.World.{World, call_of}
+use Rattle.std.specs.List.{fold}
+use Rattle.zl_rights.specs.Wakes.{fired, woken}
 
 -- ---- the process that acts, and the item
 
@@ -153,10 +159,11 @@ module _ (lib : Library) (ps : List Process) (r : Objects) (blocked : List ℕ) 
   not_ready_in None unready = unready
   not_ready_in (Some x) unready = tt
 
-  pub takes_step : (ps2 ps3 : List Process) (r2 r3 : Objects) (blocked2 blocked3 : List ℕ) (x : TraceItem) → DoesNext lib (world_blocked ps r blocked) pid x (world_blocked ps2 r2 blocked2)
-      → world_blocked ps3 r3 blocked3 ≡ wakes (world_blocked ps2 r2 blocked2) → TakesStep (lab_value lib ps r blocked) pid (lab_value lib ps3 r3 blocked3) x
-  unfolding is_process
-  takes_step ps2 ps3 r2 r3 blocked2 blocked3 x does awake = record {
+  pub takes_step : (ps2 ps3 : List Process) (r2 left fires r3 : Objects) (blocked2 blocked3 : List ℕ) (x : TraceItem) → DoesNext lib (world_blocked ps r blocked) pid x (world_left ps2 r2 blocked2)
+      → EndsUnheld ps2 r2 left → FiresWaits ps2 left fires
+      → world_blocked ps3 r3 blocked3 ≡ fold woken (world_blocked ps2 fires blocked2) blocked2 → TakesStep (lab_value lib ps r blocked) pid (lab_value lib ps3 r3 blocked3) x
+  unfolding is_process wakes fired
+  takes_step ps2 ps3 r2 left fires r3 blocked2 blocked3 x does unheld fired_so awake = record {
     pid_is = does.pid_is;
     ready = rw (does.acted.is_there, does.acted.is_ready) refl;
     steps = record {
@@ -167,12 +174,17 @@ module _ (lib : Library) (ps : List Process) (r : Objects) (blocked : List ℕ) 
         is_ready = does.acted.is_ready;
         acted = does.acted.acted;
         acts = does.acted.acts;
-        settled = world_blocked ps2 r2 blocked2;
+        settled = world_left ps2 r2 blocked2;
         settles = does.acted.settles;
-        ends_awake = awake;
+        ends_awake = awake ∙ ap (λ (w : WorldValue). fold woken w blocked2) (fired_so.world blocked2 ∙ ap fired (unheld.world blocked2));
       });
     };
   }
+
+-- such a step leads from a sound world to a sound one
+pub stepped_sound : (lib : Library) (ps ps2 : List Process) (r r2 : Objects) (blocked blocked2 : List ℕ) (pid : ℕ) (x : TraceItem) → TakesStep (lab_value lib ps r blocked) pid (lab_value lib ps2 r2 blocked2) x
+    → IsSound (world_blocked ps r blocked) → IsSound (world_blocked ps2 r2 blocked2)
+stepped_sound lib ps ps2 r r2 blocked blocked2 pid x takes sound = step_sound lib (world_blocked ps r blocked) (pid_of x) x (world_blocked ps2 r2 blocked2) sound takes.steps.step
 
 -- one that isn't ready is at no call
 pub unready_no_call : (l : World) (pid : ℕ) → is_ready_in l pid ≡ false → call_for l pid ≡ None

@@ -9,6 +9,8 @@ use Rattle.zl_rights.specs.declared.status.Status.TheVariants as status
 use Rattle.zl_calls.specs.calls.Answer.{ClosesEach, DoesTaking, taken_from, without_handle, without_handles}
 use Rattle.zl_calls.specs.calls.Handle.{Closes, Replaces, replace_refusal}
 use Rattle.zl_code.proofs.Entering.{length_put}
+use Rattle.zl_calls.specs.Registered.{KeepsListed}
+use Rattle.zl_calls.proofs.KeptLists.{listed_same, listed_then}
 
 -- an empty table has no handle
 pub none_in : (m : Map Entry) (v : ℕ) → length m ≡ 0 → get m v ≡ None
@@ -61,25 +63,26 @@ closes_then t hs None r r2 r3 before last = rw (last, append-nil (taken_from t h
 closes_then t hs (Some e) r r2 r3 before last =
     rw (map-append (λ (x : Entry). x.koid) (taken_from t hs) (e ∷ [])) (releases_then (koids_of (taken_from t hs)) (e.koid ∷ []) [] r r2 r3 before last)
 
-pub closes_more : (hs : List ℕ) (i d : ℕ) → i < length hs → (t t2 t3 : Handles) (r r2 r3 : Objects) → ClosesEach (take i hs) t r t2 r2 → t3 ≡ without_handle t2 (get_or hs i d) → Closes (get t2.entries (get_or hs i d)) r2 r3
+pub closes_more : (hs : List ℕ) (i d : ℕ) → i < length hs → (t t2 t3 : Handles) (r r2 r3 : Objects) → ClosesEach (take i hs) t r t2 r2 → t3 ≡ without_handle t2 (get_or hs i d) → Closes (get t2.entries (get_or hs i d)) r2 r3 → KeepsListed r2 r3
     → ClosesEach (take (i + 1) hs) t r t3 r3
-closes_more hs i d within t t2 t3 r r2 r3 before table objects = record {
+closes_more hs i d within t t2 t3 r r2 r3 before table objects listed = record {
   table = table_more hs i d within t t2 t3 before.table table;
   objects = rw (take_more hs i d within, taken_more t (take i hs) (get_or hs i d))
       (closes_then t (take i hs) (get (without_handles t (take i hs)).entries (get_or hs i d)) r r2 r3 before.objects (rw (before.table) at objects));
+  listed = listed_then r r2 r3 before.listed listed;
 }
 
 -- a value that isn't live closes nothing
 pub none_closes : (v : ℕ) (t : Handles) (r : Objects) → get t.entries v ≡ None → ClosesEach (v ∷ []) t r t r
-none_closes v t r gone = record { table = rw gone refl; objects = rw gone (none_goes r) }
+none_closes v t r gone = record { table = rw gone refl; objects = rw gone (none_goes r); listed = listed_same r }
 
 no_value_of : {A B : Type 0} (f : A → B) (o : Option A) → option_map f o ≡ None → o ≡ None
 no_value_of f None e = refl
 no_value_of f (Some x) e = cc
 
 -- a value that isn't live can't be replaced
-pub not_live_refused : (t : Handles) (r : Objects) (v asked : ℕ) → ◌≡◌ {A = Option (ℕ × Entry)} None (option_map (λ (e : Entry). (v, e)) (get t.entries v))
-    → DoesTaking (Replaces t r v asked) false (replace_refusal t.entries v asked) (v ∷ []) t r (Err status.BadHandle) t r
-not_live_refused t r v asked e =
+pub not_live_refused : (pid : ℕ) (t : Handles) (r : Objects) (v asked : ℕ) → ◌≡◌ {A = Option (ℕ × Entry)} None (option_map (λ (e : Entry). (v, e)) (get t.entries v))
+    → DoesTaking (Replaces pid t r v asked) false (replace_refusal t.entries v asked) (v ∷ []) t r (Err status.BadHandle) t r
+not_live_refused pid t r v asked e =
     let gone : get t.entries v ≡ None = no_value_of {B = ℕ × Entry} (λ (x : Entry). (v, x)) (get t.entries v) (sym e) in
     record { ok = tt; err = rw gone refl; closed = none_closes v t r gone }

@@ -27,7 +27,7 @@ module _ (value : ℕ) (destinations : List ℕ) (p : Process) (r : Objects) whe
   told_so p2 (Err refused) is = is ∙ λ i. record (answered_in p destinations packet_values (Err refused)) { table = sym (ap (λ (q : Process). q.table) is) i }
 
   pub port_refuses : (refused : Status) → port_at p.table.entries value READ ≡ Err refused → (o : Outcome) (p2 : Process) → o ≡ outcome.Answered refused → p2 ≡ answered_in p destinations packet_values (Err refused)
-      → Acts (action_of (port_wait value)) waiting_site p r o p2 r
+      → Acts (action_of p.pid (port_wait value)) waiting_site p r o p2 r
   port_refuses refused no_port o p2 ends is = inl (record {
     answer = Err refused;
     acts = record { ok = tt; err = rw no_port refl; same_table = ap (λ (q : Process). q.table) is; same_objects = refl };
@@ -37,7 +37,7 @@ module _ (value : ℕ) (destinations : List ℕ) (p : Process) (r : Objects) whe
 
   module _ (r2 : Objects) (port : Entry) (is_port : port_at p.table.entries value READ ≡ Ok port) (rest : r2 ≡ changing_port r port.koid without_front) where
     pub packet_comes : (packet : Packet) → slice_get (packets_in (get r.objects port.koid)) 0 ≡ Some packet → (o : Outcome) (p2 : Process) → o ≡ outcome.Answered status.Ok → p2 ≡ answered_in p destinations packet_values (Ok packet)
-        → Acts (action_of (port_wait value)) waiting_site p r o p2 r2
+        → Acts (action_of p.pid (port_wait value)) waiting_site p r o p2 r2
     packet_comes packet first o p2 ends is = inl (record {
       answer = Ok packet;
       acts = record { ok = subst (λ t. TakesPacket p.table r value packet t r2) (sym (ap (λ (q : Process). q.table) is)) (packet_polled p.table r r2 value port is_port rest packet first).ok; err = tt; same_table = tt; same_objects = tt };
@@ -46,7 +46,7 @@ module _ (value : ℕ) (destinations : List ℕ) (p : Process) (r : Objects) whe
     })
 
     pub port_blocks : slice_get (packets_in (get r.objects port.koid)) 0 ≡ None → p.cpu.counter < 2 ^ 32 → (s : State) → state_value s ≡ Blocked (PacketAt port.koid) destinations
-        → Acts (action_of (port_wait value)) waiting_site p r outcome.Blocked (record p { state = s }) r2
+        → Acts (action_of p.pid (port_wait value)) waiting_site p r outcome.Blocked (record p { state = s }) r2
     port_blocks none within s is = inr (record {
       awaited = PacketAt port.koid;
       awaits = record { port = port; is_port = is_port; none = none; is_awaited = refl };

@@ -1,5 +1,5 @@
 -- Blocked processes wake one after another, in the order of the list.
-use Rattle.zl_calls.proofs.Common.{◌≡◌, ◌<◌, ◌≤◌, ◌+◌, ◌^◌, ℕ, zero, suc, Bool, true, false, not, ◌==◌, ◌++◌, List, [], ◌∷◌, length, take, map, get_or, refl, sym, ap, ◌∙◌, subst, if◌then◌else◌, inl, inr, Some, IsTrue, arith, cases_Bool, eq-eqb, state_passes, get, wakes, Objects, process_entry, world_blocked, IsConsistent, AreBlocked, World}
+use Rattle.zl_calls.proofs.Common.{◌≡◌, ◌<◌, ◌≤◌, ◌+◌, ◌^◌, ℕ, zero, suc, Bool, true, false, not, ◌==◌, ◌++◌, List, [], ◌∷◌, length, take, map, get_or, refl, sym, ap, ◌∙◌, subst, if◌then◌else◌, inl, inr, Some, IsTrue, arith, cases_Bool, eq-eqb, state_passes, get, Objects, process_entry, world_blocked, IsConsistent, AreBlocked, World}
 use Rattle.std.specs.List.{filter, fold}
 use Rattle.std.specs.Prelude.{drop}
 use Rattle.zl_code.proofs.Common.{Process as ProcessValue, is_blocked, woken}
@@ -7,7 +7,6 @@ use Rattle.zl_code.proofs.Changes.{times}
 use Rattle.zl_calls.specs.declared.process.Process.{Process}
 use Rattle.zl_calls.specs.Waking.{WakesOne}
 use Rattle.zl_calls.proofs.BlockedLists.{none_filtered}
-use Rattle.zl_calls.proofs.Quiet.{wakes_each}
 
 -- those before the place in the list have had their turn; the list was first at the start
 pub record IsWaking (ps0 : List Process) (r0 : Objects) (first : List ℕ) (capacity0 place : ℕ) (ps : List Process) (r : Objects) (blocked : List ℕ) (capacity : ℕ) : Type 0 where
@@ -132,5 +131,5 @@ module _ (ps0 : List Process) (r0 : Objects) (first : List ℕ) (capacity0 : ℕ
           add_one : i + 1 ≡ suc i
           add_one = omega arith
 
-    pub all_had_turns : length blocked ≤ i → world_blocked ps r blocked ≡ wakes (world_blocked ps0 r0 first)
-    all_had_turns past = ap (fold woken (world_blocked ps r blocked)) (sym (drop_end blocked i past)) ∙ (so_far.so_far ∙ sym (wakes_each ps0 r0 first))
+    pub all_had_turns : length blocked ≤ i → world_blocked ps r blocked ≡ fold woken (world_blocked ps0 r0 first) first
+    all_had_turns past = ap (fold woken (world_blocked ps r blocked)) (sym (drop_end blocked i past)) ∙ so_far.so_far

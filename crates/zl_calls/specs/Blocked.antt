@@ -2,11 +2,11 @@
 use Rattle.std.specs.Prelude.{ℕ, ◌≡◌, ◌<◌, ◌≤◌, ◌^◌, ◌==◌, List, map, length, Some, IsTrue, if◌then◌else◌}
 use Rattle.std.specs.List.{filter}
 use Rattle.zl_code.specs.Common.{get, Process as ProcessValue}
-use Rattle.zl_code.specs.Sound.{is_blocked}
+use Rattle.zl_code.specs.Sound.{IsSound, is_blocked}
 use Rattle.zl_rights.specs.Signals.{state_passes}
 use Rattle.zl_objects.specs.Objects.{Objects}
 use Rattle.zl_calls.specs.declared.process.Process.{Process}
-use Rattle.zl_calls.specs.World.{process_entry}
+use Rattle.zl_calls.specs.World.{process_entry, world_blocked}
 use Rattle.zl_calls.specs.Consistent.{IsConsistent}
 
 -- the list is that of the blocked processes, each of which stands at an instruction
@@ -15,8 +15,9 @@ pub record AreBlocked (processes : List Process) (blocked : List ℕ) : Type 0 w
   pub once : (k : ℕ) → length (filter (λ q. q == k) blocked) ≡ (if state_passes is_blocked (get (map process_entry processes) k) then 1 else 0)
   pub counters : (k : ℕ) (p : ProcessValue) → get (map process_entry processes) k ≡ Some p → IsTrue (is_blocked p.state) → p.cpu.counter < 2 ^ 32
 
--- the invariant of the processes and objects, and of the list of those that are blocked, which has room for all
+-- the invariant of the processes and objects, and of the list of those that are blocked, which has room for all; their world is sound
 pub record IsWhole (processes : List Process) (r : Objects) (blocked : List ℕ) (capacity : ℕ) : Type 0 where
   pub lab : IsConsistent processes r
+  pub sound : IsSound (world_blocked processes r blocked)
   pub are_blocked : AreBlocked processes blocked
   pub room : length processes ≤ capacity

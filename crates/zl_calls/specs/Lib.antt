@@ -12,3 +12,4 @@ pub mod Making
 pub mod Makes
 pub mod Steps
 pub mod Gives
+pub mod Registered

@@ -1,5 +1,5 @@
 -- What the statements of a boot make, before what isn't held is gone. No public clause cites this module.
-use Rattle.std.specs.Prelude.{ℕ, ◌≡◌, ◌+◌, ◌*◌, ◌^◌, ◌<◌, ◌≤◌, ◌==◌, IsTrue, List, length, map, Some}
+use Rattle.std.specs.Prelude.{ℕ, ◌≡◌, ◌+◌, ◌*◌, ◌^◌, ◌<◌, ◌≤◌, ◌==◌, IsTrue, List, [], length, map, Some}
 use Rattle.std.specs.List.{count_by}
 use Rattle.std.specs.Ordering.{nat_cmp}
 use Rattle.std.specs.FinMap.Entries.{is_sorted}
@@ -30,8 +30,14 @@ pub record IsSound (ps : List Process) (m : Map Entry) (r : Objects) : Type 0 wh
   pub agrees : (k : ℕ) (o : Object) → get r.objects k ≡ Some o → Agrees (world_value ps r) k o.body
   pub in_jobs : (k : ℕ) (o : Object) → get r.objects k ≡ Some o → IsTrue (is_in_job r.objects o.body)
 
+-- no wait is registered, nor ever was
+pub record IsUnwatched (r : Objects) : Type 0 where
+  pub none : r.waits ≡ []
+  pub none_made : r.waits_made ≡ 0
+
 -- what statements have made; the handles m are given to a process that isn't there yet
 pub record IsMaking (processes : List Process) (m : Map Entry) (r : Objects) : Type 0 where
   pub sound : IsSound processes m r
   -- each table names an object 1,024 times at most
   pub few : (k : ℕ) → handles_to (world_value processes r) k ≤ 1024 * length processes
+  pub unwatched : IsUnwatched r

@@ -55,9 +55,10 @@ world_value processes objects = record {
   waits_made = 0;
 }
 
--- the same, where the processes with these koids block, the longest blocked first
+-- the same with the registered waits, where the processes with these koids block, the longest blocked first
 abbrev pub world_blocked : List Process → Objects → List ℕ → WorldValue
-world_blocked processes objects blocked = record (world_value processes objects) { blocked = blocked }
+world_blocked processes objects blocked =
+    record (world_value processes objects) { waits = objects.waits; waits_made = objects.waits_made; blocked = blocked }
 
 -- ---- what is seen of a process
 

@@ -7,3 +7,4 @@ pub mod Channel
 pub mod Reading
 pub mod Wait
 pub mod Port
+pub mod Async

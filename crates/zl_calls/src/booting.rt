@@ -8,7 +8,7 @@ ghost use Rattle.zl_rights.specs.Settle.{Settles};
 ghost use Rattle.zl_code.specs.Boot.{IsBoot, FirstFault, MOST_ITEMS, MOST_GRANTS, MOST_PROCESSES, MOST_KOIDS, boot_fault, rights_given};
 ghost use Rattle.zl_calls.specs.Consistent.{IsConsistent};
 ghost use Rattle.zl_objects.specs.Objects.{kind_at, root_alone};
-ghost use Rattle.zl_calls.specs.Making.{IsMaking};
+ghost use Rattle.zl_calls.specs.Making.{IsMaking, IsUnwatched};
 ghost use Rattle.zl_calls.specs.Makes.{Makes, seen, IsCauseOf, IsReached};
 ghost use Rattle.zl_calls.specs.Gives.{allowed, rights_if, IsBare, Gives};
 
@@ -39,6 +39,7 @@ pub struct Made {
 pub fn booted(alloc: Global, library: &Library, boot: &Boot) -> Result<Made, BootFault>
     ensures ok { IfOk result (λ made. IsBoot library.now boot.now.statements.items (seen made)) }
     ensures lab { IfOk result (λ made. IsConsistent made.processes.items made.objects) }
+    ensures unwatched { IfOk result (λ made. IsUnwatched made.objects) }
     ensures limit { OnOk result (boot.now.limit ≤ MOST_ITEMS) }
     ensures err { IfErr result (λ fault. fault.cause ≢ BootCause.NoMemory
         → FirstFault library.now boot.now.statements.items boot.now.limit
@@ -286,6 +287,7 @@ impl Made {
         requires { IsMaking self.old.processes.items [] self.old.objects }
         ensures settles { Settles (seen self.old) (seen self.new) }
         ensures lab { IsConsistent self.new.processes.items self.new.objects }
+        ensures unwatched { IsUnwatched self.new.objects }
     {
         // What is newer goes first, as a job is older than what is in it.
         for koid in (0..self.objects.end_of_koids()).rev() {

@@ -16,6 +16,7 @@ mod program;
 mod reading;
 mod running;
 mod stepping;
+mod waits;
 mod waking;
 mod world;
 mod writing;

@@ -1,10 +1,11 @@
 //! How blocked processes become ready: after each step, in the order in which they blocked.
 
 ghost use Rattle.std.specs.Prelude.{ℕ, ◌≡◌, ◌<◌, ◌^◌, [], ◌∷◌, Some, length, map, is_some, slice_get, vec_capacity};
+ghost use Rattle.std.specs.List.{fold};
 ghost use Rattle.std.specs.Option.{option_map};
 ghost use Rattle.zl_rights.specs.Map.{get};
 ghost use Rattle.zl_rights.specs.Numbers.{meets};
-ghost use Rattle.zl_rights.specs.Wakes.{packet_values, wakes};
+ghost use Rattle.zl_rights.specs.Wakes.{packet_values, woken};
 ghost use Rattle.zl_objects.specs.Ports.{changing_port, packets_in};
 ghost use Rattle.zl_objects.specs.Signals.{signals_at};
 ghost use Rattle.zl_port.specs.Packets.{without_front};
@@ -27,7 +28,7 @@ pub fn wake(processes: &mut Vec<Process>, objects: &mut Objects, blocked: &mut V
     requires lab { IsConsistent processes.old.items objects.old }
     requires list { AreBlocked processes.old.items blocked.old.items }
     ensures wakes { world_blocked processes.new.items objects.new blocked.new.items
-        ≡ wakes (world_blocked processes.old.items objects.old blocked.old.items) }
+        ≡ fold woken (world_blocked processes.old.items objects.old blocked.old.items) blocked.old.items }
     ensures lab { IsConsistent processes.new.items objects.new }
     ensures list { AreBlocked processes.new.items blocked.new.items }
     ensures count { length processes.new.items ≡ length processes.old.items }

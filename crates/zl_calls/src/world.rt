@@ -15,6 +15,7 @@ use crate::cpu::Cpu;
 use crate::process::Process;
 use crate::program::Library;
 use crate::stepping::{act_for, next_name, place_of};
+use crate::waits::{end_unheld, fire_waits};
 use crate::waking::wake;
 use std::alloc::Global;
 use std::marker::Model;
@@ -162,7 +163,9 @@ impl World {
     }
 
     /// Does the next instruction of the process, if the process is ready: the system call at which it
-    /// is, as `perform` does, or a local one, as `local` does. It looks the process up once.
+    /// is, as `perform` does, or a local one, as `local` does. Behind it registered waits end with their
+    /// handles, those that hold fire in the order of registration, and blocked processes wake in the
+    /// order in which they blocked. It looks the process up once.
     ///
     /// Nothing where the process isn't ready, or there is none of this koid.
     /// Source: that of `perform` and `local`.
@@ -179,6 +182,8 @@ impl World {
             pid,
         )?;
         add_blocked(&mut self.blocked, pid, &item);
+        end_unheld(&self.processes, &mut self.objects);
+        fire_waits(&self.processes, &mut self.objects);
         wake(&mut self.processes, &mut self.objects, &mut self.blocked);
         Some(item)
     }
@@ -186,8 +191,9 @@ impl World {
     /// Does the system call at which the process is, with all that follows from it.
     ///
     /// The process has to be ready and at a call. It takes no memory at `close`, `replace`,
-    /// `signal`, `signal_peer`, `wait_one`, `wait_poll`, `port_wait`, `port_poll` and `process_exit`;
-    /// a call that was refused memory is answered `NoMemory`. Processes that block or wake take none.
+    /// `signal`, `signal_peer`, `wait_one`, `wait_poll`, `port_wait`, `port_poll`, `port_cancel` and
+    /// `process_exit`; a call that was refused memory is answered `NoMemory`. Waits that fire or end,
+    /// and processes that block or wake, take none.
     /// Source: for each call its page of the Fuchsia documentation, as "zx_handle_close"; the order
     /// in which answers are looked for is own profile.
     pub fn perform(&mut self, pid: Pid) -> Outcome

@@ -5,7 +5,8 @@ use Rattle.zl_code.specs.declared.history.TraceItem.{TraceItem}
 use Rattle.zl_code.specs.Koids.{KeepsKoids}
 use Rattle.zl_code.specs.Handles.{Throughout}
 use Rattle.zl_code.proofs.Changes.{Changes, kept}
-use Rattle.zl_code.proofs.StepChanges.{step_changes, boot_changes}
+use Rattle.zl_code.proofs.StepChanges.{step_changes, settling_changes, boot_changes}
+use Rattle.zl_code.proofs.StepsBeside.{ActsAndSettles}
 use Rattle.zl_code.proofs.HandlesKept.{sound_change, sound_settled}
 use Rattle.zl_code.proofs.NamesKept.{QueueNames, no_queue, named_change, named_settled}
 use Rattle.zl_code.proofs.NotReused.{Keeps, nothing_changed, follows, koids_kept, Keeps-KeepsKoids, given_still, given_change, given_settled, stay_then, processes_kept}
@@ -56,6 +57,10 @@ step_sound lib w p x after s step = wholly_sound after live (nearly_kept w after
   where
     live : AreLive after
     live = rw step.ends_awake (live_awake step.settled (live_settled step.acted step.settled step.settles))
+
+-- what isn't held has gone, and nothing has woken yet
+pub settled_sound : (lib : Library) (w : World) (p : ℕ) (x : TraceItem) (after : World) → IsSound w → ActsAndSettles lib w p x after → IsSound after
+settled_sound lib w p x after s step = wholly_sound after (live_settled step.acted after step.settles) (nearly_kept w after (settling_changes lib w p x after step) s)
 
 -- a boot registers no wait
 no_wait_booted : (lib : Library) (w : World) (s : Statement) (vs : List ℕ) → (boot_effect lib w s vs).waits ≡ w.waits

@@ -19,6 +19,7 @@ use Rattle.zl_code.proofs.MapKept.{changed}
 use Rattle.zl_code.proofs.Changes.{AreUnmade, computes, Changes, stays, changes, settles, join, one, process_changes, process_ends, process_wakes, process_blocks, process_is_made, object_is_made, ends_are_made, packet_goes, waits_fire}
 use Rattle.zl_code.proofs.Entering.{IsFine, all_enter, all_leave, left_behind}
 use Rattle.zl_code.proofs.CallLaws.{laws}
+use Rattle.zl_code.proofs.StepsBeside.{ActsAndSettles}
 
 -- ---- calls
 
@@ -100,6 +101,12 @@ unfolding wakes
 waking_changes start w = changes w (fired w) _ (waits_fire start w) (turns_change start (fired w) w.blocked)
 
 -- ---- steps and boots
+
+-- up to where what isn't held has gone
+pub settling_changes : (lib : Library) (w : World) (p : ℕ) (x : TraceItem) (w2 : World) → ActsAndSettles lib w p x w2 → Changes w w w2
+settling_changes lib w p x w2 step =
+    join w w step.acted _ (act_changes lib w p step.process step.is_there step.is_ready (next_for lib step.process) x step.acted step.acts)
+    (settles step.acted w2 _ step.settles (stays w2))
 
 pub step_changes : (lib : Library) (w : World) (p : ℕ) (x : TraceItem) (w2 : World) → Step lib w p x w2 → Changes w w w2
 step_changes lib w p x w2 step =

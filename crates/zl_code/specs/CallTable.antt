@@ -60,10 +60,12 @@ request_of name.Signal (h ∷ clear ∷ set ∷ []) number bytes hs = Some (sign
 request_of name.SignalPeer (h ∷ clear ∷ set ∷ []) number bytes hs = Some (signal_peer h clear set)
 request_of name.WaitOne (h ∷ mask ∷ []) number bytes hs = Some (wait_one h mask)
 request_of name.WaitPoll (h ∷ mask ∷ []) number bytes hs = Some (wait_poll h mask)
+request_of name.WaitAsync (h ∷ port ∷ key ∷ mask ∷ []) number bytes hs = Some (wait_async h port key mask)
 request_of name.PortCreate [] number bytes hs = Some port_create
 request_of name.PortQueue (port ∷ key ∷ value ∷ []) number bytes hs = Some (port_queue port key value)
 request_of name.PortWait (port ∷ []) number bytes hs = Some (port_wait port)
 request_of name.PortPoll (port ∷ []) number bytes hs = Some (port_poll port)
+request_of name.PortCancel (port ∷ source ∷ key ∷ []) number bytes hs = Some (port_cancel port source key)
 request_of name.ProcessExit (code ∷ []) number bytes hs = Some (process_exit code)
 request_of _ operands number bytes hs = None
 

@@ -1,7 +1,7 @@
 -- Objects that are the same but for waits and reserved places: what doesn't see these.
-use Rattle.zl_rights.proofs.Common.{◌≡◌, ℕ, Bool, true, false, ◌&&◌, ◌||◌, ◌==◌, List, [], ◌∷◌, length, map, refl, sym, ap, ◌∙◌, subst, cond, Option, Some, None, IsTrue, arith, nat_lt, is_some, not, suc, option_map, list_any, count_by, sum_by-cons, below_all, is_sorted, nat_cmp, none-some, same_Some, Map, get, has_key, each}
+use Rattle.zl_rights.proofs.Common.{◌≡◌, ℕ, ◌&&◌, ◌||◌, List, [], ◌∷◌, length, map, refl, sym, ap, ◌∙◌, subst, cond, Option, Some, None, arith, nat_lt, is_some, not, suc, option_map, count_by, sum_by-cons, below_all, is_sorted, nat_cmp, none-some, same_Some, Map, get, has_key, each}
 use Rattle.std.specs.Ordering.{is_lt}
-use Rattle.zl_rights.specs.World.{Message, World, Object as ObjectValue}
+use Rattle.zl_rights.specs.World.{World}
 use Rattle.zl_rights.proofs.MapLaws.{get-each}
 use Rattle.zl_rights.proofs.MapTests.{list_any-each}
 use Rattle.zl_objects.specs.declared.object.Body.{Body}
@@ -11,7 +11,7 @@ use Rattle.zl_objects.specs.Objects.{has_living_child, is_job_at, is_job_in, is_
 use Rattle.zl_objects.specs.Dying.{is_named}
 use Rattle.zl_objects.specs.Ports.{unreserved}
 use Rattle.zl_objects.specs.Release.{AreKeptBut}
-use Rattle.zl_objects.specs.Seen.{Agrees, body_value, is_in_job, object_entry, object_value}
+use Rattle.zl_objects.specs.Seen.{Agrees, body_value, is_in_job, object_entry}
 use Rattle.zl_objects.specs.Waits.{AreSameButWaits, bare}
 
 -- the objects without waits and reserved places

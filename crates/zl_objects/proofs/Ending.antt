@@ -1,5 +1,5 @@
 -- The waits that end with an object that goes: its own, and those that give their packets to it.
-use Rattle.zl_rights.proofs.Common.{◌≡◌, ◌+◌, ◌<◌, ◌≤◌, ◌⊎◌, ℕ, Bool, true, false, not, ◌==◌, List, [], ◌∷◌, drop, filter, length, refl, sym, ap, ◌∙◌, subst, cond, Option, Some, None, inl, inr, IsTrue, arith, eq-eqb, nat_lt, if◌then◌else◌, is_some, option_map, slice_get, count_by, sum_by, sum_by-cons, cases_Bool, eqb-true, false≢true, none-some, same_Some, nat_tests, Map, get, has_key, update, without, each}
+use Rattle.zl_rights.proofs.Common.{◌≡◌, ◌+◌, ◌<◌, ◌≤◌, ◌⊎◌, ℕ, Bool, true, false, not, ◌==◌, List, [], ◌∷◌, drop, filter, length, refl, sym, ap, ◌∙◌, subst, cond, Option, Some, None, inl, inr, IsTrue, arith, eq-eqb, nat_lt, if◌then◌else◌, option_map, slice_get, count_by, sum_by, sum_by-cons, cases_Bool, eqb-true, false≢true, none-some, same_Some, nat_tests, Map, get, has_key, update, without, each}
 use Rattle.std.specs.Prelude.{◌-◌}
 use Rattle.zl_rights.proofs.MapLaws.{get-each, get-update}
 use Rattle.zl_table.proofs.MapEdits.{get-without}

@@ -4,7 +4,10 @@ pub mod Budget
 pub mod ByKoid
 pub mod Ending
 pub mod Found
+pub mod Kept
 pub mod Law
+pub mod Listed
+pub mod Lists
 pub mod Places
 pub mod Refusable
 pub mod Released

@@ -1,10 +1,10 @@
 -- The places that are reserved for the packets of waits, after each change of the objects.
-use Rattle.zl_rights.proofs.Common.{◌≡◌, ◌+◌, ◌<◌, ◌≤◌, ◌⊎◌, ℕ, suc, take, drop, Bool, true, false, not, ◌&&◌, ◌==◌, List, [], ◌∷◌, ◌++◌, refl, sym, ap, ◌∙◌, subst, cond, Option, Some, None, inl, inr, IsTrue, arith, eq-eqb, nat_lt, if◌then◌else◌, count_by, sum_by-cons, option_map, find, cases_Bool, eqb-true, false≢true, and_parts, and_from, nat_tests, Map, get, has_key, put, update}
+use Rattle.zl_rights.proofs.Common.{◌≡◌, ◌+◌, ◌<◌, ◌≤◌, ◌⊎◌, ℕ, suc, take, drop, Bool, true, false, ◌==◌, List, [], ◌∷◌, ◌++◌, refl, sym, ap, ◌∙◌, subst, cond, Option, Some, None, inl, inr, IsTrue, arith, eq-eqb, if◌then◌else◌, count_by, sum_by-cons, option_map, find, cases_Bool, eqb-true, false≢true, nat_tests, Map, get, has_key, put, update}
 use Rattle.std.specs.Prelude.{◌-◌}
 use Rattle.std.specs.List.{position_or_len}
 use Rattle.std.proofs.lemmas.List.Sums.{sum_by-append}
 use Rattle.zl_rights.proofs.MapLaws.{get-put, get-update}
-use Rattle.zl_table.proofs.MapEdits.{has_key-update, update_missing}
+use Rattle.zl_table.proofs.MapEdits.{update_missing}
 use Rattle.zl_signals.specs.declared.watch.Watch.{Watch}
 use Rattle.zl_signals.specs.Waits.{is_at_port, without_first}
 use Rattle.zl_port.specs.Packets.{Port, with_place, without_place}
@@ -44,7 +44,7 @@ cut_later n x xs =
     let two : ◌≡◌ {A = ℕ} (1 + n + 1) (suc (n + 1)) = omega arith in
     λ i. take (one i) (x ∷ xs) ++ drop (two i) (x ∷ xs)
 
-first_out : {X : Type 0} (test : X → Bool) (x : X) (xs : List X) → without_first test (x ∷ xs) ≡ cond (test x) xs (x ∷ without_first test xs)
+pub first_out : {X : Type 0} (test : X → Bool) (x : X) (xs : List X) → without_first test (x ∷ xs) ≡ cond (test x) xs (x ∷ without_first test xs)
 first_out test x xs = elim (cases_Bool (test x)) as (λ _. without_first test (x ∷ xs) ≡ cond (test x) xs (x ∷ without_first test xs)) [
   | inl here ↦ rw here refl
   | inr apart ↦ rw apart (cut_later (position_or_len test xs) x xs)

@@ -1,7 +1,8 @@
 -- What is left of the objects once handles have gone: each as it was, and the invariant holds.
-use Rattle.zl_rights.proofs.Common.{◌≡◌, ◌<◌, ◌≤◌, ◌+◌, ℕ, Bool, true, false, ◌&&◌, nat_lt, nat_tests, sym, ◌||◌, ◌==◌, ◌⊎◌, List, [], ◌∷◌, ◌++◌, length, if◌then◌else◌, refl, ap, ◌∙◌, subst, Option, Some, None, inl, inr, IsTrue, arith, is_some, list_any, append-nil, append_assoc, same_Some, or_left, or_right, cases_Bool, false≢true, Map, get, has_key, update, without}
+use Rattle.zl_rights.proofs.Common.{◌≡◌, ◌<◌, ◌≤◌, ℕ, true, false, sym, ◌||◌, ◌==◌, ◌⊎◌, List, [], ◌∷◌, ◌++◌, length, if◌then◌else◌, refl, ap, ◌∙◌, subst, Option, Some, None, inl, inr, IsTrue, arith, is_some, list_any, append-nil, append_assoc, same_Some, or_left, or_right, cases_Bool, false≢true, Map, get, has_key, update, without}
 use Rattle.std.proofs.lemmas.Bool.{or_cases}
 use Rattle.std.proofs.lemmas.List.Sums.{count_by-le-length}
+use Rattle.zl_rights.specs.World.{Wait}
 use Rattle.zl_table.proofs.MapEdits.{is_sorted-update, length-update}
 use Rattle.zl_objects.specs.declared.object.Body.{Body}
 use Rattle.zl_objects.specs.declared.object.Body.TheVariants as body
@@ -11,7 +12,7 @@ use Rattle.zl_objects.specs.Release.{named_in, AreKeptBut, Cascades, none_left, 
 use Rattle.zl_objects.specs.Dying.{HasPeer, IsWhole, LetsGo, Thins, budget, is_named}
 use Rattle.zl_objects.specs.Ports.{unreserved}
 use Rattle.zl_objects.specs.Seen.{body_value}
-use Rattle.zl_objects.specs.Waits.{HavePlaces, LeavesWaits}
+use Rattle.zl_objects.specs.Waits.{HavePlaces, KeepsWaits}
 use Rattle.zl_objects.proofs.Bare.{IsAlike, alike, length_same, of_body}
 use Rattle.zl_objects.proofs.Ending.{all_ports_there}
 use Rattle.zl_objects.proofs.Sums.{length_left}
@@ -125,16 +126,17 @@ whole_left ks m m2 next room room2 d d2 cascades places whole none same = record
 pub cascades_of : (ks : List ℕ) (m m2 : Map Object) (d d2 : List ℕ) → LetsGo ks m d m2 d2 → Cascades ks m m2
 cascades_of ks m m2 d d2 went = rw (append-nil ks) at (went.leads [] m2 (none_left m2))
 
-pub released : (ks loose : List ℕ) (m m2 : Map Object) (next : ℕ) (d d2 : List ℕ) → LetsGo ks m d m2 d2 → d ≡ loose → d2 ≡ [] → Releases ks loose (record { objects = m; next_koid = next }) (record { objects = m2; next_koid = next })
-released ks loose m m2 next d d2 went noted none = record {
+pub released : (ks loose : List ℕ) (m m2 : Map Object) (next made : ℕ) (waits waits2 : List Wait) (d d2 : List ℕ) → LetsGo ks m d m2 d2 → d ≡ loose → d2 ≡ []
+    → Releases ks loose (record { objects = m; next_koid = next; waits = waits; waits_made = made }) (record { objects = m2; next_koid = next; waits = waits2; waits_made = made })
+released ks loose m m2 next made waits waits2 d d2 went noted none = record {
   cascades = cascades_of ks m m2 d d2 went;
   keeps = λ others kept. rw (none, append-nil others) at (went.notes others (rw noted kept));
   koids = refl;
 }
 
 -- where waits ended with their ports alone, and each port that is left has places for those that are left
-pub waits_left : (ks : List ℕ) (m m2 : Map Object) (next : ℕ) → Cascades ks m m2 → HavePlaces m2 → ((k : ℕ) (o : Object) → get m2 k ≡ Some o → Thins m m2 k o) → LeavesWaits (record { objects = m; next_koid = next }) (record { objects = m2; next_koid = next })
-waits_left ks m m2 next cascades have thins k o at =
+pub waits_left : (ks : List ℕ) (m m2 : Map Object) → Cascades ks m m2 → HavePlaces m2 → ((k : ℕ) (o : Object) → get m2 k ≡ Some o → Thins m m2 k o) → (k : ℕ) (o : Object) → get m2 k ≡ Some o → KeepsWaits m m2 k o
+waits_left ks m m2 cascades have thins k o at =
     let was : Was m k o = cascaded_was ks m m2 cascades k o at in
     let thin : Thins m m2 k o = thins k o at in
     let one : was.before ≡ thin.before = same_Some was.before thin.before (sym was.there ∙ thin.there) in
@@ -168,9 +170,9 @@ noted_last others d j m kept = record { in_order = kept.in_order; noted = λ k o
     ]
 
 -- a process that has ended and then its job are looked at
-pub both_released : (m m1 m2 m3 : Map Object) (next pid job : ℕ) (d d1 d2 d3 : List ℕ) → d ≡ [] → d3 ≡ [] → LetsGo [] m (d ++ pid ∷ []) m1 d1 → LetsGo [] m1 (d1 ++ job ∷ []) m2 d2 → LetsGo [] m2 d2 m3 d3
-    → Releases [] (job ∷ pid ∷ []) (record { objects = m; next_koid = next }) (record { objects = m3; next_koid = next })
-both_released m m1 m2 m3 next pid job d d1 d2 d3 empty none first second rest = record {
+pub both_released : (m m1 m2 m3 : Map Object) (next made pid job : ℕ) (waits waits2 : List Wait) (d d1 d2 d3 : List ℕ) → d ≡ [] → d3 ≡ [] → LetsGo [] m (d ++ pid ∷ []) m1 d1 → LetsGo [] m1 (d1 ++ job ∷ []) m2 d2 → LetsGo [] m2 d2 m3 d3
+    → Releases [] (job ∷ pid ∷ []) (record { objects = m; next_koid = next; waits = waits; waits_made = made }) (record { objects = m3; next_koid = next; waits = waits2; waits_made = made })
+both_released m m1 m2 m3 next made pid job waits waits2 d d1 d2 d3 empty none first second rest = record {
   cascades = first.leads [] m3 (second.leads [] m3 (rest.leads [] m3 (none_left m3)));
   keeps = λ others kept. rw (none, append-nil others) at
       (rest.notes others (second.notes others (noted_last others d1 job m1 (first.notes (others ++ job ∷ []) (rw (empty, append_assoc others (job ∷ []) (pid ∷ [])) kept)))));

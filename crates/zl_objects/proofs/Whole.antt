@@ -1,5 +1,5 @@
 -- The invariant of the objects, after each change.
-use Rattle.zl_rights.proofs.Common.{◌≡◌, ◌<◌, ◌≤◌, ◌+◌, ◌^◌, ◌==◌, ◌⊎◌, ℕ, Bool, true, false, List, [], ◌∷◌, ◌++◌, length, refl, sym, ap, ◌∙◌, subst, cond, Option, Some, None, inl, inr, arith, eq-eqb, IsTrue, is_some, nat_lt, if◌then◌else◌, find, not, ◌&&◌, and_from, and_parts, count_by, nat_cmp, cases_Bool, false≢true, nat_tests, none-some, same_Some, Map, get, put, update, has_key, length-append, option_map, eqb-true}
+use Rattle.zl_rights.proofs.Common.{◌≡◌, ◌<◌, ◌≤◌, ◌+◌, ◌^◌, ◌==◌, ◌⊎◌, ℕ, Bool, true, false, List, [], ◌∷◌, ◌++◌, length, refl, sym, ap, ◌∙◌, subst, cond, Option, Some, None, inl, inr, arith, eq-eqb, IsTrue, is_some, nat_lt, if◌then◌else◌, find, count_by, nat_cmp, cases_Bool, false≢true, nat_tests, none-some, same_Some, Map, get, put, update, has_key, length-append, option_map, eqb-true}
 use Rattle.std.proofs.lemmas.List.Sums.{sum_by-append}
 use Rattle.std.specs.Prelude.{◌-◌, ◌↔◌, IfNone, IfSome, IsSome, Result, Ok, Err, OnOk, OnErr, is_err}
 use Rattle.std.specs.Cmp.{unsigned_tied}
@@ -81,7 +81,7 @@ same_peer f same m next o has = rw (same o) has
 pub more_same : (o : Object) → (held_once_more o).body ≡ o.body
 more_same o = elim (nat_lt o.handles (2 ^ 62)) as (λ b. (if b then record o { handles = o.handles + 1 } else o).body ≡ o.body) [ true ↦ refl | false ↦ refl ]
 
-more_quiet : (o : Object) → (held_once_more o).signals ≡ o.signals
+pub more_quiet : (o : Object) → (held_once_more o).signals ≡ o.signals
 more_quiet o = elim (nat_lt o.handles (2 ^ 62)) as (λ b. (if b then record o { handles = o.handles + 1 } else o).signals ≡ o.signals) [ true ↦ refl | false ↦ refl ]
 
 -- one handle more
@@ -258,26 +258,27 @@ created_there m n k o into = rw (into, inserted m k o, get-put m k o k, same) re
 
 -- ---- both ends of a channel more
 
-abbrev end_of : ℕ → ℕ → Object
+abbrev pub end_of : ℕ → ℕ → Object
 end_of peer handles = new_object (body.ChannelEnd peer []) handles
+
+-- all koids lie below the one after the new object's
+pub below_first : (m n : Map Object) (next : ℕ) (o : Object) → ((j : ℕ) → IsTrue (has_key m j) → j < next) → n ≡ insert_entry nat_cmp m next o → (j : ℕ) → IsTrue (has_key n j) → j < next + 1
+below_first m n next o below into j there = elim (put_key m next o j (rw (into, inserted m next o) at there)) as (λ _. j < next + 1) [
+  | inl here ↦ omega (arith, here)
+  | inr old ↦ omega (arith, below j old)
+]
 
 -- the second end goes behind the first
 pub channel_created : (m n n2 : Map Object) (next : ℕ) (o o2 : Object) → ((j : ℕ) → IsTrue (has_key m j) → j < next) → n ≡ insert_entry nat_cmp m next o → n2 ≡ insert_entry nat_cmp n (next + 1) o2 → n2 ≡ (m ++ (next, o) ∷ []) ++ (next + 1, o2) ∷ []
 channel_created m n n2 next o o2 below into into2 =
-    into2 ∙ (entry_inserted n (next + 1) o2 below_first ∙ ap (λ (x : Map Object). x ++ (next + 1, o2) ∷ []) (into ∙ entry_inserted m next o below))
-  where
-    below_first : (j : ℕ) → IsTrue (has_key n j) → j < next + 1
-    below_first j there = elim (put_key m next o j (rw (into, inserted m next o) at there)) as (λ _. j < next + 1) [
-      | inl here ↦ omega (arith, here)
-      | inr old ↦ omega (arith, below j old)
-    ]
+    into2 ∙ (entry_inserted n (next + 1) o2 (below_first m n next o below into) ∙ ap (λ (x : Map Object). x ++ (next + 1, o2) ∷ []) (into ∙ entry_inserted m next o below))
 
 pub channel_whole : (m n n2 : Map Object) (next room room2 handles : ℕ) (d d2 : List ℕ) (o o2 : Object) → IsWhole None m next d room → o ≡ end_of (next + 1) handles → o2 ≡ end_of next handles → d2 ≡ d → length m + 2 ≤ room2
     → n ≡ insert_entry nat_cmp m next o → n2 ≡ insert_entry nat_cmp n (next + 1) o2 → IsWhole None n2 (next + 1 + 1) d2 room2
 channel_whole m n n2 next room room2 handles d d2 o o2 whole first second same more into into2 = rw same record {
   below = λ k there. below_second k (rw is_put2 at there);
   peers = λ k q at. by_key k q (cases_Bool (next + 1 == k)) (cases_Bool (next == k)) (sym (get_second k) ∙ at);
-  places = rw is_put2 (places_put n (next + 1) o2 below_first (rw second refl) (rw is_put (places_put m next o whole.below (rw first refl) whole.places)));
+  places = rw is_put2 (places_put n (next + 1) o2 below (rw second refl) (rw is_put (places_put m next o whole.below (rw first refl) whole.places)));
   enough = rw (channel_created m n n2 next o o2 whole.below into into2) (omega (arith, more, length-append (m ++ (next, o) ∷ []) ((next + 1, o2) ∷ []), length-append m ((next, o) ∷ [])));
   none = whole.none;
 }
@@ -288,16 +289,13 @@ channel_whole m n n2 next room room2 handles d d2 o o2 whole first second same m
     is_put2 : n2 ≡ put n (next + 1) o2
     is_put2 = into2 ∙ inserted n (next + 1) o2
 
-    below_first : (j : ℕ) → IsTrue (has_key n j) → j < next + 1
-    below_first j there = elim (put_key m next o j (rw is_put at there)) as (λ _. j < next + 1) [
-      | inl here ↦ omega (arith, here)
-      | inr old ↦ omega (arith, whole.below j old)
-    ]
+    below : (j : ℕ) → IsTrue (has_key n j) → j < next + 1
+    below = below_first m n next o whole.below into
 
     below_second : (j : ℕ) → IsTrue (has_key (put n (next + 1) o2) j) → j < next + 1 + 1
     below_second j there = elim (put_key n (next + 1) o2 j there) as (λ _. j < next + 1 + 1) [
       | inl here ↦ omega (arith, here)
-      | inr old ↦ omega (arith, below_first j old)
+      | inr old ↦ omega (arith, below j old)
     ]
 
     get_second : (k : ℕ) → get n2 k ≡ (if next + 1 == k then Some o2 else (if next == k then Some o else get m k))
@@ -323,7 +321,7 @@ channel_whole m n n2 next room room2 handles d d2 o o2 whole first second same m
     by_key k q (inl last) other read = subst (λ (x : Object). HasPeer n2 (next + 1 + 1) x.body) (sym second ∙ same_Some o2 q (rw last at read)) (omega arith, λ there. first_there)
     by_key k q (inr apart) (inl here) read = subst (λ (x : Object). HasPeer n2 (next + 1 + 1) x.body) (sym first ∙ same_Some o q (rw (apart, here) at read)) (omega arith, λ there. second_there)
     by_key k q (inr apart) (inr old) read =
-        rw is_put2 (later_peer n (next + 1) o2 q.body below_first (rw is_put (later_peer m next o q.body whole.below (whole.peers k q (rw (apart, old) at read)))))
+        rw is_put2 (later_peer n (next + 1) o2 q.body below (rw is_put (later_peer m next o q.body whole.below (whole.peers k q (rw (apart, old) at read)))))
 
 -- the first end is taken back where there is no memory for the second
 pub end_taken : (m n n2 n3 : Map Object) (next : ℕ) (o : Object) → ((j : ℕ) → IsTrue (has_key m j) → j < next) → n ≡ insert_entry nat_cmp m next o → n2 ≡ n → n3 ≡ remove_entry (is_at (nat_cmp next)) n2 → n3 ≡ m
@@ -476,6 +474,3 @@ popped_whole m n next koid room d (Some p) whole newest alone unreserved there f
         by_key (inr apart) =
             let reserved : reserved_in (get n.entries j) ≡ reserved_in (get m.entries j) = ap reserved_in (same j apart) in
             omega (arith, waits j, whole.places j, reserved)
-
--- what the methods of objects cite
-pub ruleset whole = (none_whole, more_whole, changed_whole, stopped_whole, sent_whole, received_whole, inserted_whole, roomy_whole)

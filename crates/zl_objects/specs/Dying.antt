@@ -2,12 +2,14 @@
 use Rattle.std.specs.Prelude.{ℕ, ◌≡◌, ◌+◌, ◌<◌, ◌≤◌, Bool, false, ◌==◌, nat_lt, not, IsTrue, List, [], ◌++◌, length, Option, Some, None, if◌then◌else◌}
 use Rattle.std.specs.List.{count_by, filter}
 use Rattle.zl_rights.specs.Map.{Map, get, has_key, without}
+use Rattle.zl_rights.specs.World.{Wait}
 use Rattle.zl_signals.specs.declared.watch.Watch.{Watch}
 use Rattle.zl_objects.specs.declared.object.Body.{Body}
 use Rattle.zl_objects.specs.declared.object.Body.TheVariants as body
 use Rattle.zl_objects.specs.declared.object.Object.{Object}
 use Rattle.zl_objects.specs.Objects.{is_end_at, is_kept}
 use Rattle.zl_objects.specs.Release.{AreKeptBut, Cascades}
+use Rattle.zl_objects.specs.Listed.{AreListed}
 use Rattle.zl_objects.specs.Waits.{HavePlaces, HavePlacesWith}
 
 -- one handle alone names the object that was found
@@ -63,3 +65,8 @@ pub record IsWhole (more : Option Watch) (m : Map Object) (next_koid : ℕ) (dyi
   pub places : HavePlacesWith more m
   pub enough : length m ≤ room
   pub none : dying ≡ []
+
+-- and the list of all waits has those of each object, in their order
+pub record IsKept (more : Option Watch) (m : Map Object) (next_koid : ℕ) (dying : List ℕ) (room : ℕ) (waits : List Wait) : Type 0 where
+  pub whole : IsWhole more m next_koid dying room
+  pub listed : AreListed waits m

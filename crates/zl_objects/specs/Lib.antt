@@ -5,3 +5,5 @@ pub mod Dying
 pub mod Signals
 pub mod Ports
 pub mod Waits
+pub mod Listed
+pub mod Asked

@@ -5,16 +5,18 @@ use Rattle.std.specs.Option.{option_map}
 use Rattle.zl_rights.specs.declared.kind.Kind.{Kind}
 use Rattle.zl_rights.specs.declared.kind.Kind.TheVariants as kind
 use Rattle.zl_rights.specs.Map.{Map, get, update, has_key}
-use Rattle.zl_rights.specs.World.{Message}
+use Rattle.zl_rights.specs.World.{Message, Wait}
 use Rattle.zl_signals.specs.Waits.{with_changed}
 use Rattle.zl_objects.specs.declared.object.Body.{Body}
 use Rattle.zl_objects.specs.declared.object.Body.TheVariants as body
 use Rattle.zl_objects.specs.declared.object.Object.{Object}
 
--- the objects by koid, and the least koid that was not given yet
+-- the objects by koid, the least koid that was not given yet, all registered waits, the earliest first, and how many ever were
 pub record Objects : Type 0 where
   pub objects : Map Object
   pub next_koid : ℕ
+  pub waits : List Wait
+  pub waits_made : ℕ
 
 -- ---- koids
 
@@ -182,14 +184,14 @@ new_object body handles = record { body = body; signals = record { raised = 0; w
 
 -- the objects with a new one, which gets the next koid
 abbrev pub with_new : Objects → Body → ℕ → Objects
-with_new r body handles = record {
+with_new r body handles = record r {
   objects = r.objects ++ (r.next_koid, new_object body handles) ∷ [];
   next_koid = r.next_koid + 1;
 }
 
 -- the root job alone
 abbrev pub root_alone : Objects
-root_alone = record { objects = (1, new_object body.RootJob 0) ∷ []; next_koid = 2 }
+root_alone = record { objects = (1, new_object body.RootJob 0) ∷ []; next_koid = 2; waits = []; waits_made = 0 }
 
 -- the objects with both ends of a new channel, which are peers of each other; the first has the lower koid
 abbrev pub with_channel : Objects → ℕ → Objects
@@ -198,7 +200,7 @@ with_channel r handles =
 
 -- the objects without the newest, which had the koid k
 abbrev pub without_newest : Objects → ℕ → Objects
-without_newest r k = record { objects = take (length r.objects - 1) r.objects; next_koid = k }
+without_newest r k = record r { objects = take (length r.objects - 1) r.objects; next_koid = k }
 
 -- the objects, where one handle more names the object k
 abbrev pub holding : Objects → ℕ → Objects

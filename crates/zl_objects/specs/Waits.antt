@@ -5,7 +5,7 @@ use Rattle.zl_rights.specs.Map.{Map, each, get, has_key, update}
 use Rattle.zl_rights.specs.World.{Packet}
 use Rattle.zl_signals.specs.declared.watch.Watch.{Watch}
 use Rattle.zl_signals.specs.Waits.{holds, is_at_port, next_order, with_wait, without_port, without_wait}
-use Rattle.zl_port.specs.Packets.{Port, with_packet, with_place, without_place}
+use Rattle.zl_port.specs.Packets.{Port, with_packet, without_place}
 use Rattle.zl_objects.specs.declared.object.Object.{Object}
 use Rattle.zl_objects.specs.Objects.{Objects}
 use Rattle.zl_objects.specs.Ports.{at_port, reserved_in, reserved_of, unreserved}
@@ -63,10 +63,6 @@ watched x o = record o { signals = with_wait o.signals x }
 -- the object without the earliest wait that passes the test
 abbrev pub unwatched : (Watch → Bool) → Object → Object
 unwatched test o = record o { signals = without_wait o.signals test }
-
--- the objects, where the wait was registered at the object k, with a place for its packet at its port
-abbrev pub watching : Objects → ℕ → Watch → Objects
-watching r k x = record r { objects = update (update r.objects x.port (at_port with_place)) k (watched x) }
 
 -- the objects, where the port of the wait that was found is as f leaves it
 abbrev pub at_port_of : Option Watch → (Watch → Port → Port) → Map Object → Map Object

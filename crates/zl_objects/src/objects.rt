@@ -5,18 +5,21 @@ ghost use Rattle.zl_channel.specs.Queue.{front_entry, front_sizes, is_too_large,
 ghost use Rattle.zl_objects.specs.Ports.{reserved_in, reserved_of};
 ghost use Rattle.zl_objects.specs.Release.{Ends, Releases};
 ghost use Rattle.zl_objects.specs.Seen.{LeavesLargest};
-ghost use Rattle.zl_objects.specs.Waits.{LeavesWaits};
+ghost use Rattle.zl_objects.specs.Listed.{LeavesListed};
+ghost use Rattle.zl_objects.specs.Waits.{waits_in, LeavesWaits};
 
+use crate::listing::keep_there;
 use crate::object::{Body, Object};
 use crate::releasing::{let_go, remove_dying, remove_unkept};
+use crate::wait::Wait;
 use std::alloc::{AllocError, Global};
-use std::collections::BTreeMap;
+use std::collections::{BTreeMap, VecDeque};
 use std::marker::Model;
 use zl_channel::{ChannelEnd, Message, PushFault};
 use zl_rights::{Entry, Kind, Koid, Signals};
 use zl_signals::SignalState;
 
-/// The objects by koid, and the least koid that was not given yet.
+/// The objects by koid, the least koid that was not given yet, and all registered waits.
 ///
 /// Source: the pages "Kernel objects" and "Handles" of the Fuchsia documentation.
 #[derive(Drop)]
@@ -26,22 +29,33 @@ pub struct Objects {
     // The objects that are to be looked at, as no handle names them. There is room for each object,
     // so that none takes memory to go.
     dying: Vec<Koid>,
+    // All waits, the earliest registered first; each stands at its object too.
+    pub(crate) waits: VecDeque<Wait>,
+    // How many waits ever were registered.
+    pub(crate) waits_made: u64,
 }
 
 impl Model for Objects {
-    ghost use Rattle.std.specs.Prelude.{None, vec_capacity};
+    ghost use Rattle.std.specs.Prelude.{None, map, vec_capacity};
     ghost use Rattle.zl_objects.specs.Objects.{Objects as ObjectsValue};
-    ghost use Rattle.zl_objects.specs.Dying.{IsWhole};
+    ghost use Rattle.zl_objects.specs.Dying.{IsKept};
+    ghost use Rattle.zl_objects.specs.Listed.{wait_value};
 
     ghost Value = { ObjectsValue };
 
-    ghost view = { λ o. record { objects = o.by_koid.entries; next_koid = o.next_koid } };
+    ghost view = { λ o. record {
+      objects = o.by_koid.entries;
+      next_koid = o.next_koid;
+      waits = map wait_value o.waits.items;
+      waits_made = o.waits_made;
+    } };
 
     ghost invariant = { λ o.
-        IsWhole None o.by_koid.entries o.next_koid o.dying.items (vec_capacity o.dying) };
+        IsKept None o.by_koid.entries o.next_koid o.dying.items (vec_capacity o.dying)
+        (map wait_value o.waits.items) };
 }
 
-#[tactic(auto, using(crate::proofs::ByKoid::by_koid, crate::proofs::Whole::whole))]
+#[tactic(auto, using(crate::proofs::ByKoid::by_koid, crate::proofs::Kept::kept))]
 impl Objects {
     /// The koid of the root job.
     pub const ROOT_JOB: Koid = 1;
@@ -57,6 +71,8 @@ impl Objects {
             by_koid: BTreeMap::new(alloc),
             next_koid: Objects::ROOT_JOB,
             dying: Vec::new(alloc),
+            waits: VecDeque::new(alloc),
+            waits_made: 0,
         };
         objects.create(Body::RootJob, 0)?;
         Ok(objects)
@@ -145,12 +161,14 @@ impl Objects {
     }
 
     /// Takes the newest object back, with its koid, as if it had not been made. The koid has to be
-    /// the one given last, and that of no end of a channel; at a port no place may be reserved.
+    /// the one given last, and that of no end of a channel; no wait may be registered at it, and at
+    /// a port no place be reserved.
     pub fn take_back(&mut self, koid: Koid)
         requires newest { self.old.next_koid ≡ koid + 1 }
         requires there { IsTrue (has_key self.old.objects koid) }
         requires alone { is_end_at self.old.objects koid ≡ false }
         requires unreserved { reserved_in (get self.old.objects koid) ≡ 0 }
+        requires unwatched { waits_in (get self.old.objects koid) ≡ [] }
         ensures { self.new ≡ without_newest self.old koid }
     {
         self.by_koid.pop_last();
@@ -164,9 +182,10 @@ impl Objects {
 
     /// All objects are gone. It takes no memory.
     pub fn clear(&mut self)
-        ensures { self.new ≡ record self.old { objects = [] } }
+        ensures { self.new ≡ record self.old { objects = []; waits = [] } }
     {
         self.by_koid.clear();
+        self.waits.clear();
     }
 
     /// Whether the koid is that of a job.
@@ -286,9 +305,11 @@ impl Objects {
         ensures releases { Releases (koid ∷ []) [] self.old self.new }
         ensures largest { LeavesLargest (koid ∷ []) [] self.old self.new }
         ensures waits { LeavesWaits self.old self.new }
+        ensures listed { LeavesListed self.old self.new }
     {
         let_go(&mut self.by_koid, &mut self.dying, koid);
         remove_dying(&mut self.by_koid, &mut self.dying);
+        keep_there(&mut self.waits, &self.by_koid);
     }
 
     /// The object goes if nothing keeps it, and what isn't held any more then. It takes no memory.
@@ -296,9 +317,11 @@ impl Objects {
         ensures releases { Releases [] (koid ∷ []) self.old self.new }
         ensures largest { LeavesLargest [] (koid ∷ []) self.old self.new }
         ensures waits { LeavesWaits self.old self.new }
+        ensures listed { LeavesListed self.old self.new }
     {
         remove_unkept(&mut self.by_koid, &mut self.dying, koid);
         remove_dying(&mut self.by_koid, &mut self.dying);
+        keep_there(&mut self.waits, &self.by_koid);
     }
 
     /// The process has ended, and what isn't held any more goes, with the waits as in `release`. It
@@ -307,12 +330,14 @@ impl Objects {
         ensures ends { Ends pid self.old self.new }
         ensures waits { IfSome (job_in (get self.old.objects pid))
             (λ job. LeavesWaits (stopping self.old pid) self.new) }
+        ensures listed { LeavesListed self.old self.new }
     {
-        if let Some(job) = self.job_of(pid) {
+        if let Some(job) = job_of(&self.by_koid, pid) {
             self.stop(pid);
             remove_unkept(&mut self.by_koid, &mut self.dying, pid);
             remove_unkept(&mut self.by_koid, &mut self.dying, job);
             remove_dying(&mut self.by_koid, &mut self.dying);
+            keep_there(&mut self.waits, &self.by_koid);
         }
     }
 
@@ -325,13 +350,14 @@ impl Objects {
         };
         object.stop();
     }
+}
 
-    /// The job of the process.
-    fn job_of(&self, pid: Koid) -> Option<Koid>
-        ensures { result ≡ job_in (get self.now.objects pid) }
-    {
-        self.by_koid.get(&pid)?.body.job()
-    }
+/// The job of the process.
+#[tactic(auto, using(crate::proofs::ByKoid::by_koid))]
+fn job_of(by_koid: &BTreeMap<Koid, Object>, pid: Koid) -> Option<Koid>
+    ensures { result ≡ job_in (get by_koid.now.entries pid) }
+{
+    by_koid.get(&pid)?.body.job()
 }
 
 /// An end of a channel, at which nothing is to be read, and which so many handles name.

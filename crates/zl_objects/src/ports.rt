@@ -92,7 +92,7 @@ impl Body {
     }
 }
 
-#[tactic(auto, using(crate::proofs::ByKoid::by_koid, crate::proofs::Whole::whole))]
+#[tactic(auto, using(crate::proofs::ByKoid::by_koid, crate::proofs::Kept::kept))]
 impl Objects {
     /// Makes a port without packets that so many handles name, and gives its koid. A koid has to be
     /// left.

@@ -1,5 +1,5 @@
 use crate::releasing::has_reserved;
-use crate::{Body, Objects};
+use crate::{Body, Objects, Wait};
 use bitflags::Flags;
 use std::alloc::{AllocError, Global};
 use std::test::Fail;
@@ -100,26 +100,34 @@ fn new_port(objects: &mut Objects) -> Result<Koid, AllocError> {
 }
 
 /// A wait of process 2 by its handle 1 for the signals, which gives a packet with the key.
-fn wait_for(port: Koid, mask: Signals, key: u64, order: u64) -> Watch {
-    Watch {
+fn wait_for(object: Koid, port: Koid, mask: Signals, key: u64) -> Wait {
+    Wait {
         pid: 2,
         value: 1,
+        object,
         port,
         key,
         mask,
-        order,
     }
 }
 
 /// Registers the wait, and once more where there was no memory for it.
-fn watch(objects: &mut Objects, koid: Koid, wait: Watch) -> Result<(), AllocError> {
-    if objects.kind_of(koid).is_none() || !objects.is_port(wait.port) {
+fn watch(objects: &mut Objects, wait: Wait) -> Result<(), AllocError> {
+    if objects.kind_of(wait.object).is_none() || !objects.is_port(wait.port) {
         return Err(AllocError);
     }
-    match objects.watch(koid, wait) {
-        Ok(()) => Ok(()),
-        Err(refused) => objects.watch(koid, refused.value).map_err(|_| AllocError),
+    if !objects.may_register() {
+        return Err(AllocError);
     }
+    match objects.watch(wait) {
+        Ok(()) => Ok(()),
+        Err(_) => objects.watch(wait),
+    }
+}
+
+/// The key of the wait at the place, from 0, in the list of all.
+fn listed(objects: &Objects, place: usize) -> Option<u64> {
+    Some(objects.wait_at(place)?.key)
 }
 
 /// The key of a wait that was taken out.
@@ -154,24 +162,12 @@ fn waits_fire_in_the_order_of_their_registration(rt: HostRuntime) -> Result<(), 
     let mut objects = Objects::new(rt.alloc())?;
     let (first, second) = new_channel(&mut objects)?;
     let port = new_port(&mut objects)?;
-    watch(&mut objects, first, wait_for(port, Signals::USER_0, 5, 10))?;
-    watch(
-        &mut objects,
-        first,
-        wait_for(port, Signals::WRITABLE, 6, 20),
-    )?;
-    watch(
-        &mut objects,
-        second,
-        wait_for(port, Signals::WRITABLE, 7, 30),
-    )?;
-    watch(
-        &mut objects,
-        first,
-        wait_for(port, Signals::WRITABLE, 8, 40),
-    )?;
+    watch(&mut objects, wait_for(first, port, Signals::USER_0, 5))?;
+    watch(&mut objects, wait_for(first, port, Signals::WRITABLE, 6))?;
+    watch(&mut objects, wait_for(second, port, Signals::WRITABLE, 7))?;
+    watch(&mut objects, wait_for(first, port, Signals::WRITABLE, 8))?;
     let active = objects.signals_of(first);
-    assert_eq!(rt; objects.next_order(first, active), Some(20));
+    assert_eq!(rt; objects.next_order(first, active), Some(1));
     assert_eq!(rt; key(objects.fire(first, active)), Some(6));
     assert_eq!(rt; key(objects.fire(first, active)), Some(8));
     assert_eq!(rt; objects.next_order(first, active), None);
@@ -181,7 +177,7 @@ fn waits_fire_in_the_order_of_their_registration(rt: HostRuntime) -> Result<(), 
         key(objects.fire(first, objects.signals_of(first))),
         Some(5)
     );
-    assert_eq!(rt; objects.next_order(second, active), Some(30));
+    assert_eq!(rt; objects.next_order(second, active), Some(2));
     assert_eq!(rt; numbers(objects.pop(port)), Some([6, 1, 2, 2]));
     assert_eq!(rt; numbers(objects.pop(port)), Some([8, 1, 2, 2]));
     assert_eq!(rt;
@@ -199,8 +195,7 @@ fn only_the_waits_that_are_named_end(rt: HostRuntime) -> Result<(), Fail> {
     for n in 0..4 {
         watch(
             &mut objects,
-            Objects::ROOT_JOB,
-            wait_for(port, Signals::NO_JOBS, n, n),
+            wait_for(Objects::ROOT_JOB, port, Signals::NO_JOBS, n),
         )?;
     }
     assert!(rt; objects.unwatch_key(Objects::ROOT_JOB, 2, 1, 8, 2).is_none());
@@ -230,8 +225,7 @@ fn packets_are_queued_and_cancelled(rt: HostRuntime) -> Result<(), Fail> {
     assert!(rt; queue(&mut objects, port, 5, 6));
     watch(
         &mut objects,
-        Objects::ROOT_JOB,
-        wait_for(port, Signals::NO_JOBS, 7, 0),
+        wait_for(Objects::ROOT_JOB, port, Signals::NO_JOBS, 7),
     )?;
     assert!(rt; objects.fire(Objects::ROOT_JOB, Signals::NO_JOBS).is_some());
     let source = Source {
@@ -252,10 +246,10 @@ fn a_port_that_goes_leaves_no_wait(rt: HostRuntime) -> Result<(), Fail> {
     let (first, second) = new_channel(&mut objects)?;
     let port = new_port(&mut objects)?;
     let other = new_port(&mut objects)?;
-    watch(&mut objects, first, wait_for(port, Signals::USER_0, 5, 0))?;
-    watch(&mut objects, first, wait_for(other, Signals::USER_0, 6, 1))?;
-    watch(&mut objects, second, wait_for(port, Signals::USER_0, 7, 2))?;
-    watch(&mut objects, first, wait_for(port, Signals::USER_0, 8, 3))?;
+    watch(&mut objects, wait_for(first, port, Signals::USER_0, 5))?;
+    watch(&mut objects, wait_for(first, other, Signals::USER_0, 6))?;
+    watch(&mut objects, wait_for(second, port, Signals::USER_0, 7))?;
+    watch(&mut objects, wait_for(first, port, Signals::USER_0, 8))?;
     objects.release(port);
     assert!(rt; objects.kind_of(port).is_none());
     assert!(rt; objects.unwatch_port(first, port).is_none());
@@ -281,14 +275,42 @@ fn an_object_that_goes_gives_its_places_back(rt: HostRuntime) -> Result<(), Fail
     let (first, second) = new_channel(&mut objects)?;
     let port = new_port(&mut objects)?;
     assert!(rt; !reserved(&objects, port));
-    watch(&mut objects, first, wait_for(port, Signals::USER_0, 5, 0))?;
-    watch(&mut objects, second, wait_for(port, Signals::USER_0, 6, 1))?;
-    watch(&mut objects, first, wait_for(port, Signals::USER_0, 7, 2))?;
+    watch(&mut objects, wait_for(first, port, Signals::USER_0, 5))?;
+    watch(&mut objects, wait_for(second, port, Signals::USER_0, 6))?;
+    watch(&mut objects, wait_for(first, port, Signals::USER_0, 7))?;
     objects.release(first);
     assert!(rt; reserved(&objects, port));
     assert_eq!(rt; key(objects.unwatch_port(second, port)), Some(6));
     assert!(rt; !reserved(&objects, port));
     assert!(rt; objects.pop(port).is_none());
+    Ok(())
+}
+
+#[test]
+fn all_waits_are_listed_in_the_order_of_their_registration(rt: HostRuntime) -> Result<(), Fail> {
+    let mut objects = Objects::new(rt.alloc())?;
+    let (first, second) = new_channel(&mut objects)?;
+    let port = new_port(&mut objects)?;
+    let other = new_port(&mut objects)?;
+    assert_eq!(rt; listed(&objects, 0), None);
+    watch(&mut objects, wait_for(second, port, Signals::USER_0, 5))?;
+    watch(&mut objects, wait_for(first, other, Signals::USER_0, 6))?;
+    watch(&mut objects, wait_for(second, other, Signals::USER_0, 7))?;
+    watch(&mut objects, wait_for(first, port, Signals::USER_0, 8))?;
+    assert_eq!(rt; listed(&objects, 0), Some(5));
+    assert_eq!(rt; listed(&objects, 1), Some(6));
+    assert_eq!(rt; listed(&objects, 3), Some(8));
+    assert_eq!(rt; listed(&objects, 4), None);
+    assert_eq!(rt; key(objects.fire(first, Signals::USER_0)), Some(6));
+    assert_eq!(rt; listed(&objects, 1), Some(7));
+    objects.release(port);
+    assert_eq!(rt; listed(&objects, 0), Some(7));
+    assert_eq!(rt; listed(&objects, 1), None);
+    watch(&mut objects, wait_for(first, other, Signals::USER_0, 9))?;
+    assert_eq!(rt; objects.next_order(first, Signals::USER_0), Some(4));
+    objects.release(second);
+    assert_eq!(rt; listed(&objects, 0), Some(9));
+    assert_eq!(rt; listed(&objects, 1), None);
     Ok(())
 }
 
@@ -300,9 +322,9 @@ fn waits_end_with_a_port_in_a_queue(rt: HostRuntime) -> Result<(), Fail> {
     let port = new_port(&mut objects)?;
     let other = new_port(&mut objects)?;
     send(rt.alloc(), &mut objects, first, port)?;
-    watch(&mut objects, first, wait_for(port, Signals::USER_0, 5, 0))?;
-    watch(&mut objects, first, wait_for(other, Signals::USER_0, 6, 1))?;
-    watch(&mut objects, second, wait_for(other, Signals::USER_0, 7, 2))?;
+    watch(&mut objects, wait_for(first, port, Signals::USER_0, 5))?;
+    watch(&mut objects, wait_for(first, other, Signals::USER_0, 6))?;
+    watch(&mut objects, wait_for(second, other, Signals::USER_0, 7))?;
     objects.release(second);
     assert!(rt; objects.kind_of(port).is_none());
     assert!(rt; objects.unwatch_port(first, port).is_none());

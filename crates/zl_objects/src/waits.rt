@@ -1,15 +1,18 @@
 //! The waits that are registered at the objects. Each has a place for its packet at its port.
 
-ghost use Rattle.std.specs.Prelude.{◌≡◌, IsTrue, IfErr, IfNone, OnErr, OnOk};
+ghost use Rattle.std.specs.Prelude.{◌≡◌, IsTrue, IfErr, IfNone, OnErr, OnOk, option_map};
 ghost use Rattle.std.specs.List.{find};
 ghost use Rattle.zl_rights.specs.Map.{get, has_key, update};
 ghost use Rattle.zl_port.specs.Packets.{with_packet, with_place, without_place};
-ghost use Rattle.zl_signals.specs.Waits.{holds, is_at_port, is_by_handle, is_keyed};
+ghost use Rattle.zl_signals.specs.Waits.{holds, is_at_port, is_by_handle, is_keyed, wait_at};
 ghost use Rattle.zl_objects.specs.Ports.{at_port, has_place_in, is_port_at};
-ghost use Rattle.zl_objects.specs.Waits.{firing, next_in, packet_of, unwatched, unwatching, waits_in, watched, watching, without_port_waits};
+ghost use Rattle.zl_objects.specs.Listed.{holds_at, is_given_from, is_keyed_at, is_made_at, may_register, unlisting, watch_of, watching};
+ghost use Rattle.zl_objects.specs.Waits.{firing, next_in, packet_of, unwatched, unwatching, waits_in, watched, without_port_waits};
 
+use crate::listing::unlist;
 use crate::object::Object;
 use crate::objects::Objects;
+use crate::wait::{Asked, Wait};
 use bitflags::Flags;
 use std::alloc::{AllocError, AllocFailed};
 use std::collections::BTreeMap;
@@ -78,30 +81,28 @@ impl Object {
     }
 }
 
-#[tactic(auto, using(crate::proofs::ByKoid::by_koid, crate::proofs::Whole::whole))]
+#[tactic(auto, using(crate::proofs::ByKoid::by_koid, crate::proofs::Kept::kept))]
 impl Objects {
-    /// Registers the wait behind all others at the object, and reserves a place for its packet at
-    /// its port. Both have to be there.
+    /// Registers the wait behind all others, at its object and in the list, and reserves a place for
+    /// its packet at its port. Both have to be there, and one more wait may be registered.
     ///
-    /// Only memory can be refused; then nothing changes, and the wait comes back.
+    /// Only memory can be refused; then nothing changes.
     /// Source: the page "zx_object_wait_async" of the Fuchsia documentation; reserved places are own
     /// profile.
-    pub fn watch(&mut self, koid: Koid, watch: Watch) -> Result<(), AllocFailed<Watch>>
-        requires there { IsTrue (has_key self.old.objects koid) }
-        requires port { IsTrue (is_port_at self.old.objects watch.port) }
-        ensures ok { OnOk result (self.new ≡ watching self.old koid watch) }
+    pub fn watch(&mut self, wait: Wait) -> Result<(), AllocError>
+        requires there { IsTrue (has_key self.old.objects wait.object) }
+        requires port { IsTrue (is_port_at self.old.objects wait.port) }
+        requires may { IsTrue (may_register self.old) }
+        ensures ok { OnOk result (self.new ≡ watching self.old wait) }
         ensures unchanged { OnErr result (self.new ≡ self.old) }
-        ensures handed_back { IfErr result (λ refused. refused.value ≡ watch) }
     {
-        let port = watch.port;
-        if reserve_wait(&mut self.by_koid, port).is_err() {
-            return Err(AllocFailed { value: watch });
+        self.waits.push_back(wait)?;
+        if stand(&mut self.by_koid, wait, self.waits_made).is_err() {
+            self.waits.pop_back();
+            return Err(AllocError);
         }
-        let registered = register(&mut self.by_koid, koid, watch);
-        if registered.is_err() {
-            give_back(&mut self.by_koid, port);
-        }
-        registered
+        self.waits_made += 1;
+        Ok(())
     }
 
     /// Takes out the earliest wait at the object that the process made by its handle of this value,
@@ -111,8 +112,10 @@ impl Objects {
     /// handle.
     pub fn unwatch_handle(&mut self, koid: Koid, pid: Pid, value: HValue) -> Option<Watch>
         ensures earliest { result ≡ find (is_by_handle pid value) (waits_in (get self.old.objects koid)) }
-        ensures rest { self.new ≡ unwatching self.old koid (is_by_handle pid value) }
+        ensures rest { self.new ≡ unwatching (unlisting (is_made_at koid pid value) self.old) koid
+            (is_by_handle pid value) }
     {
+        unlist(&mut self.waits, Asked::ByHandle(koid, pid, value));
         let wait = take_handle(&mut self.by_koid, koid, pid, value)?;
         give_back(&mut self.by_koid, wait.port);
         Some(wait)
@@ -124,8 +127,10 @@ impl Objects {
     /// Source: own profile.
     pub fn unwatch_port(&mut self, koid: Koid, port: Koid) -> Option<Watch>
         ensures earliest { result ≡ find (is_at_port port) (waits_in (get self.old.objects koid)) }
-        ensures rest { self.new ≡ unwatching self.old koid (is_at_port port) }
+        ensures rest { self.new ≡ unwatching (unlisting (is_given_from koid port) self.old) koid
+            (is_at_port port) }
     {
+        unlist(&mut self.waits, Asked::AtPort(koid, port));
         let wait = take_port(&mut self.by_koid, koid, port)?;
         give_back(&mut self.by_koid, wait.port);
         Some(wait)
@@ -145,8 +150,11 @@ impl Objects {
         key: u64,
     ) -> Option<Watch>
         ensures earliest { result ≡ find (is_keyed pid value port key) (waits_in (get self.old.objects koid)) }
-        ensures rest { self.new ≡ unwatching self.old koid (is_keyed pid value port key) }
+        ensures rest { self.new ≡ unwatching
+            (unlisting (is_keyed_at koid pid value port key) self.old) koid
+            (is_keyed pid value port key) }
     {
+        unlist(&mut self.waits, Asked::Keyed(koid, pid, value, port, key));
         let wait = take_key(&mut self.by_koid, koid, pid, value, port, key)?;
         give_back(&mut self.by_koid, wait.port);
         Some(wait)
@@ -170,12 +178,31 @@ impl Objects {
     /// profile.
     pub fn fire(&mut self, koid: Koid, active: Signals) -> Option<Watch>
         ensures earliest { result ≡ find (holds active.0) (waits_in (get self.old.objects koid)) }
-        ensures rest { self.new ≡ firing self.old koid active.0 }
+        ensures listed { option_map (wait_at koid) result
+            ≡ find (holds_at koid active.0) self.old.waits }
+        ensures rest { self.new ≡ firing (unlisting (holds_at koid active.0) self.old) koid active.0 }
     {
+        unlist(&mut self.waits, Asked::Holding(koid, active));
         let wait = take_holding(&mut self.by_koid, koid, active)?;
         queue_signal(&mut self.by_koid, wait.port, packet_of(koid, active, &wait));
         Some(wait)
     }
+}
+
+/// The wait stands behind all others at its object, where so many were registered before it, and has
+/// a place at its port. Where memory is refused, nothing changes.
+fn stand(by_koid: &mut BTreeMap<Koid, Object>, wait: Wait, order: u64) -> Result<(), AllocError>
+    ensures ok { OnOk result (by_koid.new.entries ≡ update
+        (update by_koid.old.entries wait.port (at_port with_place))
+        wait.object (watched (watch_of order wait))) }
+    ensures unchanged { OnErr result (by_koid.new.entries ≡ by_koid.old.entries) }
+{
+    reserve_wait(by_koid, wait.port)?;
+    if register(by_koid, wait.object, wait.watch(order)).is_err() {
+        give_back(by_koid, wait.port);
+        return Err(AllocError);
+    }
+    Ok(())
 }
 
 /// Reserves a place at the port.

@@ -12,6 +12,7 @@ use Rattle.zl_code.specs.declared.history.Outcome.{Outcome}
 use Rattle.zl_code.specs.declared.history.Outcome.TheVariants as outcome
 use Rattle.zl_table.specs.Table.{Handles}
 use Rattle.zl_calls.specs.declared.process.Process.{Process}
+use Rattle.zl_calls.specs.Registered.{KeepsListed}
 use Rattle.zl_calls.specs.World.{state_value}
 use Rattle.zl_objects.specs.Objects.{Objects}
 use Rattle.zl_objects.specs.Release.{Releases, koids_of}
@@ -55,6 +56,7 @@ taken_from t (h ∷ hs) = option_to_list (get t.entries h) ++ taken_from (withou
 pub record ClosesEach (hs : List ℕ) (t : Handles) (r : Objects) (t2 : Handles) (r2 : Objects) : Type 0 where
   pub table : t2 ≡ without_handles t hs
   pub objects : Releases (koids_of (taken_from t hs)) [] r r2
+  pub listed : KeepsListed r r2
 
 -- a call was done; or else it was refused, and the handles at the values hs closed, which it takes however it is answered
 pub record DoesTaking {A : Type 0} (Done : A → Handles → Objects → Type 0) (wants : Bool) (refusal : Option Status) (hs : List ℕ) (t : Handles) (r : Objects) (answer : Result A Status) (t2 : Handles) (r2 : Objects) : Type 0 where

@@ -12,6 +12,8 @@ use Rattle.zl_objects.specs.declared.object.Object.{Object}
 use Rattle.zl_objects.specs.Objects.{Objects, has_place, holding}
 use Rattle.zl_objects.specs.Release.{Releases}
 use Rattle.zl_calls.specs.calls.Answer.{Does, DoesTaking, has_room_in, status_of, without_handle}
+use Rattle.zl_calls.specs.Registered.{EndsWaits, KeepsListed}
+use Rattle.zl_code.specs.Waiting.{is_by_handle}
 
 -- ---- close
 
@@ -29,6 +31,7 @@ pub record CloseDoes (value : ℕ) (t : Handles) (r : Objects) (answer : Result 
   pub answered : status_of answer ≡ close_answer t.entries value
   pub table : t2 ≡ without_handle t value
   pub objects : Closes (get t.entries value) r r2
+  pub listed : KeepsListed r r2
 
 -- ---- dup
 
@@ -71,8 +74,8 @@ replace_refusal_of asked (Some e) = then_some (is_empty (with_rights e (narrowed
 abbrev pub replace_refusal : Map Entry → ℕ → ℕ → Option Status
 replace_refusal entries value asked = replace_refusal_of asked (get entries value)
 
--- the handle at the value has the rights that were granted, and no value is the one removed last
-pub record Replaces (t : Handles) (r : Objects) (value asked made : ℕ) (t2 : Handles) (r2 : Objects) : Type 0 where
+-- the handle at the value has the rights that were granted, no value is the one removed last, and the waits have ended that the process made by it
+pub record Replaces (pid : ℕ) (t : Handles) (r : Objects) (value asked made : ℕ) (t2 : Handles) (r2 : Objects) : Type 0 where
   pub unrefused : replace_refusal t.entries value asked ≡ None
   pub original : Entry
   pub was : get t.entries value ≡ Some original
@@ -81,8 +84,8 @@ pub record Replaces (t : Handles) (r : Objects) (value asked made : ℕ) (t2 : H
   pub same_value : made ≡ value
   pub entries : t2.entries ≡ update t.entries value (λ e. record e { rights = granted })
   pub last : t2.last ≡ None
-  pub objects : r2 ≡ r
+  pub ends : EndsWaits (is_by_handle pid value) r r2
 
 -- replace of the handle at the value, with these rights asked for; where it is refused the handle closes
-abbrev pub ReplaceDoes : ℕ → ℕ → Handles → Objects → Result ℕ Status → Handles → Objects → Type 0
-ReplaceDoes value asked t r = DoesTaking (Replaces t r value asked) false (replace_refusal t.entries value asked) (value ∷ []) t r
+abbrev pub ReplaceDoes : (pid value asked : ℕ) → Handles → Objects → Result ℕ Status → Handles → Objects → Type 0
+ReplaceDoes pid value asked t r = DoesTaking (Replaces pid t r value asked) false (replace_refusal t.entries value asked) (value ∷ []) t r

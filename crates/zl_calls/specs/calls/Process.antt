@@ -6,6 +6,7 @@ use Rattle.zl_objects.specs.Objects.{Objects}
 use Rattle.zl_objects.specs.Release.{Releases, Ends as ObjectEnds}
 use Rattle.zl_calls.specs.declared.process.State.TheVariants as state
 use Rattle.zl_calls.specs.declared.process.Process.{Process}
+use Rattle.zl_calls.specs.Registered.{KeepsListed}
 
 -- the handles of a table close, one after another
 pub data Drained : Map Entry → Objects → Objects → Type 0 where
@@ -21,3 +22,4 @@ pub record Ends (code : ℤ) (old : Process) (r : Objects) (new : Process) (r2 :
   pub between : Objects
   pub over : ObjectEnds old.pid r between
   pub closes : Drained old.table.entries between r2
+  pub listed : KeepsListed r r2

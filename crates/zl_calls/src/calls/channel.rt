@@ -9,6 +9,7 @@ ghost use Rattle.zl_objects.specs.Objects.{is_end_at, sending};
 ghost use Rattle.zl_objects.specs.Release.{Releases, koids_of};
 ghost use Rattle.zl_calls.specs.calls.Answer.{IsRefusedBy, taken_from, without_handle, without_handles};
 ghost use Rattle.zl_calls.specs.calls.Channel.{ChanCreateDoes, ChanWriteDoes, IsPeerOf, IsReady, fault_of, list_refusal, write_refusal};
+ghost use Rattle.zl_calls.specs.Registered.{KeepsListed};
 
 use crate::calls::handle::{close_each, take_out};
 use crate::calls::{insert, look_up};
@@ -159,6 +160,7 @@ fn send(
     ensures wants { IfErr result (λ refused. refused ≡ Status.NoMemory) }
     ensures released { OnErr result
         (Releases (koids_of (taken_from table.old handles.now)) [] objects.old objects.new) }
+    ensures listed { OnErr result (KeepsListed objects.old objects.new) }
     ensures table { table.new ≡ without_handles table.old handles.now }
 {
     let Letter {
@@ -210,7 +212,8 @@ fn take_into(table: &mut Table, taken: &mut Handles, value: u64)
 
 /// The handles have gone, and what isn't held any more.
 fn release_each(objects: &mut Objects, handles: &[Entry])
-    ensures { Releases (koids_of handles.now) [] objects.old objects.new }
+    ensures releases { Releases (koids_of handles.now) [] objects.old objects.new }
+    ensures listed { KeepsListed objects.old objects.new }
 {
     for handle in handles {
         objects.release(handle.koid);

@@ -7,8 +7,9 @@ ghost use Rattle.zl_calls.specs.calls.Answer.{ClosesEach, status_of, without_han
 ghost use Rattle.zl_calls.specs.calls.Handle.{CloseDoes, DupDoes, ReplaceDoes};
 
 use crate::calls::{insert, look_up};
+use crate::waits::end_handle;
 use zl_objects::Objects;
-use zl_rights::{Entry, HValue, Rights, Status, narrow};
+use zl_rights::{Entry, HValue, Pid, Rights, Status, narrow};
 use zl_table::Table;
 
 /// Closes the handle; 0 is answered OK.
@@ -96,10 +97,11 @@ pub fn dup(
 pub fn replace(
     table: &mut Table,
     objects: &mut Objects,
+    pid: Pid,
     value: u64,
     asked: u32,
 ) -> Result<HValue, Status>
-    ensures { ReplaceDoes value asked table.old objects.old result table.new objects.new }
+    ensures { ReplaceDoes pid value asked table.old objects.old result table.new objects.new }
 {
     let Some((place, entry)) = live_at(table, value) else {
         return Err(Status::BadHandle);
@@ -107,6 +109,7 @@ pub fn replace(
     match narrow(entry.rights, asked) {
         Ok(rights) => {
             table.rewrite(place, rights);
+            end_handle(objects, pid, place);
             Ok(place)
         }
         Err(refused) => {
@@ -117,7 +120,7 @@ pub fn replace(
 }
 
 /// The value and its handle, if it is live.
-fn live_at(table: &Table, value: u64) -> Option<(HValue, Entry)>
+pub(crate) fn live_at(table: &Table, value: u64) -> Option<(HValue, Entry)>
     ensures { result ≡ option_map (λ entry. (value, entry)) (get table.now.entries value) }
 {
     // A fact that the prover needs below, as in `look_up`.

@@ -1,11 +1,17 @@
 //! Calls on ports.
 
+ghost use Rattle.std.specs.Prelude.{◌≡◌};
+ghost use Rattle.std.specs.List.{list_any};
+ghost use Rattle.zl_code.specs.Waiting.{is_keyed};
+ghost use Rattle.zl_calls.specs.calls.Async.{PortCancelDoes};
 ghost use Rattle.zl_calls.specs.calls.Port.{PortCreateDoes, PortPollDoes, PortQueueDoes};
 
+use crate::calls::handle::live_at;
 use crate::calls::{insert, look_up};
+use crate::waits::{cancel_waits, is_keyed};
 use zl_objects::Objects;
-use zl_port::{Packet, QueueFault};
-use zl_rights::{Entry, HValue, Kind, Rights, Status};
+use zl_port::{Packet, QueueFault, Source};
+use zl_rights::{Entry, HValue, Kind, Koid, Pid, Rights, Status};
 use zl_table::Table;
 
 /// Makes a port without packets, with a handle that has the default rights.
@@ -73,4 +79,56 @@ pub fn port_poll(table: &Table, objects: &mut Objects, port: u64) -> Result<Pack
         Some(packet) => Ok(packet),
         None => Err(Status::TimedOut),
     }
+}
+
+/// Ends the waits that the process registered by its handle `source` for a packet with the key to
+/// the port at the value `port`, and takes the packets out of the port that such waits gave. It
+/// takes no memory.
+///
+/// `BadHandle`, `WrongType` for what is no port, `AccessDenied` without the right to write; for the
+/// handle `source` `BadHandle`; `NotFound` where there is no such wait and no such packet.
+/// Source: the page "zx_port_cancel" of the Fuchsia documentation; which packets they are is own
+/// profile.
+pub fn port_cancel(
+    table: &Table,
+    objects: &mut Objects,
+    pid: Pid,
+    port: u64,
+    source: u64,
+    key: u64,
+) -> Result<(), Status>
+    ensures { PortCancelDoes pid port source key
+        table.now objects.old result table.now objects.new }
+{
+    let receiver = look_up(table, port, &[Kind::Port], Rights::WRITE)?;
+    let Some((value, named)) = live_at(table, source) else {
+        return Err(Status::BadHandle);
+    };
+    let any = is_awaited(objects, pid, value, receiver.koid, key);
+    let source = Source {
+        pid,
+        value,
+        object: named.koid,
+    };
+    let cancelled = objects.cancel(receiver.koid, source, key);
+    if !any && cancelled == 0 {
+        return Err(Status::NotFound);
+    }
+    cancel_waits(objects, pid, value, receiver.koid, key);
+    Ok(())
+}
+
+/// Whether the process has a wait that it made by its handle of this value for a packet with the key
+/// to the port.
+fn is_awaited(objects: &Objects, pid: Pid, value: HValue, port: Koid, key: u64) -> bool
+    ensures { result ≡ list_any (is_keyed pid value port key) objects.now.waits }
+{
+    let mut place = 0;
+    while let Some(wait) = objects.wait_at(place) {
+        if is_keyed(&wait, pid, value, port, key) {
+            return true;
+        }
+        place += 1;
+    }
+    false
 }

@@ -1,12 +1,14 @@
 //! Calls that look at the signals of an object.
 
 ghost use Rattle.std.specs.Prelude.{◌≡◌};
+ghost use Rattle.zl_calls.specs.calls.Async.{WaitAsyncDoes};
 ghost use Rattle.zl_calls.specs.calls.Wait.{polled_at, watched_at};
 
+use crate::calls::handle::live_at;
 use crate::calls::look_up;
 use bitflags::Flags;
-use zl_objects::Objects;
-use zl_rights::{Koid, Rights, Signals, Status};
+use zl_objects::{Objects, Wait};
+use zl_rights::{Kind, Koid, Pid, Rights, Signals, Status};
 use zl_table::Table;
 
 /// An object at which a call looks for signals of a mask, and the signals that are active there.
@@ -66,5 +68,54 @@ pub fn wait_poll(
             }
         }
         Err(refused) => Err(PollFault::Refused(refused)),
+    }
+}
+
+/// Registers a wait at the object of the handle: as soon as a signal of the mask is active there, a
+/// packet with the key goes to the port at the value `port`, and the wait is over. A place for the
+/// packet is reserved at once, and a signal that is active already counts too.
+///
+/// `BadHandle`, `AccessDenied` without the right to wait; for the port `BadHandle`, `WrongType` for
+/// what is no port, `AccessDenied` without the right to write; `InvalidArgs` for a mask of more than
+/// 32 bits; `NoResources` where 2^62 waits were registered; `NoMemory`.
+/// Source: the page "zx_object_wait_async" of the Fuchsia documentation; the limit is own profile.
+pub fn wait_async(
+    table: &Table,
+    objects: &mut Objects,
+    pid: Pid,
+    handle: u64,
+    port: u64,
+    key: u64,
+    mask: u64,
+) -> Result<(), Status>
+    ensures { WaitAsyncDoes pid handle port key mask
+        table.now objects.old result table.now objects.new }
+{
+    let watched = look_up(table, handle, &[], Rights::WAIT)?;
+    let receiver = look_up(table, port, &[Kind::Port], Rights::WRITE)?;
+    let Some((value, _)) = live_at(table, handle) else {
+        return Err(Status::BadHandle);
+    };
+    let Ok(bits) = u32::try_from(mask) else {
+        return Err(Status::InvalidArgs);
+    };
+    if !objects.may_register() {
+        return Err(Status::NoResources);
+    }
+    // What a handle names is there; this shows it to the prover.
+    if objects.kind_of(watched.koid).is_none() || !objects.is_port(receiver.koid) {
+        return Err(Status::NoMemory);
+    }
+    let wait = Wait {
+        pid,
+        value,
+        object: watched.koid,
+        port: receiver.koid,
+        key,
+        mask: Signals::from_bits_retain(bits),
+    };
+    match objects.watch(wait) {
+        Ok(()) => Ok(()),
+        Err(_) => Err(Status::NoMemory),
     }
 }

@@ -1,10 +1,12 @@
 use Rattle.zl_calls.proofs.Common.{arith}
-use Rattle.zl_calls.proofs.BootBlocked.{none_blocked}
+use Rattle.zl_calls.proofs.BootBlocked.{booted_boots, booted_sound, none_blocked}
 use Rattle.zl_calls.proofs.world.World.boot.Goals as goal
 
 pub invariant_of-result : goal.invariant_of-result
 invariant_of-result c = record {
   lab = c.in_ok-processes.ensures.lab;
+  sound = booted_sound c.args.library c.args.boot.now.statements.items c.in_ok-processes.field-0.processes.items c.in_ok-processes.field-0.objects c.in-Ok.blocked.items
+      c.in_ok-processes.ensures.ok c.in_ok-processes.ensures.unwatched ((c.in-Ok.ensures {u = tt}).items);
   are_blocked = none_blocked c.args.library c.args.boot.now.statements.items c.in_ok-processes.field-0.processes.items c.in_ok-processes.field-0.objects c.in-Ok.blocked.items
       c.in_ok-processes.ensures.ok ((c.in-Ok.ensures {u = tt}).items);
   room = omega (arith, (c.in-Ok.ensures {u = tt}).exact, c.len.ensures, c.in_ok-processes.field-0.processes.ok.0);

@@ -1,7 +1,9 @@
-use Rattle.zl_calls.proofs.Common.{◌≤◌, arith, length}
+use Rattle.zl_calls.proofs.Common.{◌≤◌, arith, length, subst, List, TakesStep}
 use Rattle.zl_calls.specs.Blocking.{then_blocked}
+use Rattle.zl_calls.specs.Registered.{EndsUnheld, FiresWaits}
+use Rattle.zl_calls.specs.declared.process.Process.{Process}
 use Rattle.zl_calls.proofs.BlockedLists.{no_more}
-use Rattle.zl_calls.proofs.StepItems.{not_ready_in, takes_step}
+use Rattle.zl_calls.proofs.StepItems.{lab_value, not_ready_in, stepped_sound, takes_step}
 use Rattle.zl_calls.proofs.world.World.step.Goals as goal
 
 pub returns-in_err-item-clause-not_ready : goal.returns-in_err-item-clause-not_ready
@@ -9,15 +11,28 @@ returns-in_err-item-clause-not_ready c =
     rw (← c.self.view_is)
     (not_ready_in c.self.inside.library c.self.inside.processes.items c.self.inside.objects c.self.inside.blocked.items c.args.pid c.from_residual.result c.in_err-item.ensures.not_ready)
 
+steps : (c : goal.After-wake) → TakesStep (lab_value c.self.inside.library c.self.inside.processes.items c.self.inside.objects c.self.inside.blocked.items) c.args.pid (lab_value c.self.inside.library c.wake.new.processes.items c.wake.new.objects c.wake.new.blocked.items) c.in_ok-item.item
+steps c =
+    takes_step c.self.inside.library c.self.inside.processes.items c.self.inside.objects c.self.inside.blocked.items c.args.pid
+    c.act_for.new.processes.items c.wake.new.processes.items c.act_for.new.objects c.end_unheld.new.objects c.fire_waits.new.objects c.wake.new.objects _ c.wake.new.blocked.items c.in_ok-item.item
+    (c.in_ok-item.ensures.acts c.self.inside.blocked.items c.self.invariant.are_blocked c.self.invariant.sound)
+    (subst (λ (ps : List Process). EndsUnheld ps c.act_for.new.objects c.end_unheld.new.objects) c.deref.ensures.value c.end_unheld.ensures)
+    (subst (λ (ps : List Process). FiresWaits ps c.end_unheld.new.objects c.fire_waits.new.objects) c.deref-2.ensures.value c.fire_waits.ensures)
+    (rw c.add_blocked.ensures.items at c.wake.ensures.wakes)
+
 pub returns-clause-ran : goal.returns-clause-ran
-returns-clause-ran c =
-    rw (← c.self.view_is)
-    (takes_step c.self.inside.library c.self.inside.processes.items c.self.inside.objects c.self.inside.blocked.items c.args.pid
-    c.act_for.new.processes.items c.wake.new.processes.items c.act_for.new.objects c.wake.new.objects _ c.wake.new.blocked.items c.in_ok-item.item
-    (c.in_ok-item.ensures.acts c.self.inside.blocked.items c.self.invariant.are_blocked) (rw c.add_blocked.ensures.items at c.wake.ensures.wakes))
+returns-clause-ran c = rw (← c.self.view_is) (steps c)
 
 pub add_blocked-requires : goal.add_blocked-requires
 add_blocked-requires c =
     let few : length (then_blocked c.args.pid c.in_ok-item.item c.self.inside.blocked.items) ≤ length c.act_for.new.processes.items =
     no_more c.act_for.new.processes.items _ (c.in_ok-item.ensures.list c.self.inside.blocked.items c.self.invariant.are_blocked) in
     omega (arith, few, c.in_ok-item.ensures.count, c.self.invariant.room)
+
+pub invariant_of-self-2 : goal.invariant_of-self-2
+invariant_of-self-2 c = record {
+  lab = c.wake.ensures.lab;
+  sound = stepped_sound c.self.inside.library c.self.inside.processes.items c.wake.new.processes.items c.self.inside.objects c.wake.new.objects c.self.inside.blocked.items c.wake.new.blocked.items c.args.pid c.in_ok-item.item (steps c) c.self.invariant.sound;
+  are_blocked = c.wake.ensures.list;
+  room = omega (arith, c.wake.ensures.count, c.in_ok-item.ensures.count, c.wake.ensures.capacity, c.add_blocked.ensures.capacity, c.self.invariant.room);
+}

@@ -1,8 +1,8 @@
 use Rattle.std.proofs.Common.{rules, refl, vec_capacity}
 use Rattle.zl_port.specs.Packets.{without_front}
 use Rattle.zl_objects.proofs.ByKoid.{by_koid}
-use Rattle.zl_objects.proofs.Whole.{port_whole}
+use Rattle.zl_objects.proofs.Kept.{port_kept}
 use Rattle.zl_objects.proofs.objects.Objects.pop.Goals as goal
 
 pub invariant_of-self-2 : goal.invariant_of-self-2
-invariant_of-self-2 c = port_whole without_front (λ p. refl) c.self.inside.by_koid.entries (c.get_mut.follows.lender c.pop.new.self).entries c.self.inside.next_koid (vec_capacity c.self.inside.dying) c.args.koid c.self.inside.dying.items c.self.invariant (search (rules, by_koid))
+invariant_of-self-2 c = port_kept without_front (λ p. refl) c.self.inside.by_koid.entries (c.get_mut.follows.lender c.pop.new.self).entries c.self.inside.next_koid (vec_capacity c.self.inside.dying) c.args.koid c.self.inside.dying.items c.self.invariant (search (rules, by_koid))

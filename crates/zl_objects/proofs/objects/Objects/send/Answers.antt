@@ -5,14 +5,14 @@ use Rattle.std.specs.Ordering.{nat_cmp}
 use Rattle.zl_objects.specs.Objects.{sent}
 use Rattle.zl_objects.proofs.ByKoid.{written, written_back}
 use Rattle.zl_objects.proofs.Refusable.{when_err, when_ok}
-use Rattle.zl_objects.proofs.Whole.{sent_or_same_whole}
+use Rattle.zl_objects.proofs.Kept.{sent_or_same_kept}
 use Rattle.zl_objects.proofs.objects.Objects.send.Goals as goal
 
 pub invariant_of-self-2 : goal.invariant_of-self-2
 invariant_of-self-2 c =
     let there : Some c.in-Some.end.now ≡ lookup (is_at (nat_cmp c.args.koid)) c.self.inside.by_koid.entries = search rules in
     let set : (c.get_mut.follows.lender c.send.new.self).entries ≡ set_value (is_at (nat_cmp c.args.koid)) c.self.inside.by_koid.entries c.send.new.self = search rules in
-    sent_or_same_whole c.self.inside.by_koid.entries (c.get_mut.follows.lender c.send.new.self).entries c.self.inside.next_koid (vec_capacity c.self.inside.dying) c.args.koid c.self.inside.dying.items c.args.message c.in-Some.end.now c.send.new.self c.send.result c.self.invariant c.send.ensures.ok c.send.ensures.unchanged there set
+    sent_or_same_kept c.self.inside.by_koid.entries (c.get_mut.follows.lender c.send.new.self).entries c.self.inside.next_koid (vec_capacity c.self.inside.dying) c.args.koid c.self.inside.dying.items c.args.message c.in-Some.end.now c.send.new.self c.send.result c.self.invariant c.send.ensures.ok c.send.ensures.unchanged there set
 
 pub returns-clause-sent : goal.returns-clause-sent
 returns-clause-sent c =

@@ -1,0 +1,189 @@
+-- One registered wait that holds gives its packet before the others do: the world at the end is the same.
+use Rattle.zl_calls.proofs.Common.{◌≡◌, ℕ, Bool, true, false, not, ◌&&◌, ◌||◌, ◌==◌, List, [], ◌∷◌, ◌++◌, map, refl, sym, ap, ◌∙◌, if◌then◌else◌, Option, Some, None, inl, inr, IsTrue, cases_Bool, eqb-true, option_map, list_any, nat_cmp, below_all, is_sorted, is_sorted-update, Map, get, has_key-update, update, get-update, PortBody, is_process, lives, fired, each, World}
+use Rattle.std.specs.Bool.{passes}
+use Rattle.std.specs.List.{filter}
+use Rattle.std.specs.Prelude.{bit_or}
+use Rattle.std.proofs.Common.{append-nil, append_assoc, cond}
+use Rattle.std.proofs.lemmas.List.Elements.{filter-append}
+use Rattle.zl_rights.specs.Numbers.{meets}
+use Rattle.zl_rights.specs.World.{Object, Body, ChannelEnd, EventBody, JobBody, ProcessBody, Packet, Wait}
+use Rattle.zl_rights.specs.Signals.{active, active_of, implied, has_child_job, has_child_process, is_job_below, is_process_of}
+use Rattle.zl_rights.specs.Wakes.{body_with_packets, holds, packet_of, packets_for}
+use Rattle.zl_rights.proofs.Canonical.{same_map}
+use Rattle.zl_rights.proofs.MapLaws.{get-each}
+use Rattle.zl_rights.proofs.MapTests.{each_same, filter_all, filter_none, list_any-and}
+use Rattle.zl_rights.proofs.SameSignals.{IsAlike}
+use Rattle.zl_code.specs.Waiting.{body_packed, repacked}
+
+-- ---- changes of a map
+
+any_updated : {X : Type 0} (test : ℕ × X → Bool) (f : X → X) → ((j : ℕ) (x : X) → test (j, f x) ≡ test (j, x)) → (m : Map X) (k : ℕ) → list_any test (update m k f) ≡ list_any test m
+unfolding update
+any_updated test f same [] k = refl
+any_updated test f same (e ∷ m) k = elim (cases_Bool (e.0 == k)) as (λ _. list_any test (update (e ∷ m) k f) ≡ list_any test (e ∷ m)) [
+  | inl here ↦ rw here (ap (λ b. b || list_any test m) (ap (λ j. test (j, f e.1)) (sym (eqb-true e.0 k here)) ∙ same e.0 e.1))
+  | inr apart ↦ rw apart (ap (λ b. test e || b) (any_updated test f same m k))
+]
+
+below_each : {X : Type 0} (f : ℕ → X → X) (k : ℕ) (m : Map X) → below_all nat_cmp k (each f m) ≡ below_all nat_cmp k m
+unfolding each
+below_each f k [] = refl
+below_each f k (e ∷ m) = rw (below_each f k m) refl
+
+sorted_each : {X : Type 0} (f : ℕ → X → X) (m : Map X) → is_sorted nat_cmp (each f m) ≡ is_sorted nat_cmp m
+unfolding each
+sorted_each f [] = refl
+sorted_each f (e ∷ m) = rw (below_each f e.0 m, sorted_each f m) refl
+
+-- ---- signals of worlds that are alike
+
+implied_alike : (u v : World) → IsAlike u v → (k : ℕ) (b : Body) → implied v k b ≡ implied u k b
+implied_alike u v alike k (ChannelEnd peer queue) = rw (alike.keys peer)
+implied_alike u v alike k EventBody = refl
+implied_alike u v alike k (PortBody packets) = refl
+implied_alike u v alike k (JobBody parent depth policy killed) = rw (alike.jobs k, alike.processes k)
+implied_alike u v alike k (ProcessBody job) = rw (alike.ended k)
+
+pub active_alike : (u v : World) → IsAlike u v → (k : ℕ) (o : Option Object) → active_of v k o ≡ active_of u k o
+active_alike u v alike k None = refl
+active_alike u v alike k (Some o) = ap (bit_or o.raised) (implied_alike u v alike k o.body)
+
+-- ---- packets at one object
+
+module _ (f : List Packet → List Packet) where
+  implied_packed : (w : World) (k : ℕ) (b : Body) → implied w k (body_packed f b) ≡ implied w k b
+  implied_packed w k (PortBody packets) = refl
+  implied_packed w k _ = refl
+
+  job_packed : (job : ℕ) (b : Body) → is_job_below job (body_packed f b) ≡ is_job_below job b
+  job_packed job (PortBody packets) = refl
+  job_packed job _ = refl
+
+  process_packed : (job : ℕ) (b : Body) → is_process_of job (body_packed f b) ≡ is_process_of job b
+  process_packed job (PortBody packets) = refl
+  process_packed job _ = refl
+
+-- the first packet goes behind those that are there, and then the rest
+body_split : (all rest : List Packet) (p : Packet) → all ≡ p ∷ rest → (b : Body) → body_with_packets all b ≡ body_with_packets rest (body_packed (λ ps. ps ++ p ∷ []) b)
+body_split all rest p split (PortBody ps) = ap PortBody (ap (λ more. ps ++ more) split ∙ sym (append_assoc ps (p ∷ []) rest))
+body_split all rest p split _ = refl
+
+-- ---- the wait x holds, and none before it
+
+module _ (w : World) (xs ys : List Wait) (x : Wait) where
+  abbrev with_one : Object → Object
+  with_one = repacked (λ (ps : List Packet). ps ++ packet_of w x ∷ [])
+
+  -- the world in which it has given its packet and is gone
+  abbrev pub after_one : World
+  after_one = record w { objects = update w.objects x.port with_one; waits = xs ++ ys }
+
+  one_alike : IsAlike w after_one
+  unfolding has_child_job has_child_process is_process
+  one_alike = record {
+    keys = has_key-update w.objects x.port with_one;
+    jobs = λ k. any_updated (λ e. is_job_below k e.1.body) with_one (λ j o. job_packed (λ ps. ps ++ packet_of w x ∷ []) k o.body) w.objects x.port;
+    processes = λ k. any_updated (λ e. is_process_of k e.1.body && is_process w lives e.0) with_one
+        (λ j o. ap (λ b. b && is_process w lives j) (process_packed (λ ps. ps ++ packet_of w x ∷ []) k o.body)) w.objects x.port;
+    ended = λ k. refl;
+  }
+
+  -- a packet changes no signal
+  one_active : (k : ℕ) → active after_one k ≡ active w k
+  unfolding active
+  one_active k = ap (active_of after_one k) (get-update w.objects x.port with_one k) ∙ by_key (x.port == k) (get w.objects k)
+    where
+      by_object : (o : Option Object) → active_of after_one k (option_map with_one o) ≡ active_of w k o
+      by_object None = refl
+      by_object (Some o) = ap (bit_or o.raised) (implied_packed (λ ps. ps ++ packet_of w x ∷ []) after_one k o.body) ∙ active_alike w after_one one_alike k (Some o)
+
+      by_key : (b : Bool) (o : Option Object) → active_of after_one k (if b then option_map with_one o else o) ≡ active_of w k o
+      by_key true o = by_object o
+      by_key false o = active_alike w after_one one_alike k o
+
+  pub one_holds : holds after_one ≡ holds w
+  unfolding holds
+  one_holds = λ i. λ y. meets (one_active y.object i) y.mask
+
+  one_packet : packet_of after_one ≡ packet_of w
+  one_packet = λ i. λ y. record {
+    kind = 1;
+    key = y.key;
+    trigger = y.mask;
+    observed = one_active y.object i;
+    source = Some (record { pid = y.pid; value = y.value; object = y.object });
+  }
+
+  module _ (list : w.waits ≡ xs ++ x ∷ ys) (before : list_any (holds w) xs ≡ false) (now : holds w x ≡ true) where
+    abbrev given_at : ℕ → List Wait → List Wait
+    given_at k = filter (λ y. y.port == k && holds w y)
+
+    none_given : (k : ℕ) (zs : List Wait) → given_at k (xs ++ zs) ≡ given_at k zs
+    none_given k zs = filter-append (λ y. y.port == k && holds w y) xs zs
+        ∙ ap (λ (first : List Wait). first ++ given_at k zs) (filter_none (λ y. y.port == k && holds w y) xs (list_any-and (holds w) (λ y. y.port == k) xs before))
+
+    -- at its port its packet is the first of those to come
+    packets_split : (k : ℕ) → packets_for w k ≡ (if x.port == k then packet_of w x ∷ [] else []) ++ packets_for after_one k
+    packets_split k = ap (λ (zs : List Wait). map (packet_of w) (given_at k zs)) list
+        ∙ (ap (map (packet_of w)) (none_given k (x ∷ ys))
+        ∙ (by_tests (x.port == k) (holds w x) now
+        ∙ ap (λ (rest : List Packet). (if x.port == k then packet_of w x ∷ [] else []) ++ rest) (sym same_rest)))
+      where
+        by_tests : (a b : Bool) → b ≡ true → map (packet_of w) (cond (a && b) (x ∷ given_at k ys) (given_at k ys)) ≡ (if a then packet_of w x ∷ [] else []) ++ map (packet_of w) (given_at k ys)
+        by_tests true b h = rw h refl
+        by_tests false b h = refl
+
+        same_rest : packets_for after_one k ≡ map (packet_of w) (given_at k ys)
+        same_rest = (λ i. map (one_packet i) (filter (λ y. y.port == k && one_holds i y) (xs ++ ys))) ∙ ap (map (packet_of w)) (none_given k ys)
+
+    waits_split : filter (λ y. not (holds after_one y)) (xs ++ ys) ≡ filter (λ y. not (holds w y)) w.waits
+    waits_split = (λ i. filter (λ y. not (one_holds i y)) (xs ++ ys))
+        ∙ (filter-append (λ y. not (holds w y)) xs ys
+        ∙ (ap (λ (rest : List Wait). filter (λ y. not (holds w y)) xs ++ rest) gone
+        ∙ (sym (filter-append (λ y. not (holds w y)) xs (x ∷ ys))
+        ∙ ap (filter (λ y. not (holds w y))) (sym list))))
+      where
+        gone : filter (λ y. not (holds w y)) ys ≡ filter (λ y. not (holds w y)) (x ∷ ys)
+        gone = rw now refl
+
+    objects_split : IsTrue (is_sorted nat_cmp w.objects)
+        → each (λ k o. record o { body = body_with_packets (packets_for after_one k) o.body }) after_one.objects
+        ≡ each (λ k o. record o { body = body_with_packets (packets_for w k) o.body }) w.objects
+    objects_split sorted = same_map _ _
+        (passes _ (sorted_each later (update w.objects x.port with_one) ∙ (is_sorted-update w.objects x.port with_one ∙ sorted)))
+        (passes _ (sorted_each all w.objects ∙ sorted))
+        (λ k. get-each (update w.objects x.port with_one) later k
+        ∙ (ap (option_map (later k)) (get-update w.objects x.port with_one k)
+        ∙ (by_key k (x.port == k) (packets_split k) (get w.objects k)
+        ∙ sym (get-each w.objects all k))))
+      where
+        later : ℕ → Object → Object
+        later k o = record o { body = body_with_packets (packets_for after_one k) o.body }
+
+        all : ℕ → Object → Object
+        all k o = record o { body = body_with_packets (packets_for w k) o.body }
+
+        by_key : (k : ℕ) (b : Bool) → packets_for w k ≡ (if b then packet_of w x ∷ [] else []) ++ packets_for after_one k
+            → (o : Option Object) → option_map (later k) (if b then option_map with_one o else o) ≡ option_map (all k) o
+        by_key k true split None = refl
+        by_key k true split (Some o) = λ i. Some (record o { body = sym (body_split (packets_for w k) (packets_for after_one k) (packet_of w x) split o.body) i })
+        by_key k false split None = refl
+        by_key k false split (Some o) = λ i. Some (record o { body = body_with_packets (sym split i) o.body })
+
+    pub fired_one : IsTrue (is_sorted nat_cmp w.objects) → fired after_one ≡ fired w
+    unfolding fired
+    fired_one sorted = λ i. record w { objects = objects_split sorted i; waits = waits_split i }
+
+-- ---- none holds
+
+no_packet_more : (b : Body) → body_with_packets [] b ≡ b
+no_packet_more (PortBody packets) = ap PortBody (append-nil packets)
+no_packet_more _ = refl
+
+-- then none gives a packet, and none goes
+pub fired_none : (w : World) → list_any (holds w) w.waits ≡ false → fired w ≡ w
+unfolding fired
+fired_none w none = λ i. record w { objects = each_same _ unchanged w.objects i; waits = filter_all (holds w) w.waits none i }
+  where
+    unchanged : (k : ℕ) (o : Object) → record o { body = body_with_packets (packets_for w k) o.body } ≡ o
+    unchanged k o = λ i. record o { body = (ap (λ xs. body_with_packets (map (packet_of w) xs) o.body) (filter_none _ w.waits (list_any-and (holds w) (λ x. x.port == k) w.waits none)) ∙ no_packet_more o.body) i }

@@ -1,0 +1,57 @@
+-- How registered waits end and fire. No public clause cites this module.
+use Rattle.std.specs.Prelude.{ℕ, ◌≡◌, Bool, ◌&&◌, not, List, IsTrue}
+use Rattle.std.specs.List.{filter}
+use Rattle.zl_code.specs.Common.{has_key, World as WorldValue}
+use Rattle.zl_rights.specs.Settle.{is_made_by_handle}
+use Rattle.zl_rights.specs.Wakes.{fired}
+use Rattle.zl_rights.specs.World.{Wait}
+use Rattle.zl_objects.specs.Listed.{is_there}
+use Rattle.zl_objects.specs.Objects.{Objects}
+use Rattle.zl_objects.specs.Waits.{AreSameButWaits}
+use Rattle.zl_calls.specs.Consistent.{IsConsistent}
+use Rattle.zl_calls.specs.World.{world_blocked, world_value}
+use Rattle.zl_calls.specs.declared.process.Process.{Process}
+
+-- ---- which waits are left
+
+-- the handle of the wait is there, and so are its object and its port
+abbrev pub is_left : WorldValue → Wait → Bool
+is_left w x = is_made_by_handle w x && (has_key w.objects x.object && has_key w.objects x.port)
+
+-- the world of a step that what isn't held has left: of the waits those are left whose handle and port are
+abbrev pub world_left : List Process → Objects → List ℕ → WorldValue
+world_left processes objects blocked =
+    record (world_blocked processes objects blocked) { waits = filter (is_left (world_value processes objects)) objects.waits }
+
+-- the list is these waits, but for some whose object or port is gone: a test that none of those passes leaves the same of both
+pub record ListsBut (ws : List Wait) (count : ℕ) (r : Objects) : Type 0 where
+  pub waits : (test : Wait → Bool) → ((x : Wait) → IsTrue (test x) → IsTrue (is_there r.objects x)) → filter test r.waits ≡ filter test ws
+  pub made : r.waits_made ≡ count
+
+-- nothing new is there, and waits have ended with their objects and ports alone
+pub record KeepsListed (r r2 : Objects) : Type 0 where
+  pub shrinks : (k : ℕ) → IsTrue (has_key r2.objects k) → IsTrue (has_key r.objects k)
+  pub listed : ListsBut r.waits r.waits_made r2
+
+-- ---- waits that end or fire
+
+-- the objects are the same, but for waits and the places that are reserved for their packets
+pub record AreBeside (r r2 : Objects) : Type 0 where
+  pub objects : AreSameButWaits r.objects r2.objects
+  pub koids : r2.next_koid ≡ r.next_koid
+
+-- the waits that pass the test have ended, and nothing else has changed
+pub record EndsWaits (test : Wait → Bool) (r r2 : Objects) : Type 0 where
+  pub beside : AreBeside r r2
+  pub waits : r2.waits ≡ filter (λ x. not (test x)) r.waits
+  pub made : r2.waits_made ≡ r.waits_made
+
+-- of the waits those are left whose handle, object and port are, and all else is as it was
+pub record EndsUnheld (ps : List Process) (r r2 : Objects) : Type 0 where
+  pub world : (blocked : List ℕ) → world_blocked ps r2 blocked ≡ world_left ps r blocked
+  pub lab : IsConsistent ps r2
+
+-- each wait that holds has given its packet and is gone, whichever processes block
+pub record FiresWaits (ps : List Process) (r r2 : Objects) : Type 0 where
+  pub world : (blocked : List ℕ) → world_blocked ps r2 blocked ≡ fired (world_blocked ps r blocked)
+  pub lab : IsConsistent ps r2

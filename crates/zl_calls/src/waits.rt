@@ -1,0 +1,121 @@
+//! How registered waits end and fire, one after another in the order in which they were registered.
+
+ghost use Rattle.std.specs.Prelude.{◌≡◌, IsTrue, map};
+ghost use Rattle.std.specs.Ordering.{nat_cmp};
+ghost use Rattle.std.specs.FinMap.Entries.{is_sorted};
+ghost use Rattle.zl_rights.specs.Map.{get};
+ghost use Rattle.zl_rights.specs.Settle.{has_handle};
+ghost use Rattle.zl_objects.specs.Listed.{wait_value};
+ghost use Rattle.zl_calls.specs.World.{process_entry, world_value};
+ghost use Rattle.std.specs.List.{list_any};
+ghost use Rattle.zl_code.specs.Waiting.{is_by_handle, is_keyed};
+ghost use Rattle.zl_calls.specs.Consistent.{IsConsistent};
+ghost use Rattle.zl_calls.specs.Registered.{EndsUnheld, EndsWaits, FiresWaits, is_left};
+
+use crate::process::Process;
+use crate::stepping::place_of;
+use bitflags::Flags;
+use zl_objects::{Objects, Wait};
+use zl_rights::{HValue, Koid, Pid};
+
+/// The waits end that the process made by its handle of this value. It takes no memory.
+pub fn end_handle(objects: &mut Objects, pid: Pid, value: HValue)
+    ensures { EndsWaits (is_by_handle pid value) objects.old objects.new }
+{
+    let mut place = 0;
+    while let Some(wait) = objects.wait_at(place) {
+        if is_by_handle(&wait, pid, value) {
+            objects.unwatch_handle(wait.object, pid, value);
+        } else {
+            place += 1;
+        }
+    }
+}
+
+/// The waits end that the process made by its handle of this value for a packet with the key to the
+/// port; whether there was one. It takes no memory.
+pub fn cancel_waits(objects: &mut Objects, pid: Pid, value: HValue, port: Koid, key: u64) -> bool
+    ensures ended { EndsWaits (is_keyed pid value port key) objects.old objects.new }
+    ensures any { result ≡ list_any (is_keyed pid value port key) objects.old.waits }
+{
+    let mut any = false;
+    let mut place = 0;
+    while let Some(wait) = objects.wait_at(place) {
+        if is_keyed(&wait, pid, value, port, key) {
+            objects.unwatch_key(wait.object, pid, value, port, key);
+            any = true;
+        } else {
+            place += 1;
+        }
+    }
+    any
+}
+
+/// The waits end whose handle, object or port is gone. It takes no memory.
+pub fn end_unheld(processes: &[Process], objects: &mut Objects)
+    requires { IsConsistent processes.now objects.old }
+    ensures { EndsUnheld processes.now objects.old objects.new }
+{
+    let mut place = 0;
+    while let Some(wait) = objects.wait_at(place) {
+        if is_left(processes, objects, &wait) {
+            place += 1;
+        } else {
+            objects.unwatch_key(wait.object, wait.pid, wait.value, wait.port, wait.key);
+        }
+    }
+}
+
+/// Each wait that holds, in the order of registration, gives its packet and is gone. It takes no
+/// memory.
+pub fn fire_waits(processes: &[Process], objects: &mut Objects)
+    requires { IsConsistent processes.now objects.old }
+    ensures { FiresWaits processes.now objects.old objects.new }
+{
+    let mut place = 0;
+    while let Some(wait) = objects.wait_at(place) {
+        let active = objects.signals_of(wait.object);
+        if active.intersects(wait.mask) {
+            objects.fire(wait.object, active);
+        } else {
+            place += 1;
+        }
+    }
+}
+
+/// Whether the process made the wait by its handle of this value.
+fn is_by_handle(wait: &Wait, pid: Pid, value: HValue) -> bool
+    ensures { result ≡ is_by_handle pid value (wait_value wait.now) }
+{
+    wait.pid == pid && wait.value == value
+}
+
+/// Whether the process made the wait by its handle of this value for a packet with the key to the
+/// port.
+pub fn is_keyed(wait: &Wait, pid: Pid, value: HValue, port: Koid, key: u64) -> bool
+    ensures { result ≡ is_keyed pid value port key (wait_value wait.now) }
+{
+    is_by_handle(wait, pid, value) && wait.port == port && wait.key == key
+}
+
+/// Whether the handle of the wait is there, and its object and port.
+#[tactic(auto, using(crate::proofs::Ending::kind_there), unfolding(zl_rights::specs::Settle::is_made_by_handle))]
+fn is_left(processes: &[Process], objects: &Objects, wait: &Wait) -> bool
+    requires { IsTrue (is_sorted nat_cmp (map process_entry processes.now)) }
+    ensures { result ≡ is_left (world_value processes.now objects.now) (wait_value wait.now) }
+{
+    has_handle(processes, wait.pid, wait.value)
+        && objects.kind_of(wait.object).is_some()
+        && objects.kind_of(wait.port).is_some()
+}
+
+/// Whether the process is there and has a handle of this value.
+fn has_handle(processes: &[Process], pid: Pid, value: HValue) -> bool
+    requires { IsTrue (is_sorted nat_cmp (map process_entry processes.now)) }
+    ensures { result ≡ has_handle (get (map process_entry processes.now) pid) value }
+{
+    match place_of(processes, pid) {
+        Some(place) => processes[place].table.get(value).is_some(),
+        None => false,
+    }
+}

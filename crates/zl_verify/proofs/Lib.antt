@@ -53,5 +53,6 @@ pub mod Others
 pub mod Ended
 pub mod OwnSteps
 pub mod CheckedRuns
+mod Headline
 mod RowsConforms
 mod RowsRuns

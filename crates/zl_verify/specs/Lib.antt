@@ -14,3 +14,4 @@ pub mod CallLaws
 pub mod SizedLaws
 pub mod WakeLaws
 pub mod RunLaws
+pub mod Headline

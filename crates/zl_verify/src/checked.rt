@@ -7,6 +7,7 @@ ghost use Rattle.zl_verify.specs.Lists.{at};
 ghost use Rattle.zl_verify.specs.Blocks.{states_of};
 ghost use Rattle.zl_verify.specs.Steps.{IsStepBound};
 ghost use Rattle.zl_verify.specs.Checks.{IsLeastTyping, IsRefused};
+ghost use Rattle.zl_verify.specs.Headline.{IsNeverRefused};
 
 use crate::refusal::{Refusal, RefusalCause};
 use crate::search::{Fault, Found, solve};
@@ -52,6 +53,19 @@ impl Checked {
         ensures bound { IsStepBound self.now.image (at self.now.states) (at self.now.steps) }
     {
         &self.image
+    }
+
+    /// In every run from a boot world, whatever others do: a process that was properly started from
+    /// this image gets no call answered BAD_HANDLE, WRONG_TYPE or ACCESS_DENIED, is stuck only at a
+    /// call that isn't built, is ended by no policy, and takes no more instructions than its budget
+    /// from its start on up to a wait or its exit, and behind each wait.
+    ///
+    /// It does nothing: its clause is what an accepted image is good for. Own profile.
+    pub fn sound(&self)
+        ensures { IsNeverRefused self.now.image }
+    {
+        // Its clauses are the type's invariant, on which all rests.
+        self.image();
     }
 }
 

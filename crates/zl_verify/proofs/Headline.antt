@@ -1,0 +1,72 @@
+-- The headline of an image with a typing and a step bound, from the laws of runs.
+use Rattle.std.proofs.Common.{◌≡◌, ℕ, zero, suc, List, [], ◌∷◌, refl, sym, ◌∙◌, subst, Option, Some, None, IsTrue}
+use Rattle.std.specs.Prelude.{slice_get}
+use Rattle.std.specs.List.{AllByRecursion}
+use Rattle.std.proofs.lemmas.Option.{none-some, same_Some}
+use Rattle.zl_rights.specs.Common.{runs, World}
+use Rattle.zl_code.specs.declared.boot.Statement.{Statement}
+use Rattle.zl_code.specs.declared.history.Outcome.TheVariants as outcome
+use Rattle.zl_code.specs.declared.history.TraceItem.{TraceItem}
+use Rattle.zl_code.specs.declared.history.TraceItem.TheVariants as item
+use Rattle.zl_code.specs.Image.{Image, Library, Program}
+use Rattle.zl_code.specs.Spells.{is_in_range}
+use Rattle.zl_code.specs.Steps.{Runs}
+use Rattle.zl_abs.specs.States.{State}
+use Rattle.zl_abs.specs.Typing.{IsTyping}
+use Rattle.zl_verify.specs.Headline.{EndsByExit, GoesWell, HasNoFault, IsNeverRefused, IsNotStuck, IsStarted}
+use Rattle.zl_verify.specs.RunLaws.{IsFineItem, IsUnderWay}
+use Rattle.zl_verify.specs.SizedLaws.{IsSizedBoot}
+use Rattle.zl_verify.specs.Steps.{IsStepBound}
+use Rattle.zl_verify.proofs.CheckedRuns.{budget_kept, never_refused}
+use Rattle.zl_verify.proofs.Starting.{starts_conforming}
+
+-- what is true of each is true of the one that was looked up
+program_in : (lib : Library) (n : ℕ) (g : Program) → AllByRecursion (λ x. IsTrue (is_in_range x.image)) lib → slice_get lib n ≡ Some g → IsTrue (is_in_range g.image)
+program_in [] n g all at = absurd (none-some g at)
+program_in (x ∷ lib) zero g all at = subst (λ (y : Program). IsTrue (is_in_range y.image)) (same_Some x g at) all.0
+program_in (x ∷ lib) (suc n) g all at = program_in lib n g all.1 at
+
+all_so : {X : Type 0} (P Q : X → Type 0) → ((x : X) → P x → Q x) → (xs : List X) → AllByRecursion P xs → AllByRecursion Q xs
+all_so P Q so [] all = tt
+all_so P Q so (x ∷ xs) all = (so x all.0, all_so P Q so xs all.1)
+
+module _ (i : Image) (p : ℕ) where
+  no_fault : (x : TraceItem) → IsFineItem i p x → HasNoFault p x
+  no_fault (item.Call pid called (outcome.Answered answer)) fine = fine
+  no_fault (item.Call pid called (outcome.Ended code)) fine = tt
+  no_fault (item.Call pid called outcome.Blocked) fine = tt
+  no_fault (item.Run pid count) fine = tt
+  no_fault (item.Stuck pid) fine = tt
+
+  by_exit : (x : TraceItem) → IsFineItem i p x → EndsByExit p x
+  by_exit (item.Call pid called (outcome.Answered answer)) fine = tt
+  by_exit (item.Call pid called (outcome.Ended code)) fine = fine
+  by_exit (item.Call pid called outcome.Blocked) fine = tt
+  by_exit (item.Run pid count) fine = tt
+  by_exit (item.Stuck pid) fine = tt
+
+  not_stuck : (x : TraceItem) → IsFineItem i p x → IsNotStuck i p x
+  not_stuck (item.Call pid called (outcome.Answered answer)) fine = tt
+  not_stuck (item.Call pid called (outcome.Ended code)) fine = tt
+  not_stuck (item.Call pid called outcome.Blocked) fine = tt
+  not_stuck (item.Run pid count) fine = tt
+  not_stuck (item.Stuck pid) fine = fine
+
+pub headline : (i : Image) (t : ℕ → Option State) (steps : ℕ → Option ℕ) → IsTyping i t → IsStepBound i t steps → IsNeverRefused i
+headline i t steps typing bound lib statements boot w after items more p begins run started rest =
+    let range : IsTrue (is_in_range i) = program_in lib started.process.program _ begins.images started.program in
+    let under : IsUnderWay lib i t w p = record {
+      process = started.process;
+      there = started.there;
+      running = rw started.ready refl;
+      checked = started.checked;
+      program = started.program;
+      conforms = starts_conforming i t range typing w p started.process started.proper;
+    } in
+    let fine : AllByRecursion (IsFineItem i p) more = never_refused lib i t range typing statements boot begins p items more w after run under rest in
+    record {
+      no_fault = all_so (IsFineItem i p) (HasNoFault p) (no_fault i p) more fine;
+      by_exit = all_so (IsFineItem i p) (EndsByExit p) (by_exit i p) more fine;
+      not_stuck = all_so (IsFineItem i p) (IsNotStuck i p) (not_stuck i p) more fine;
+      budget = budget_kept lib i t range typing steps bound statements boot begins p items more w after run under rest;
+    }

@@ -1,0 +1,54 @@
+-- The headline: in every run, whoever else acts, a process that was properly started from an accepted image is never refused for a handle, isn't stuck, is ended by no policy, and keeps its budget.
+use Rattle.std.specs.Prelude.{ℕ, ◌≡◌, Bool, false, List, Some, slice_get}
+use Rattle.std.specs.List.{AllByRecursion}
+use Rattle.zl_rights.specs.Common.{get, World, Cpu, Process, Ready}
+use Rattle.zl_code.specs.declared.boot.Statement.{Statement}
+use Rattle.zl_code.specs.declared.history.CallName.TheVariants as name
+use Rattle.zl_code.specs.declared.history.Outcome.TheVariants as outcome
+use Rattle.zl_code.specs.declared.history.TraceItem.{TraceItem}
+use Rattle.zl_code.specs.declared.history.TraceItem.TheVariants as item
+use Rattle.zl_code.specs.Image.{Image, Library}
+use Rattle.zl_code.specs.Steps.{Runs}
+use Rattle.zl_verify.specs.CallLaws.{is_fault}
+use Rattle.zl_verify.specs.LocalLaws.{IsUnbuilt}
+use Rattle.zl_verify.specs.RunLaws.{KeepsBudget}
+use Rattle.zl_verify.specs.SizedLaws.{IsSizedBoot}
+use Rattle.zl_verify.specs.WakeLaws.{IsProperStart}
+
+-- no call of p is answered BAD_HANDLE, WRONG_TYPE or ACCESS_DENIED here
+abbrev pub HasNoFault : ℕ → TraceItem → Type 0
+HasNoFault p (item.Call pid called (outcome.Answered answer)) = pid ≡ p → is_fault answer ≡ false
+HasNoFault p _ = Unit {0}
+
+-- no call of p ends it here but process_exit, whatever its code
+abbrev pub EndsByExit : ℕ → TraceItem → Type 0
+EndsByExit p (item.Call pid called (outcome.Ended code)) = pid ≡ p → called ≡ name.ProcessExit
+EndsByExit p _ = Unit {0}
+
+-- p, which runs this image, isn't stuck here, but for a call that isn't built
+abbrev pub IsNotStuck : Image → ℕ → TraceItem → Type 0
+IsNotStuck i p (item.Stuck pid) = pid ≡ p → (c : Cpu) × IsUnbuilt i c
+IsNotStuck i p _ = Unit {0}
+
+-- What these items tell of the process p, which runs this image and was just started.
+pub record GoesWell (i : Image) (p : ℕ) (items : List TraceItem) : Type 0 where
+  pub no_fault : AllByRecursion (HasNoFault p) items
+  pub by_exit : AllByRecursion (EndsByExit p) items
+  pub not_stuck : AllByRecursion (IsNotStuck i p) items
+  pub budget : KeepsBudget i.budget p i.budget items
+
+-- The process p of w has just been properly started by a program of the library with this image.
+pub record IsStarted (lib : Library) (i : Image) (w : World) (p : ℕ) : Type 0 where
+  pub process : Process
+  pub there : get w.processes p ≡ Some process
+  pub ready : process.state ≡ Ready
+  pub checked : Bool
+  pub program : slice_get lib process.program ≡ Some (record { checked = checked; image = i })
+  pub proper : IsProperStart i w p process
+
+-- In every run from a boot world, whatever it and others do from its start on.
+abbrev pub IsNeverRefused : Image → Type 0
+IsNeverRefused i =
+    (lib : Library) (statements : List Statement) (boot w after : World) (items more : List TraceItem) (p : ℕ)
+    → IsSizedBoot lib statements boot → Runs lib boot items w → IsStarted lib i w p
+    → Runs lib w more after → GoesWell i p more

@@ -1,5 +1,5 @@
 -- What each call says where it isn't refused: its new handles have room, and it is made of these changes.
-use Rattle.zl_code.proofs.Common.{JobBody, ProcessBody, is_job_body, created_process, with_process, get-put, ne_eqb, ◌<◌, All, Body, Bool, ChannelEnd, EventBody, HandlesAreNamed, HandlesAreSound, IsSound, IsTrue, Library, List, Map, None, Object, Option, PortBody, Process, Ready, Request, SIGNAL, Some, World, [], and_from, and_parts, answer_if, ap, arith, bits, by_look_up, cases_Bool, chan_create, chan_read_etc, chan_write, copy_of, default_rights_of, dup, effect, entry_at, eq-eqb, event_create, examined, false, first_some, get, handle_operands, handles_in, handles_to, has_key, has_koids, has_room, inl, inr, insert_all, is_some, kind_of, queue_of, leb-true, length, listed, may_choose, may_get, may_get_all, nat_le, new_handles, none-some, not, object_at, on_object, operand, raisable, refl, refusal, remove_all, replace, rights_of, row_of, runs, same_Some, signal, subst, sym, taken_handles, true, with_effect, with_object, within, without, ℕ, ◌+◌, ◌&&◌, ◌^◌, ◌||◌, ◌∙◌, ◌∷◌, ◌≡◌, ◌≤◌, ⊤, not-false, or_parts, Packet, settable_of, by_policy, new_entry, object_changed, gets_all, true≢false, false≢true, body_in, body_of, HasPeer, IsSoundWait, is_port_there, is_empty, slice_index_or, eqb-true, on_process, ◌==◌, drop, filter, is_end_if_there, takes, ◌++◌, if◌then◌else◌, Ok, Err}
+use Rattle.zl_code.proofs.Common.{Created, State, state_passes, is_process, nat_tests, All-nil, All-cons, get-update, process_without, ◌==◌, JobBody, ProcessBody, created_process, with_process, get-put, ne_eqb, ◌<◌, All, Body, Bool, ChannelEnd, EventBody, HandlesAreNamed, HandlesAreSound, IsSound, IsTrue, Library, List, Map, None, Object, Option, PortBody, Process, Ready, Request, SIGNAL, Some, World, [], and_from, and_parts, answer_if, ap, arith, bits, by_look_up, cases_Bool, chan_create, chan_read_etc, chan_write, copy_of, default_rights_of, dup, effect, entry_at, eq-eqb, event_create, examined, false, first_some, get, handle_operands, handles_in, handles_to, has_key, has_koids, has_room, inl, inr, insert_all, is_some, kind_of, queue_of, leb-true, length, listed, may_choose, may_get, may_get_all, nat_le, new_handles, none-some, not, object_at, on_object, operand, raisable, refl, refusal, remove_all, replace, rights_of, row_of, runs, same_Some, signal, subst, sym, taken_handles, true, with_effect, with_object, within, without, ℕ, ◌+◌, ◌&&◌, ◌^◌, ◌||◌, ◌∙◌, ◌∷◌, ◌≡◌, ◌≤◌, ⊤, not-false, or_parts, Packet, settable_of, by_policy, new_entry, object_changed, gets_all, true≢false, false≢true, body_in, body_of, HasPeer, IsSoundWait, is_port_there, is_empty, slice_index_or, eqb-true, on_process, ◌==◌, drop, filter, is_end_if_there, takes, ◌++◌, if◌then◌else◌, Ok, Err}
 use Rattle.zl_rights.specs.declared.kind.Kind.TheVariants as kind
 use Rattle.zl_rights.specs.declared.entry.Entry.{Entry}
 use Rattle.zl_rights.specs.declared.status.Status.{Status}
@@ -8,10 +8,17 @@ use Rattle.zl_rights.specs.LookUp.{granted}
 use Rattle.zl_rights.proofs.Narrowed.{narrowed_within}
 use Rattle.zl_code.specs.declared.history.Outcome.{Outcome}
 use Rattle.zl_rights.specs.declared.kind.Kind.{Kind}
-use Rattle.zl_rights.specs.Numbers.{MANAGE_PROCESS, SIGNAL_PEER, USER_SIGNALS, WAIT, WRITE}
+use Rattle.zl_rights.specs.Numbers.{DESTROY, MANAGE_PROCESS, SIGNAL_PEER, USER_SIGNALS, WAIT, WRITE}
 use Rattle.zl_rights.specs.Packets.{is_from, user_packet}
-use Rattle.zl_code.specs.CallTable.{choosing, signal_peer, wait_async, port_create, port_queue, port_wait, port_poll, port_cancel, process_create, job_create}
-use Rattle.zl_code.specs.Jobs.{job_within}
+use Rattle.zl_code.specs.CallTable.{choosing, receiver_of, signal_peer, wait_async, port_create, port_queue, port_wait, port_poll, port_cancel, process_create, process_start, task_kill, job_create, job_set_policy}
+use Rattle.zl_code.specs.Jobs.{depth_in, is_dead, is_deepest, job_within, policy_changed, with_killed}
+use Rattle.zl_code.specs.Starting.{cpu_given, is_created, started_with}
+use Rattle.zl_code.specs.Sound.{IsSoundJob, LivesAt, StandsBelow}
+use Rattle.zl_rights.specs.Policies.{setting_of}
+use Rattle.zl_rights.specs.declared.policy.Action.{Action}
+use Rattle.std.specs.Option.{option_to_list}
+use Rattle.zl_code.proofs.CanStart.{started_may_get}
+use Rattle.zl_code.proofs.Killing.{childless, job_of}
 use Rattle.zl_code.specs.Waiting.{source_at, wait_of, registered, without_keyed, is_by_handle}
 use Rattle.zl_rights.specs.World.{Wait}
 use Rattle.std.proofs.lemmas.Bool.{not-true}
@@ -20,9 +27,9 @@ use Rattle.zl_code.specs.Effects.{message_read, storing, without_waits}
 use Rattle.zl_code.specs.Local.{overwritten}
 use Rattle.zl_code.specs.Tests.{operand_of, koid_in, entries_at, first_bytes, first_handles, peer_at, peer_in, queue_at}
 use Rattle.zl_code.proofs.MapKept.{changed}
-use Rattle.zl_code.proofs.Changes.{AreUnmade, process_is_made, computes, message_comes, message_goes, signals_change, Changes, stays, changes, join, one, object_changes, object_is_made, ends_are_made, packets_are_changed, process_changes, wait_begins, keyed_end, waits_end}
+use Rattle.zl_code.proofs.Changes.{AreUnmade, process_is_made, computes, message_comes, message_goes, signals_change, Changes, stays, changes, join, one, object_changes, object_is_made, policy_changes, process_starts, all_are_killed, ends_are_made, packets_are_changed, process_changes, wait_begins, keyed_end, waits_end}
 use Rattle.zl_code.specs.Refusals.{condition_of}
-use Rattle.zl_code.proofs.Entering.{IsFine, HaveRoom, MayTake, IsLeft, all_enter, get_without, gone_without, copy_is_fine, one_copy, entry_is_fine, length_without, new_is_fine, removed_last}
+use Rattle.zl_code.proofs.Entering.{IsFine, HaveRoom, MayTake, IsLeft, left_behind, all_enter, get_without, gone_without, copy_is_fine, one_copy, entry_is_fine, length_without, new_is_fine, removed_last}
 use Rattle.zl_code.proofs.Messages.{may_be_sent, received_are_fine, two_entries, both_are_fine}
 
 -- ---- what holds where a call isn't refused
@@ -148,8 +155,8 @@ may_signal_peer w p h clear set lib passes o there sound =
 
 -- what the call says in w; u is w after the handles that it takes have left the table of p, which is then that of after
 pub record IsLawful (lib : Library) (w u : World) (p : ℕ) (after : Process) (r : Request) : Type 0 where
-  -- there is room for the new handles that get a value
-  pub room : HaveRoom after (choosing w p r)
+  -- there is room for the new handles that get a value, where they enter the table of p
+  pub room : receiver_of w p r ≡ p → HaveRoom after (choosing w p r)
   -- it is made of changes, whichever values these get
   pub changes : (vs : List ℕ) → IsTrue (may_choose w u p r vs) → Changes w u (with_effect lib w u p r vs)
 
@@ -174,11 +181,11 @@ module _ (lib : Library) (w : World) (p : ℕ) (q : Process) (there : get w.proc
     fine_in h e at = subst (λ (m : Map Object). IsFine w m e) (sym left.objects) (entry_is_fine w p h e at)
 
     -- a new object, and the first handle to it
-    one_made : MayTake w u.waits p after → (b : Body) → queue_of b ≡ [] → HasPeer (with_object u b).objects (with_object u b).next_koid b → HaveRoom after (new_entry w.next_koid (kind_of b) ∷ []) → (vs : List ℕ) → IsTrue (gets_all (get u.processes p) (new_entry w.next_koid (kind_of b) ∷ []) vs)
+    one_made : MayTake w u.waits p after → (b : Body) → queue_of b ≡ [] → HasPeer (with_object u b).objects (with_object u b).next_koid b → (IsSound w → StandsBelow (with_object u b).objects u.next_koid b) → HaveRoom after (new_entry w.next_koid (kind_of b) ∷ []) → (vs : List ℕ) → IsTrue (gets_all (get u.processes p) (new_entry w.next_koid (kind_of b) ∷ []) vs)
         → Changes w u (insert_all (with_object u b) p (new_entry w.next_koid (kind_of b) ∷ []) vs)
     unfolding with_object
-    one_made may b quiet peer room vs gets =
-        changes u (with_object u b) _ (object_is_made w u b quiet peer)
+    one_made may b quiet peer tree room vs gets =
+        changes u (with_object u b) _ (object_is_made w u b quiet peer tree)
         (enter (with_object u b) refl may (new_entry w.next_koid (kind_of b) ∷ []) vs (λ s. room) (chosen _ vs gets) (new_is_fine w u b w.next_koid left.next_koid))
 
     -- two new ends of a channel, and the first handles to them
@@ -272,23 +279,45 @@ module _ (lib : Library) (w : World) (p : ℕ) (q : Process) (there : get w.proc
   unfolding row_of refusal handle_operands examined operand
   has_job job program passes = is_granted w p (kind.Job ∷ []) MANAGE_PROCESS (entry_at w p job) (first_is_none _ _ (first_is_none _ _ passes))
 
-  job_there : (b : Body) → IsTrue (takes (kind.Job ∷ []) (kind_of b)) → IsTrue (is_job_body (Some b))
-  job_there (JobBody parent depth policy killed) fits = refl
-  job_there _ fits = absurd (false≢true fits)
+  -- the job in which something is to be made lives
+  living_job : (k : ℕ) → is_dead (body_of w k) ≡ false → (depth : ℕ) × (parent : ℕ) × (policy : Map Action) × (body_of w k ≡ Some (JobBody parent depth policy false))
+  living_job k alive = by_body (body_of w k) refl alive
+    where
+      by_body : (b : Option Body) → body_of w k ≡ b → is_dead b ≡ false → (depth : ℕ) × (parent : ℕ) × (policy : Map Action) × (body_of w k ≡ Some (JobBody parent depth policy false))
+      by_body (Some (JobBody parent depth policy false)) is h = (depth, parent, policy, is)
+      by_body (Some (JobBody parent depth policy true)) is h = absurd (true≢false h)
+      by_body _ is h = absurd (true≢false h)
+
+  -- it lives beside a new object too
+  lives_beside : (b : Body) (k depth parent : ℕ) (policy : Map Action) → body_of w k ≡ Some (JobBody parent depth policy false) → IsSound w → LivesAt (with_object w b).objects k depth
+  unfolding with_object
+  lives_beside b k depth parent policy is s = record { parent = parent; policy = policy; there = ap body_in (get-put w.objects w.next_koid (record { body = b; raised = 0 }) k ∙ rw (ne_eqb w.next_koid k (λ e. omega (arith, e, below))) refl) ∙ is }
+    where
+      some_body : (o : Option Object) → body_in o ≡ Some (JobBody parent depth policy false) → IsTrue (is_some o)
+      some_body None e = absurd (none-some _ e)
+      some_body (Some o) e = refl
+
+      below : k < w.next_koid
+      below = s.objects.below k (some_body (get w.objects k) is)
 
   -- a process is made, and the first handle to it
   process_made : (job program : ℕ) (vs : List ℕ) → refusal lib w p (process_create job program) ≡ None → HaveRoom q (new_entry w.next_koid kind.Process ∷ [])
       → IsTrue (gets_all (get (left_by (process_create job program)).processes p) (new_entry w.next_koid kind.Process ∷ []) vs)
       → Changes w (left_by (process_create job program)) (insert_all (with_process (with_object (left_by (process_create job program)) (ProcessBody (object_at w p job))) w.next_koid (created_process lib program)) p (new_entry w.next_koid kind.Process ∷ []) vs)
-  unfolding taken_handles handle_operands row_of remove_all with_object
+  unfolding taken_handles handle_operands row_of remove_all with_object listed
   process_made job program vs passes room gets =
-      changes w made _ (object_is_made w w (ProcessBody (object_at w p job)) refl tt)
+      changes w made _ (object_is_made w w (ProcessBody (object_at w p job)) refl tt (λ s. below_next s))
       (changes made begun _ (process_is_made w made w.next_koid (created_process lib program) (record {
         free = λ s. no_process s (get w.processes w.next_koid) refl;
         given = omega arith;
         empty = refl;
         nothing_last = refl;
-        object = λ s. (object_at w p job, rw (get-put w.objects w.next_koid new_object w.next_koid, eq-eqb w.next_koid w.next_koid refl) refl, in_job s);
+        object = λ s. record {
+          job = object_at w p job;
+          there = rw (get-put w.objects w.next_koid new_object w.next_koid, eq-eqb w.next_koid w.next_koid refl) refl;
+          depth = living.0;
+          lives = lives_beside (ProcessBody (object_at w p job)) (object_at w p job) living.0 living.1 living.2 living.3 s;
+        };
       }) refl)
       (all_enter w begun p q (new_entry w.next_koid kind.Process ∷ []) vs (λ s. get-put w.processes w.next_koid (created_process lib program) p ∙ rw (ne_eqb w.next_koid p (λ e. apart s e)) there) (ap runs ready) (rw there at gets) (λ s. room)
       (record { free = λ s v none. unmade s v none; last = λ s v is. ((s.tables p q there).free v is).1 }) (new_is_fine w w (ProcessBody (object_at w p job)) w.next_koid refl)))
@@ -309,11 +338,50 @@ module _ (lib : Library) (w : World) (p : ℕ) (q : Process) (there : get w.proc
       apart : IsSound w → w.next_koid ≡ p → ⊥
       apart s e = let below : p < w.next_koid = s.processes p (ap is_some there) in omega (arith, e, below)
 
-      in_job : IsSound w → IsTrue (is_job_body (body_in (get made.objects (object_at w p job))))
-      in_job s =
-          let (o, at, fits) = named_object w p job (kind.Job ∷ []) MANAGE_PROCESS (has_job job program passes) s.named in
-          let below : object_at w p job < w.next_koid = s.objects.below (object_at w p job) (ap is_some at) in
-          rw (get-put w.objects w.next_koid new_object (object_at w p job), ne_eqb w.next_koid (object_at w p job) (λ e. omega (arith, e, below)), at) (job_there o.body fits)
+      living : (depth : ℕ) × (parent : ℕ) × (policy : Map Action) × (body_of w (object_at w p job) ≡ Some (JobBody parent depth policy false))
+      living = living_job (object_at w p job) (test_fails _ status.BadState (listed_none lib w p (process_create job program) passes).1.0)
+
+      below_next : IsSound w → object_at w p job < w.next_koid
+      below_next s = let (o, at, fits) = named_object w p job (kind.Job ∷ []) MANAGE_PROCESS (has_job job program passes) s.named in s.objects.below (object_at w p job) (ap is_some at)
+
+  -- a new job stands below the one in which it is made
+  job_stands : (j : ℕ) → refusal lib w p (job_create j) ≡ None → IsSound w
+      → StandsBelow (with_object (left_by (job_create j)) (job_within (object_at w p j) (body_of w (object_at w p j)))).objects (left_by (job_create j)).next_koid (job_within (object_at w p j) (body_of w (object_at w p j)))
+  unfolding taken_handles handle_operands row_of remove_all listed
+  job_stands j passes s = record {
+    later = below;
+    shallow = rw living.3 deeper;
+    policy_known = rw living.3 above.policy_known;
+    above = λ e. inr (depth_in (body_of w k), refl, subst (λ d. LivesAt (with_object w (job_within k (body_of w k))).objects k d) (sym (ap depth_in living.3)) (lives_beside (job_within k (body_of w k)) k living.0 living.1 living.2 living.3 s));
+  }
+    where
+      k : ℕ
+      k = object_at w p j
+
+      none : AreNone (listed lib w p (job_create j))
+      none = listed_none lib w p (job_create j) passes
+
+      living : (depth : ℕ) × (parent : ℕ) × (policy : Map Action) × (body_of w k ≡ Some (JobBody parent depth policy false))
+      living = living_job k (test_fails _ status.BadState none.1.0)
+
+      alive : LivesAt w.objects k living.0
+      alive = record { parent = living.1; policy = living.2; there = living.3 }
+
+      above : IsSoundJob w.objects k living.1 living.0 living.2 false
+      above = job_of w.objects s.tree k living.0 alive
+
+      shallow : is_deepest (Some (JobBody living.1 living.0 living.2 false)) ≡ false
+      shallow = rw (← living.3) (test_fails _ status.OutOfRange none.0)
+
+      deeper : living.0 + 1 ≤ 16
+      deeper = grind (arith, nat_tests, shallow)
+
+      some_body : (o : Option Object) → body_in o ≡ Some (JobBody living.1 living.0 living.2 false) → IsTrue (is_some o)
+      some_body None e = absurd (none-some _ e)
+      some_body (Some o) e = refl
+
+      below : k < w.next_koid
+      below = s.objects.below k (some_body (get w.objects k) living.3)
 
   -- the port that a wait names is there
   has_port : (h port key mask : ℕ) → refusal lib w p (wait_async h port key mask) ≡ None → IsGranted (kind.Port ∷ []) WRITE (entry_at w p port)
@@ -337,24 +405,126 @@ module _ (lib : Library) (w : World) (p : ℕ) (q : Process) (there : get w.proc
       port_is : IsSound w → IsTrue (is_port_there (body_of w (object_at w p port)))
       port_is s = let (o, at, fits) = named_object w p port (kind.Port ∷ []) WRITE (has_port h port key mask passes) s.named in rw at (port_there o.body fits)
 
+  -- ---- a start and a kill
+
+  -- of others the table is as it was
+  pub leave_other : (v : World) (k : ℕ) (hs : List ℕ) → (p == k) ≡ false → get (remove_all v p hs).processes k ≡ get v.processes k
+  unfolding remove_all on_process
+  leave_other v k [] apart = refl
+  leave_other v k (h ∷ hs) apart = leave_other (on_process v p (process_without h)) k hs apart ∙ (get-update v.processes p (process_without h) k ∙ rw apart refl)
+
+  -- handles that leave end no wait by themselves
+  leave_waits : (v : World) (hs : List ℕ) → (remove_all v p hs).waits ≡ v.waits
+  unfolding remove_all on_process
+  leave_waits v [] = refl
+  leave_waits v (h ∷ hs) = leave_waits (on_process v p (process_without h)) hs
+
+  -- the child of a start was made, and not started
+  pub child_of : (process h word : ℕ) → refusal lib w p (process_start process h word) ≡ None → (x : Process) × (get w.processes (object_at w p process) ≡ Some x) × (x.state ≡ Created)
+  unfolding is_process listed
+  child_of process h word passes = by_process (get w.processes (object_at w p process)) refl (not-false _ (test_fails _ status.BadState (listed_none lib w p (process_start process h word) passes).0))
+    where
+      by_state : (x : Process) (s : State) → x.state ≡ s → is_created s ≡ true → x.state ≡ Created
+      by_state x Created is h2 = is
+      by_state x _ is h2 = absurd (false≢true h2)
+
+      by_process : (o : Option Process) → get w.processes (object_at w p process) ≡ o → state_passes is_created o ≡ true → (x : Process) × (get w.processes (object_at w p process) ≡ Some x) × (x.state ≡ Created)
+      by_process None is h2 = absurd (false≢true h2)
+      by_process (Some x) is h2 = (x, is, by_state x x.state refl h2)
+
+  -- so it isn't the caller
+  pub child_apart : (process h word : ℕ) → refusal lib w p (process_start process h word) ≡ None → (p == object_at w p process) ≡ false
+  child_apart process h word passes = ne_eqb p (object_at w p process) (λ e. created_ready (sym child.2 ∙ (ap (λ (y : Process). y.state) (same_Some child.0 q (sym child.1 ∙ (ap (get w.processes) (sym e) ∙ there))) ∙ ready)))
+    where
+      child : (x : Process) × (get w.processes (object_at w p process) ≡ Some x) × (x.state ≡ Created)
+      child = child_of process h word passes
+
+      created_ready : Created ≡ Ready → ⊥
+      created_ready e = cc
+
+  pub one_entry : (o : Option Entry) → length (option_to_list o) ≤ 1
+  one_entry None = omega arith
+  one_entry (Some e) = omega arith
+
+  -- a process that is started gets its handle, and is ready
+  process_begins : (process h word : ℕ) (vs : List ℕ) → refusal lib w p (process_start process h word) ≡ None
+      → IsTrue (gets_all (get (left_by (process_start process h word)).processes (object_at w p process)) (option_to_list (entry_at w p h)) vs)
+      → Changes w (left_by (process_start process h word)) (insert_all (on_process (left_by (process_start process h word)) (object_at w p process) (started_with vs word)) (object_at w p process) (option_to_list (entry_at w p h)) vs)
+  unfolding on_process get
+  process_begins process h word vs passes gets =
+      changes u begun _ (process_starts w u k (λ x. cpu_given vs word x.cpu) (λ x at. ap (λ (y : Process). y.state) (same_Some x child.0 (sym at ∙ there_in_u)) ∙ child.2))
+      (all_enter w begun k (started_with vs word child.0) (option_to_list (entry_at w p h)) vs (λ s. there_begun) refl
+      (rw (started_may_get (option_to_list (entry_at w p h)) vs vs word child.0) (rw there_in_u at gets))
+      (λ s. let few : length (option_to_list (entry_at w p h)) ≤ 1 = one_entry (entry_at w p h) in rw (idle s).0 (omega (arith, few)))
+      (record { free = λ s v none. subst (λ ws. AreUnmade ws k v) (sym (leave_waits w (taken_handles (process_start process h word)))) (nothing_made s v); last = λ s v is. absurd (none-some v (sym (idle s).1 ∙ is)) })
+      (entry_fine (entry_at w p h) refl))
+    where
+      u : World
+      u = left_by (process_start process h word)
+
+      k : ℕ
+      k = object_at w p process
+
+      begun : World
+      begun = on_process u k (started_with vs word)
+
+      child : (x : Process) × (get w.processes k ≡ Some x) × (x.state ≡ Created)
+      child = child_of process h word passes
+
+      there_in_u : get u.processes k ≡ Some child.0
+      there_in_u = leave_other w k (taken_handles (process_start process h word)) (child_apart process h word passes) ∙ child.1
+
+      there_begun : get begun.processes k ≡ Some (started_with vs word child.0)
+      there_begun = get-update u.processes k (started_with vs word) k ∙ rw (eq-eqb k k refl, there_in_u) refl
+
+      idle : IsSound w → (child.0.handles ≡ []) × (child.0.last ≡ None)
+      idle s = (s.tables k child.0 child.1).idle (ap runs child.2)
+
+      nothing_made : IsSound w → (v : ℕ) → AreUnmade w.waits k v
+      nothing_made s v i d inside = by_wait (slice_index_or w.waits i d) (s.waits i d inside)
+        where
+          by_wait : (x : Wait) → IsSoundWait w x → is_by_handle k v x ≡ false
+          by_wait x t = elim (cases_Bool (x.pid == k)) as (λ _. is_by_handle k v x ≡ false) [
+            | inl made ↦
+                let at : get (handles_in (get w.processes k)) x.value ≡ Some t.handle.0 = rw (eqb-true x.pid k made) at t.handle.1 in
+                absurd (none-some t.handle.0 (sym (ap (λ m. get m x.value) (ap handles_in child.1 ∙ (idle s).0)) ∙ at))
+            | inr other ↦ rw other refl
+          ]
+
+      entry_fine : (o : Option Entry) → entry_at w p h ≡ o → All (IsFine w begun.objects) (option_to_list o)
+      entry_fine None is = All-nil (IsFine w begun.objects)
+      entry_fine (Some e) is = All-cons (IsFine w begun.objects) e [] (subst (λ (m : Map Object). IsFine w m e) (sym (left_behind w p q (taken_handles (process_start process h word)) there).1.objects) (entry_is_fine w p h e is)) (All-nil (IsFine w begun.objects))
+
+  -- a task that is to be killed has a koid
+  task_is_some : (task : ℕ) → refusal lib w p (task_kill task) ≡ None → IsSound w → (0 == object_at w p task) ≡ false
+  unfolding row_of refusal handle_operands examined operand
+  task_is_some task passes s =
+      let (o, at, fits) = named_object w p task (kind.Process ∷ kind.Job ∷ []) DESTROY (is_granted w p (kind.Process ∷ kind.Job ∷ []) DESTROY (entry_at w p task) (first_is_none _ _ (first_is_none _ _ passes))) s.named in
+      ne_eqb 0 (object_at w p task) (λ e. by_body o.body fits (s.tree (object_at w p task) o at) e)
+    where
+      by_body : (b : Body) → IsTrue (takes (kind.Process ∷ kind.Job ∷ []) (kind_of b)) → StandsBelow w.objects (object_at w p task) b → 0 ≡ object_at w p task → ⊥
+      by_body (JobBody parent depth policy killed) fits h e = omega (arith, h.later, e)
+      by_body (ProcessBody job) fits h e = omega (arith, h, e)
+      by_body _ fits h e = false≢true fits
+
   pub laws : (r : Request) (after : Process) (left : IsLeft w (left_by r) p q after) → refusal lib w p r ≡ None → IsLawful lib w (left_by r) p after r
-  unfolding effect new_handles insert_all may_choose listed with_object taken_handles handle_operands row_of
+  unfolding effect new_handles insert_all may_choose listed with_object taken_handles handle_operands row_of remove_all
   laws (dup h rights) after left passes =
       let u = left_by (dup h rights) in
       let may = may_take (taken_handles (dup h rights)) refl after left in
       let some_room = room_or w p 1 (nat_le (2 ^ 62) (handles_to w (object_at w p h))) (listed_none lib w p (dup h rights) passes).1.0 in
       let room = room_for u after left 1 (copy_of (entry_at w p h) rights) some_room (one_copy (entry_at w p h) rights) in
-      record { room = room; changes = λ vs gets. enter u after left u refl may _ vs (λ s. room) (chosen u after left _ vs gets) (copy_is_fine w u.objects (entry_at w p h) rights (fine_in u after left h)) }
-  laws (replace h rights) after left passes = record { room = omega arith; changes = λ vs gets. replaced h rights after left passes }
+      record { room = λ e. room; changes = λ vs gets. enter u after left u refl may _ vs (λ s. room) (chosen u after left _ vs gets) (copy_is_fine w u.objects (entry_at w p h) rights (fine_in u after left h)) }
+  laws (replace h rights) after left passes = record { room = λ e. omega arith; changes = λ vs gets. replaced h rights after left passes }
   laws chan_create after left passes =
       let u = left_by chan_create in
       let some_room = room_and w p 2 (has_koids w 2) (listed_none lib w p chan_create passes).0 in
       let room = room_for u after left 2 (two_entries w) some_room (omega arith) in
-      record { room = room; changes = two_made u after left (may_take (taken_handles chan_create) refl after left) room }
+      record { room = λ e. room; changes = two_made u after left (may_take (taken_handles chan_create) refl after left) room }
   laws (chan_write c bytes hs) after left passes =
       let u = left_by (chan_write c bytes hs) in
       record {
-        room = omega arith;
+        room = λ e. omega arith;
         changes = λ vs gets. one w u _ (object_changes w u (peer_at w p c) _
             (λ o at. message_comes (record { bytes = bytes; handles = entries_at w p hs }) refl (may_be_sent w u p (peer_at w p c) bytes hs left.objects)));
       }
@@ -363,42 +533,42 @@ module _ (lib : Library) (w : World) (p : ℕ) (q : Process) (there : get w.proc
       let some_room = not-false _ (test_fails _ status.NoResources (listed_none lib w p (chan_read_etc c address room places) passes).1.1.1.0) in
       let enough = room_for u after left (length (first_handles (queue_at w p c))) (first_handles (queue_at w p c)) some_room (omega arith) in
       record {
-        room = enough;
+        room = λ e. enough;
         changes = λ vs gets. received u after left (may_take (taken_handles (chan_read_etc c address room places)) refl after left) (object_at w p c) address _ (first_bytes (queue_at w p c)) vs enough gets (received_are_fine w u p c left.objects);
       }
   laws event_create after left passes =
       let u = left_by event_create in
       let some_room = room_and w p 1 (has_koids w 1) (listed_none lib w p event_create passes).0 in
       let room = room_for u after left 1 (new_entry w.next_koid kind.Event ∷ []) some_room (omega arith) in
-      record { room = room; changes = one_made u after left (may_take (taken_handles event_create) refl after left) EventBody refl tt room }
+      record { room = λ e. room; changes = one_made u after left (may_take (taken_handles event_create) refl after left) EventBody refl tt (λ s. tt) room }
   laws (signal_peer h clear set) after left passes =
       let u = left_by (signal_peer h clear set) in
       record {
-        room = omega arith;
+        room = λ e. omega arith;
         changes = λ vs gets. one w u _ (object_changes w u (peer_at w p h) (object_changed clear set)
             (λ o at. signals_change clear set refl (may_signal_peer w p h clear set lib passes o (subst (λ (m : Map Object). get m (peer_at w p h) ≡ Some o) left.objects at))));
       }
   laws (wait_async h port key mask) after left passes =
-      record { room = omega arith; changes = λ vs gets. wait_registered h port key mask passes }
+      record { room = λ e. omega arith; changes = λ vs gets. wait_registered h port key mask passes }
   laws port_create after left passes =
       let u = left_by port_create in
       let some_room = room_and w p 1 (has_koids w 1) (listed_none lib w p port_create passes).0 in
       let room = room_for u after left 1 (new_entry w.next_koid kind.Port ∷ []) some_room (omega arith) in
-      record { room = room; changes = one_made u after left (may_take (taken_handles port_create) refl after left) (PortBody []) refl tt room }
+      record { room = λ e. room; changes = one_made u after left (may_take (taken_handles port_create) refl after left) (PortBody []) refl tt (λ s. tt) room }
   laws (port_queue port key value) after left passes =
       let u = left_by (port_queue port key value) in
-      record { room = omega arith; changes = λ vs gets. one w u _ (packets_are_changed w u (object_at w p port) (λ xs. xs ++ (user_packet key value ∷ []))) }
+      record { room = λ e. omega arith; changes = λ vs gets. one w u _ (packets_are_changed w u (object_at w p port) (λ xs. xs ++ (user_packet key value ∷ []))) }
   laws (port_wait port) after left passes =
       let u = left_by (port_wait port) in
-      record { room = omega arith; changes = λ vs gets. one w u _ (packets_are_changed w u (object_at w p port) (drop 1)) }
+      record { room = λ e. omega arith; changes = λ vs gets. one w u _ (packets_are_changed w u (object_at w p port) (drop 1)) }
   laws (port_poll port) after left passes =
       let u = left_by (port_poll port) in
-      record { room = omega arith; changes = λ vs gets. one w u _ (packets_are_changed w u (object_at w p port) (drop 1)) }
+      record { room = λ e. omega arith; changes = λ vs gets. one w u _ (packets_are_changed w u (object_at w p port) (drop 1)) }
   laws (port_cancel port source key) after left passes =
       let u = left_by (port_cancel port source key) in
       let k = object_at w p port in
       record {
-        room = omega arith;
+        room = λ e. omega arith;
         changes = λ vs gets. changes u (without_keyed u p source k key) _ (keyed_end w u p source k key)
             (one w (without_keyed u p source k key) _ (packets_are_changed w (without_keyed u p source k key) k (filter (λ x. not (is_from (source_at w p source) key x)))));
       }
@@ -407,17 +577,26 @@ module _ (lib : Library) (w : World) (p : ℕ) (q : Process) (there : get w.proc
       let some_room = room_and w p 1 (has_koids w 1) (listed_none lib w p (process_create job program) passes).1.1.1.0 in
       let room = room_for u after left 1 (new_entry w.next_koid kind.Process ∷ []) some_room (omega arith) in
       let same : after ≡ q = none_left (taken_handles (process_create job program)) refl after left in
-      record { room = room; changes = λ vs gets. process_made job program vs passes (subst (λ (x : Process). HaveRoom x (new_entry w.next_koid kind.Process ∷ [])) same room) gets }
+      record { room = λ e. room; changes = λ vs gets. process_made job program vs passes (subst (λ (x : Process). HaveRoom x (new_entry w.next_koid kind.Process ∷ [])) same room) gets }
+  laws (process_start process h word) after left passes = record { room = λ e. absurd (true≢false (sym (eq-eqb p (object_at w p process) (sym e)) ∙ child_apart process h word passes)); changes = λ vs gets. process_begins process h word vs passes gets }
+  laws (task_kill task) after left passes = record { room = λ e. omega arith; changes = λ vs gets. one w w (with_killed w (object_at w p task)) (all_are_killed w w (object_at w p task) (λ k s inside. childless w s (object_at w p task) (task_is_some task passes s) k inside)) }
+  laws (job_set_policy j mode condition action) after left passes =
+      let u = left_by (job_set_policy j mode condition action) in
+      record {
+        room = λ e. omega arith;
+        changes = λ vs gets. one w u _ (object_changes w u (object_at w p j) (policy_changed (setting_of mode condition action))
+            (λ o at. policy_changes (setting_of mode condition action) refl (λ s. (or_parts (is_dead (body_of w (object_at w p j))) _ (test_fails _ status.BadState (listed_none lib w p (job_set_policy j mode condition action) passes).1.0)).1)));
+      }
   laws (job_create j) after left passes =
       let u = left_by (job_create j) in
       let some_room = room_and w p 1 (has_koids w 1) (listed_none lib w p (job_create j) passes).1.1.0 in
       let room = room_for u after left 1 (new_entry w.next_koid kind.Job ∷ []) some_room (omega arith) in
-      record { room = room; changes = one_made u after left (may_take (taken_handles (job_create j)) refl after left) (job_within (object_at w p j) (body_of w (object_at w p j))) refl tt room }
+      record { room = λ e. room; changes = one_made u after left (may_take (taken_handles (job_create j)) refl after left) (job_within (object_at w p j) (body_of w (object_at w p j))) refl tt (job_stands j passes) room }
   laws (signal h clear set) after left passes =
       let u = left_by (signal h clear set) in
       record {
-        room = omega arith;
+        room = λ e. omega arith;
         changes = λ vs gets. one w u _ (object_changes w u (object_at w p h) (object_changed clear set)
             (λ o at. signals_change clear set refl (may_signal w p h clear set lib passes o (subst (λ (m : Map Object). get m (object_at w p h) ≡ Some o) left.objects at))));
       }
-  laws _ after left passes = record { room = omega arith; changes = λ vs gets. stays _ }
+  laws _ after left passes = record { room = λ e. omega arith; changes = λ vs gets. stays _ }

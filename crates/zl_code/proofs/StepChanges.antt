@@ -1,5 +1,5 @@
 -- Which changes a step is made of: a call with its answer, a statement of a boot, and waking.
-use Rattle.zl_code.proofs.Common.{◌≡◌, ◌<◌, arith, ℕ, true, false, List, [], ◌∷◌, refl, ap, sym, IsTrue, Option, Some, None, eq-eqb, if◌then◌else◌, is_some, ne_eqb, get, put, World, Process, State, Ready, Blocked, Object, Body, EventBody, PortBody, ProcessBody, runs, wakes, fired, Library, Site, body_in, refusal, with_object, with_effect, gives_ok, gives_refused, taken_handles, may_choose, cpu_answered, replied, taken, ok_outcome, Choice, Refused, WantsMemory, Values, Next, Moves, AtCall, IsStuck, next_for, Acts, Step, boot_fault, boot_effect, is_job_body, IsSound, subst, ◌∙◌, All, and_parts, nat_tests, All-nil, Map, has_key, on_process, insert_all, process_with, has_default_rights, HasGivenKoids, ◌++◌, may_boot, update, meets, SignalOf, PacketAt, Packet, get-put, is_job, handle_given, handles_given, process_with_all, with_process, All-cons, active, packet_values, woken, made_ready, with_body, woken_by_first, woken_by, woken_at_port, woken_from, woken_if_there, after_refusal, after_ok, CallBy, created_process, started_with, fold, list_all, true≢false, IsSoundWait, none-some, slice_index_or, cases_Bool, inl, inr, eqb-true, ◌==◌}
+use Rattle.zl_code.proofs.Common.{◌+◌, ◌≡◌, ◌<◌, arith, ℕ, Bool, true, false, ChannelEnd, JobBody, List, [], ◌∷◌, refl, ap, sym, IsTrue, Option, Some, None, eq-eqb, if◌then◌else◌, is_some, ne_eqb, get, put, World, Process, State, Ready, Blocked, Object, Body, EventBody, PortBody, ProcessBody, runs, wakes, fired, Library, Site, body_in, refusal, with_object, with_effect, gives_ok, gives_refused, taken_handles, may_choose, cpu_answered, replied, taken, ok_outcome, Choice, Refused, WantsMemory, Values, Next, Moves, AtCall, IsStuck, next_for, Acts, Step, boot_fault, boot_effect, is_job_body, IsSound, subst, ◌∙◌, All, and_parts, nat_tests, All-nil, Map, has_key, on_process, insert_all, process_with, has_default_rights, HasGivenKoids, ◌++◌, may_boot, update, meets, SignalOf, PacketAt, Packet, get-put, is_job, handle_given, handles_given, process_with_all, with_process, All-cons, active, packet_values, woken, made_ready, with_body, woken_by_first, woken_by, woken_at_port, woken_from, woken_if_there, after_refusal, after_ok, CallBy, created_process, started_with, fold, list_all, true≢false, IsSoundWait, none-some, slice_index_or, cases_Bool, inl, inr, eqb-true, ◌==◌}
 use Rattle.std.specs.Option.{option_to_list}
 use Rattle.zl_rights.specs.declared.entry.Entry.{Entry}
 use Rattle.zl_rights.specs.declared.status.Status.{Status}
@@ -15,7 +15,8 @@ use Rattle.zl_code.specs.declared.history.Outcome.{Outcome}
 use Rattle.zl_code.specs.declared.history.Outcome.TheVariants as outcome
 use Rattle.zl_code.specs.declared.history.TraceItem.{TraceItem}
 use Rattle.zl_code.proofs.CanStart.{CanStart, can_start, handles_at_most, started_with_all, started_may_get}
-use Rattle.zl_code.proofs.MapKept.{changed}
+use Rattle.zl_rights.specs.declared.policy.Action.{Action}
+use Rattle.zl_code.proofs.MapKept.{changed, each_put}
 use Rattle.zl_code.proofs.Changes.{AreUnmade, computes, Changes, stays, changes, settles, join, one, process_changes, process_ends, process_wakes, process_blocks, process_is_made, object_is_made, ends_are_made, packet_goes, waits_fire}
 use Rattle.zl_code.proofs.Entering.{IsFine, all_enter, all_leave, left_behind}
 use Rattle.zl_code.proofs.CallLaws.{laws}
@@ -152,16 +153,43 @@ nothing_made w k v s gone i d inside = one (slice_index_or w.waits i d) (s.waits
       | inr other ↦ rw other refl
     ]
 
-pub boot_changes : (lib : Library) (w : World) (s : Statement) (vs : List ℕ) → HasGivenKoids w → boot_fault lib w s ≡ None → IsTrue (may_boot lib w s vs) → Changes w w (boot_effect lib w s vs)
+-- a job that was killed
+abbrev pub is_killed : Body → Bool
+is_killed (JobBody parent depth policy killed) = killed
+is_killed b = false
+
+-- no job was killed yet
+abbrev pub NoneKilled : World → Type 0
+NoneKilled w = (k : ℕ) (o : Object) → get w.objects k ≡ Some o → is_killed o.body ≡ false
+
+-- a new object that is no killed job leaves it so
+none_killed_beside : (w : World) (b : Body) → is_killed b ≡ false → NoneKilled w → NoneKilled (with_object w b)
+unfolding with_object
+none_killed_beside w b alive none k o there = each_put (λ (x : Object). is_killed x.body ≡ false) w.objects none w.next_koid (record { body = b; raised = 0 }) alive k o there
+
+pub boot_kills_none : (lib : Library) (w : World) (s : Statement) (vs : List ℕ) → NoneKilled w → NoneKilled (boot_effect lib w s vs)
+unfolding boot_effect
+boot_kills_none lib w (statement.Process job program word handles) vs none = none_killed_beside w (ProcessBody job) refl none
+boot_kills_none lib w statement.Event vs none = none_killed_beside w EventBody refl none
+boot_kills_none lib w statement.Port vs none = none_killed_beside w (PortBody []) refl none
+boot_kills_none lib w statement.Channel vs none =
+    none_killed_beside (with_object w (ChannelEnd (w.next_koid + 1) [])) (ChannelEnd w.next_koid []) refl (none_killed_beside w (ChannelEnd (w.next_koid + 1) []) refl none)
+
+pub boot_changes : (lib : Library) (w : World) (s : Statement) (vs : List ℕ) → HasGivenKoids w → NoneKilled w → boot_fault lib w s ≡ None → IsTrue (may_boot lib w s vs) → Changes w w (boot_effect lib w s vs)
 unfolding boot_effect with_object
-boot_changes lib w (statement.Process job program word handles) vs given fine may =
-    changes w made _ (object_is_made w w (ProcessBody job) refl tt)
+boot_changes lib w (statement.Process job program word handles) vs given none fine may =
+    changes w made _ (object_is_made w w (ProcessBody job) refl tt (λ s. given.below job (job_is_there (get w.objects job) can.in_job)))
     (changes made begun _ (process_is_made w made w.next_koid first (record {
       free = λ s. no_process s (get w.processes w.next_koid) refl;
       given = omega arith;
       empty = refl;
       nothing_last = refl;
-      object = λ s. (job, rw (get-put w.objects w.next_koid new_object w.next_koid, eq-eqb w.next_koid w.next_koid refl) refl, rw same_job can.in_job);
+      object = λ s. record {
+        job = job;
+        there = rw (get-put w.objects w.next_koid new_object w.next_koid, eq-eqb w.next_koid w.next_koid refl) refl;
+        depth = alive.0;
+        lives = record { parent = alive.1; policy = alive.2; there = alive.3 };
+      };
     }) refl)
     (subst (λ (x : World). Changes w begun x) (made_with_all made w.next_koid first es vs ∙ ap (with_process made w.next_koid) (started_with_all es vs vs word (created_process lib program)))
     (all_enter w begun w.next_koid first es vs (λ s. there) refl (rw (started_may_get es vs vs word (created_process lib program)) may) (λ s. omega (arith, can.few, handles_at_most w.objects handles)) (record { free = λ s v none. nothing_made w w.next_koid v s (no_process s (get w.processes w.next_koid) refl); last = λ s v is. absurd (none-some v is) })
@@ -196,8 +224,20 @@ boot_changes lib w (statement.Process job program word handles) vs given fine ma
     stays : (k : ℕ) → IsTrue (has_key w.objects k) → get made.objects k ≡ get w.objects k
     stays k old = let below : k < w.next_koid = given.below k old in get-put w.objects w.next_koid new_object k ∙ rw (ne_eqb w.next_koid k (λ e. omega arith)) refl
 
-    same_job : is_job_body (body_in (get made.objects job)) ≡ is_job w job
-    same_job = ap (λ o. is_job_body (body_in o)) (stays job (job_is_there (get w.objects job) can.in_job))
-boot_changes lib w statement.Event vs given fine may = one w w _ (object_is_made w w EventBody refl tt)
-boot_changes lib w statement.Port vs given fine may = one w w _ (object_is_made w w (PortBody []) refl tt)
-boot_changes lib w statement.Channel vs given fine may = one w w _ (ends_are_made w w w.next_koid refl)
+    -- its job is there beside it, and lives
+    alive : (depth : ℕ) × (parent : ℕ) × (policy : Map Action) × (body_in (get made.objects job) ≡ Some (JobBody parent depth policy false))
+    alive = by_object (get w.objects job) refl can.in_job
+      where
+        by_body : (o : Object) (b : Body) → get w.objects job ≡ Some o → o.body ≡ b → IsTrue (is_job_body (Some b))
+            → (depth : ℕ) × (parent : ℕ) × (policy : Map Action) × (body_in (get made.objects job) ≡ Some (JobBody parent depth policy false))
+        by_body o (JobBody parent depth policy false) at is h = (depth, parent, policy, ap body_in (stays job (ap is_some at) ∙ at) ∙ ap Some is)
+        by_body o (JobBody parent depth policy true) at is h = absurd (true≢false (sym (ap is_killed is) ∙ none job o at))
+        by_body o _ at is h = absurd (true≢false (sym h))
+
+        by_object : (o : Option Object) → get w.objects job ≡ o → IsTrue (is_job_body (body_in o))
+            → (depth : ℕ) × (parent : ℕ) × (policy : Map Action) × (body_in (get made.objects job) ≡ Some (JobBody parent depth policy false))
+        by_object None at h = absurd (true≢false (sym h))
+        by_object (Some o) at h = by_body o o.body at refl h
+boot_changes lib w statement.Event vs given none fine may = one w w _ (object_is_made w w EventBody refl tt (λ s. tt))
+boot_changes lib w statement.Port vs given none fine may = one w w _ (object_is_made w w (PortBody []) refl tt (λ s. tt))
+boot_changes lib w statement.Channel vs given none fine may = one w w _ (ends_are_made w w w.next_koid refl)

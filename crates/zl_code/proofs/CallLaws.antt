@@ -8,7 +8,7 @@ use Rattle.zl_rights.specs.LookUp.{granted}
 use Rattle.zl_rights.proofs.Narrowed.{narrowed_within}
 use Rattle.zl_code.specs.declared.history.Outcome.{Outcome}
 use Rattle.zl_rights.specs.declared.kind.Kind.{Kind}
-use Rattle.zl_rights.specs.Numbers.{DESTROY, MANAGE_PROCESS, SIGNAL_PEER, USER_SIGNALS, WAIT, WRITE}
+use Rattle.zl_rights.specs.Numbers.{DESTROY, TRANSFER, MANAGE_PROCESS, SIGNAL_PEER, USER_SIGNALS, WAIT, WRITE}
 use Rattle.zl_rights.specs.Packets.{is_from, user_packet}
 use Rattle.zl_code.specs.CallTable.{choosing, receiver_of, signal_peer, wait_async, port_create, port_queue, port_wait, port_poll, port_cancel, process_create, process_start, task_kill, job_create, job_set_policy}
 use Rattle.zl_code.specs.Jobs.{depth_in, is_dead, is_deepest, job_within, policy_changed, with_killed}
@@ -441,6 +441,16 @@ module _ (lib : Library) (w : World) (p : ℕ) (q : Process) (there : get w.proc
 
       created_ready : Created ≡ Ready → ⊥
       created_ready e = cc
+
+  -- the handle that it starts with is live
+  pub arg_there : (process h word : ℕ) → refusal lib w p (process_start process h word) ≡ None → (e : Entry) × (entry_at w p h ≡ Some e)
+  unfolding row_of refusal handle_operands examined operand
+  arg_there process h word passes =
+      let first = operand_of w p (kind.Process ∷ []) WRITE (entry_at w p process) in
+      let second = operand_of w p [] TRANSFER (entry_at w p h) in
+      let both : first_some (first ∷ first_some (second ∷ None ∷ []) ∷ []) ≡ None = first_is_none _ _ passes in
+      let granted = is_granted w p [] TRANSFER (entry_at w p h) (first_is_none second (None ∷ []) (first_is_none (first_some (second ∷ None ∷ [])) [] (first_none first (first_some (second ∷ None ∷ []) ∷ []) both))) in
+      (granted.0, granted.1)
 
   pub one_entry : (o : Option Entry) → length (option_to_list o) ≤ 1
   one_entry None = omega arith

@@ -18,7 +18,7 @@ use Rattle.std.proofs.lemmas.Bool.{not-true}
 use Rattle.zl_code.specs.Effects.{body_after_read, body_with_message, storing, waiting}
 use Rattle.zl_code.specs.Frame.{OthersMake, left_alone, woken as is_woken, was_started, was_killed, dropped, LeavesOthers, HasLiving, IsWithin, itself, below, policy_of}
 use Rattle.zl_code.proofs.Changes.{ObjectChange, signals_change, packets_change, message_comes, message_goes, policy_changes, dies, Change, kept}
-use Rattle.zl_code.proofs.CallLaws.{arg_there, child_of}
+use Rattle.zl_code.proofs.TaskLaws.{arg_there, child_of}
 use Rattle.zl_code.proofs.Killing.{job_of}
 use Rattle.zl_code.proofs.NamesKept.{list_any-get}
 use Rattle.zl_code.proofs.MapKept.{each_changed}

@@ -123,7 +123,10 @@ impl World {
         ensures { result ≡ state_in self.now pid }
     {
         match place_of(&self.processes, pid) {
-            Some(place) => self.processes[place].state(),
+            Some(place) => {
+                let process = &self.processes[place];
+                process.state(self.objects.kind_of(pid).is_some())
+            }
             None => ProcState::Gone,
         }
     }
@@ -179,6 +182,7 @@ impl World {
             &self.library,
             &mut self.processes,
             &mut self.objects,
+            &mut self.blocked,
             pid,
         )?;
         add_blocked(&mut self.blocked, pid, &item);
@@ -190,10 +194,11 @@ impl World {
 
     /// Does the system call at which the process is, with all that follows from it.
     ///
-    /// The process has to be ready and at a call. It takes no memory at `close`, `replace`,
-    /// `signal`, `signal_peer`, `wait_one`, `wait_poll`, `port_wait`, `port_poll`, `port_cancel` and
-    /// `process_exit`; a call that was refused memory is answered `NoMemory`. Waits that fire or end,
-    /// and processes that block or wake, take none.
+    /// The process has to be ready and at a call. Its job's policy may keep it from making an object,
+    /// or end it. It takes no memory at `close`, `replace`, `signal`, `signal_peer`, `wait_one`,
+    /// `wait_poll`, `port_wait`, `port_poll`, `port_cancel`, `process_exit`, `task_kill` and
+    /// `job_set_policy`; a call that was refused memory is answered `NoMemory`. Waits that fire or end,
+    /// processes that block, wake or are killed, and policies take none.
     /// Source: for each call its page of the Fuchsia documentation, as "zx_handle_close"; the order
     /// in which answers are looked for is own profile.
     pub fn perform(&mut self, pid: Pid) -> Outcome

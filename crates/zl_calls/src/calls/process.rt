@@ -4,9 +4,14 @@ ghost use Rattle.std.specs.Prelude.{◌≡◌};
 ghost use Rattle.zl_code.specs.Effects.{signed_word};
 ghost use Rattle.zl_calls.specs.calls.Process.{Ends};
 
+use crate::calls::{insert, look_up};
 use crate::process::Process;
+use crate::program::{Library, Program};
 use std::alloc::Global;
-use zl_objects::Objects;
+use zl_code::{Image, Start};
+use zl_objects::{Body, Life, Objects};
+use zl_rights::{Action, Condition, Entry, HValue, Kind, Koid, Rights, Status};
+use zl_table::Table;
 
 /// Ends the process with the code; its handles close, and what isn't held any more is gone.
 ///
@@ -27,4 +32,110 @@ pub fn signed_word(value: u64) -> i32
 {
     let low = (value & 0xffff_ffff) as u32;
     low.cast_signed()
+}
+
+/// What a program can declare that its processes make.
+const NEEDS: [Condition; 4] = [
+    Condition::NewChannel,
+    Condition::NewEvent,
+    Condition::NewPort,
+    Condition::NewProcess,
+];
+
+/// The job in which a process is to be made, and the image that the process is to run; or why none is
+/// made, but for want of memory. `process_create` says when which refusal comes.
+pub fn find_job<'a>(
+    library: &'a Library,
+    table: &Table,
+    objects: &Objects,
+    job: u64,
+    program: u64,
+) -> Result<(Koid, &'a Image), Status> {
+    let job = look_up(table, job, &[Kind::Job], Rights::MANAGE_PROCESS)?;
+    let Some(program) = library.get(program as usize) else {
+        return Err(Status::InvalidArgs);
+    };
+    if objects.is_dead(job.koid) {
+        return Err(Status::BadState);
+    }
+    if lacks_need(objects, job.koid, program) {
+        return Err(Status::NotSupported);
+    }
+    if table.len() >= Table::CAPACITY || !objects.has_koids(1) {
+        return Err(Status::NoResources);
+    }
+    Ok((job.koid, program.image()))
+}
+
+/// Whether the program was checked, and declares a need that the policy of the job doesn't allow.
+fn lacks_need(objects: &Objects, job: Koid, program: &Program) -> bool {
+    program.is_checked()
+        && NEEDS
+            .iter()
+            .any(|need| program.image().needs(*need) && !allows(objects, job, *need))
+}
+
+/// Whether the policy of the job allows what the condition stands for.
+fn allows(objects: &Objects, job: Koid, condition: Condition) -> bool {
+    matches!(objects.action(job, condition), Action::Allow)
+}
+
+/// Makes the object of a process in the job, with a handle that has the default rights. Only memory
+/// can be refused.
+pub fn make_process(
+    table: &mut Table,
+    objects: &mut Objects,
+    job: Koid,
+) -> Result<HValue, Status> {
+    let body = Body::Process {
+        job,
+        life: Life::Created,
+    };
+    let Ok(koid) = objects.create(body, 1) else {
+        return Err(Status::NoMemory);
+    };
+    let entry = Entry {
+        koid,
+        kind: Kind::Process,
+        rights: Kind::Process.default_rights(),
+    };
+    match insert(table, entry) {
+        Ok(made) => Ok(made),
+        Err(refused) => {
+            objects.take_back(koid);
+            Err(refused)
+        }
+    }
+}
+
+/// Whether the program with this number was checked, and declares anything else than this handle.
+pub fn misfits(library: &Library, program: usize, entry: &Entry) -> bool {
+    match library.get(program) {
+        Some(program) => program.is_checked() && !is_only_start(program.image().starts(), entry),
+        None => false,
+    }
+}
+
+/// Whether one handle is declared, and this one will do for it.
+fn is_only_start(starts: &[Start], entry: &Entry) -> bool {
+    match starts {
+        [start] => is_declared(start, entry),
+        _ => false,
+    }
+}
+
+/// Whether the handle is of the declared kind, with the declared rights at least.
+fn is_declared(start: &Start, entry: &Entry) -> bool {
+    let is_of_kind = match start.kind {
+        Some(kind) => kind.number() == entry.kind.number(),
+        None => true,
+    };
+    is_of_kind && start.rights.within(entry.rights)
+}
+
+/// The handles of the table close, one after another.
+pub fn close_all(objects: &mut Objects, mut table: Table) {
+    while let Some(entry) = table.drain() {
+        objects.release(entry.koid);
+    }
 }

@@ -38,7 +38,7 @@ pub fn by_policy(
     objects: &mut Objects,
     call: &CallInstr,
 ) -> Option<Outcome> {
-    match verdict(process, objects, call)? {
+    match judge(process, objects, call)? {
         Verdict::Denied => deny(process, call),
         Verdict::Killed => {
             end(alloc, process, objects, BY_POLICY);
@@ -48,7 +48,7 @@ pub fn by_policy(
 }
 
 /// How the policy of the process's job ends the call, if it does.
-fn verdict(process: &Process, objects: &Objects, call: &CallInstr) -> Option<Verdict> {
+fn judge(process: &Process, objects: &Objects, call: &CallInstr) -> Option<Verdict> {
     let job = objects.job_of(process.pid)?;
     if !objects.has_policy(job) {
         // So it is in most jobs, and spares the examination.

@@ -1,11 +1,11 @@
 //! Calls on jobs.
 
-ghost use Rattle.zl_calls.specs.calls.Job.{JobCreateDoes, JobSetPolicyDoes, setting_found};
+ghost use Rattle.zl_calls.specs.calls.Job.{JobCreateDoes, JobSetPolicyDoes, has_child_at, setting_found};
 ghost use Rattle.std.specs.Prelude.{◌≡◌};
 
 use crate::calls::{insert, look_up};
 use zl_objects::{Body, JobFault, Objects};
-use zl_rights::{Action, Condition, Entry, HValue, Kind, Mode, Rights, Status};
+use zl_rights::{Action, Condition, Entry, HValue, Kind, Koid, Mode, Rights, Status};
 use zl_table::Table;
 
 /// Makes a job in the job of the handle, with a handle that has the default rights. It has the policy
@@ -80,6 +80,14 @@ pub fn job_set_policy(
         return Err(Status::BadState);
     }
     objects.set_policy(job.koid, setting.condition, setting.action, setting.mode)
+}
+
+/// Whether a job or a process lives directly below the job.
+pub fn has_children(objects: &Objects, job: Koid) -> bool
+    ensures { result ≡ has_child_at objects.now.objects job }
+{
+    let (jobs, processes) = objects.children(job);
+    jobs || processes
 }
 
 /// What is to be set, if each of the numbers is known.

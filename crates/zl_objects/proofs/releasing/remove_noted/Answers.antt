@@ -5,7 +5,7 @@ use Rattle.zl_objects.specs.Dying.{unkept_at, LetsGo}
 use Rattle.zl_objects.specs.Waits.{ending_waits}
 use Rattle.zl_objects.proofs.Budget.{IsTaken, kept_went, less_ending, none_left_at, none_taken, none_went, no_queue, taken, unkept_went}
 use Rattle.zl_objects.proofs.Ending.{ended_by}
-use Rattle.zl_objects.proofs.releasing.remove_unkept.Goals as goal
+use Rattle.zl_objects.proofs.releasing.remove_noted.Goals as goal
 
 pub returns-in_default-clause-goes : goal.returns-in_default-clause-goes
 returns-in_default-clause-goes c =

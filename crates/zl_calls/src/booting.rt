@@ -122,7 +122,7 @@ impl Made {
             return Err(BootCause::Unknown);
         }
         // No job is killed by a boot, so that one level too many is the only fault.
-        let Ok(child) = self.objects.child_of(parent) else {
+        let Ok(child) = self.objects.job_below(parent) else {
             return Err(BootCause::Limit);
         };
         if self.lacks_koids(1) {

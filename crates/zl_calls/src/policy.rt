@@ -1,5 +1,15 @@
 //! What the policy of a job says to a call of its process, which is asked before the call is done.
 
+ghost use Rattle.std.specs.Prelude.{◌≡◌, ◌<◌, ◌^◌, [], None, IfSome, IfNone};
+ghost use Rattle.std.specs.Result.{result_err};
+ghost use Rattle.zl_rights.specs.LookUp.{looked_up};
+ghost use Rattle.zl_rights.specs.Numbers.{bits};
+ghost use Rattle.zl_code.specs.Local.{reg};
+ghost use Rattle.zl_code.specs.Refusals.{condition_of, handle_operands};
+ghost use Rattle.zl_code.specs.Request.{site_of};
+ghost use Rattle.zl_objects.specs.Jobs.{action_of, job_at};
+ghost use Rattle.zl_calls.specs.Policed.{IsDenied, Policed, on_fault, on_making, operands_fault, verdict_on};
+
 use crate::calls::channel::examine_list;
 use crate::calls::look_up;
 use crate::calls::process::end;
@@ -37,7 +47,16 @@ pub fn by_policy(
     process: &mut Process,
     objects: &mut Objects,
     call: &CallInstr,
-) -> Option<Outcome> {
+) -> Option<Outcome>
+    requires counter { process.old.cpu.counter < 2 ^ 32 }
+    ensures policed { IfSome result (λ outcome. IfSome (site_of call.now process.old.cpu)
+        (λ s. Policed s process.old objects.old outcome process.new objects.new)) }
+    ensures done { IfNone result (IfSome (site_of call.now process.old.cpu) (λ s.
+        verdict_on process.old.table.entries objects.old.objects process.old.pid s.request
+        ≡ None)) }
+    ensures same_process { IfNone result (process.new ≡ process.old) }
+    ensures same_objects { IfNone result (objects.new ≡ objects.old) }
+{
     match judge(process, objects, call)? {
         Verdict::Denied => deny(process, call),
         Verdict::Killed => {
@@ -48,7 +67,10 @@ pub fn by_policy(
 }
 
 /// How the policy of the process's job ends the call, if it does.
-fn judge(process: &Process, objects: &Objects, call: &CallInstr) -> Option<Verdict> {
+fn judge(process: &Process, objects: &Objects, call: &CallInstr) -> Option<Verdict>
+    ensures { IfSome (site_of call.now process.now.cpu) (λ s. result
+        ≡ verdict_on process.now.table.entries objects.now.objects process.now.pid s.request) }
+{
     let job = objects.job_of(process.pid)?;
     if !objects.has_policy(job) {
         // So it is in most jobs, and spares the examination.
@@ -61,7 +83,9 @@ fn judge(process: &Process, objects: &Objects, call: &CallInstr) -> Option<Verdi
 }
 
 /// How a call ends that makes an object, where this is the action for it.
-fn on_making(action: Action) -> Option<Verdict> {
+fn on_making(action: Action) -> Option<Verdict>
+    ensures { result ≡ on_making action }
+{
     match action {
         Action::Allow => None,
         Action::Deny => Some(Verdict::Denied),
@@ -71,7 +95,9 @@ fn on_making(action: Action) -> Option<Verdict> {
 
 /// How a call ends with this fault of a handle operand: in any other way than it would without a
 /// policy just where the job kills for it.
-fn on_fault(objects: &Objects, job: Koid, fault: Status) -> Option<Verdict> {
+fn on_fault(objects: &Objects, job: Koid, fault: Status) -> Option<Verdict>
+    ensures { result ≡ on_fault (action_of (job_at objects.now.objects job)) fault }
+{
     let condition = match fault {
         Status::BadHandle => Condition::BadHandle,
         Status::WrongType => Condition::WrongObject,
@@ -84,7 +110,11 @@ fn on_fault(objects: &Objects, job: Koid, fault: Status) -> Option<Verdict> {
 }
 
 /// The condition of making the object that the call makes, if it makes one of which a policy decides.
-fn made_by(call: &CallInstr) -> Option<Condition> {
+#[tactic(auto, unfolding(zl_code::specs::Request::site_of, zl_code::specs::Instructions::row_of, zl_code::specs::Spells::call_parts))]
+fn made_by(call: &CallInstr) -> Option<Condition>
+    ensures { (cpu : Cpu) → IfSome (site_of call.now cpu)
+        (λ s. result ≡ condition_of s.request) }
+{
     match call {
         CallInstr::ChanCreate { .. } => Some(Condition::NewChannel),
         CallInstr::EventCreate { .. } => Some(Condition::NewEvent),
@@ -95,7 +125,15 @@ fn made_by(call: &CallInstr) -> Option<Condition> {
 }
 
 /// Answers a call that makes an object with `AccessDenied`, and 0 in the registers of its handles.
-fn deny(process: &mut Process, call: &CallInstr) -> Option<Outcome> {
+#[tactic(auto, unfolding(zl_code::specs::Request::site_of, zl_code::specs::Instructions::row_of, zl_code::specs::Spells::call_parts))]
+fn deny(process: &mut Process, call: &CallInstr) -> Option<Outcome>
+    requires counter { process.old.cpu.counter < 2 ^ 32 }
+    ensures denied { IfSome result (λ outcome. (r : Objects) → IfSome (site_of call.now process.old.cpu)
+        (λ s. IsDenied s process.old r outcome process.new r)) }
+    ensures nothing { IfNone result (IfSome (site_of call.now process.old.cpu)
+        (λ s. condition_of s.request ≡ None)) }
+    ensures unchanged { IfNone result (process.new ≡ process.old) }
+{
     let denied = Err(Status::AccessDenied);
     match call {
         CallInstr::ChanCreate {
@@ -116,7 +154,11 @@ fn deny(process: &mut Process, call: &CallInstr) -> Option<Outcome> {
 
 /// Examines the handle operands of the call from left to right, and gives the fault of the first that
 /// has one. A handle that stands in a list twice isn't live any more at the second place.
-fn examine(table: &Table, cpu: &Cpu, call: &CallInstr) -> Result<(), Status> {
+#[tactic(auto, unfolding(zl_code::specs::Request::site_of, zl_code::specs::Instructions::row_of, zl_code::specs::Spells::call_parts))]
+fn examine(table: &Table, cpu: &Cpu, call: &CallInstr) -> Result<(), Status>
+    ensures { IfSome (site_of call.now cpu.now) (λ s. result_err result
+        ≡ operands_fault table.now.entries [] (handle_operands s.request)) }
+{
     match call {
         CallInstr::ChanCreate { .. }
         | CallInstr::EventCreate { .. }
@@ -189,7 +231,10 @@ fn find(
     register: Register,
     kinds: &[Kind],
     rights: Rights,
-) -> Result<(), Status> {
+) -> Result<(), Status>
+    ensures { result_err result ≡ result_err
+        (looked_up table.now.entries (reg cpu.now register) kinds.now (bits rights)) }
+{
     match look_up(table, cpu.register(register), kinds, rights) {
         Ok(_) => Ok(()),
         Err(fault) => Err(fault),

@@ -1,6 +1,21 @@
 //! The calls that reach other processes than their caller: one that makes a process, one that starts
 //! it, and one that kills.
 
+ghost use Rattle.std.specs.Prelude.{ℕ, ◌≡◌, ◌+◌, ◌<◌, ◌≤◌, false, List, length, map, vec_capacity, Some, slice_get, IsTrue, IfSome, IfNone, IfOk, OnOk, IfErr, OnErr};
+ghost use Rattle.std.specs.List.{filter};
+ghost use Rattle.std.specs.Result.{result_err};
+ghost use Rattle.std.specs.Ordering.{nat_cmp};
+ghost use Rattle.std.specs.FinMap.Entries.{is_sorted};
+ghost use Rattle.zl_rights.specs.Map.{get};
+ghost use Rattle.zl_rights.specs.Signals.{state_passes};
+ghost use Rattle.zl_code.specs.Request.{site_of};
+ghost use Rattle.zl_code.specs.Sound.{is_blocked};
+ghost use Rattle.zl_calls.specs.Reaching.{Reaches, is_reaching};
+ghost use Rattle.zl_calls.specs.Registered.{KeepsListed};
+ghost use Rattle.zl_calls.specs.calls.Answer.{IsRefusedBy};
+ghost use Rattle.zl_calls.specs.World.{process_entry};
+ghost use Rattle.zl_calls.specs.calls.Task.{ClosesAllEnded, Enters, IsFound, IsReachedBy, ProcessCreateDoes, ProcessStartDoes, TaskKillDoes, ended_within, lab, start_refusal};
+
 use crate::calls::handle::{close_each, take_out};
 use crate::calls::process::{close_all, find_job, make_process, misfits};
 use crate::calls::{insert, look_up};
@@ -26,7 +41,20 @@ pub fn reach(
     blocked: &mut Vec<Pid>,
     place: usize,
     call: &CallInstr,
-) -> Option<Outcome> {
+) -> Option<Outcome>
+    requires place { place < length processes.old.items }
+    ensures reached { IfSome result (λ o. (caller : Process)
+        → slice_get processes.old.items place ≡ Some caller
+        → IsReachedBy (site_of call.now caller.cpu) (λ s. Reaches library.now place caller s
+        (lab processes.old.items objects.old blocked.old.items) o
+        (lab processes.new.items objects.new blocked.new.items))) }
+    ensures missing { IfNone result ((caller : Process)
+        → slice_get processes.old.items place ≡ Some caller
+        → IfSome (site_of call.now caller.cpu) (λ s. is_reaching s.request ≡ false)) }
+    ensures same_processes { IfNone result (processes.new.items ≡ processes.old.items) }
+    ensures same_objects { IfNone result (objects.new ≡ objects.old) }
+    ensures same_blocked { IfNone result (blocked.new.items ≡ blocked.old.items) }
+{
     match call {
         CallInstr::ProcessCreate {
             status,
@@ -83,7 +111,15 @@ fn process_create(
     place: usize,
     job: u64,
     program: u64,
-) -> Result<HValue, Status> {
+) -> Result<HValue, Status>
+    requires place { place < length processes.old.items }
+    ensures does { (caller : Process) → slice_get processes.old.items place ≡ Some caller
+        → ProcessCreateDoes library.now place job program caller
+        (lab processes.old.items objects.old blocked.old.items) result
+        (lab processes.new.items objects.new blocked.new.items) }
+    ensures room { length processes.old.items ≤ vec_capacity blocked.old
+        → length processes.new.items ≤ vec_capacity blocked.new }
+{
     let (job, image) = find_job(library, &processes[place].table, objects, job, program)?;
     if make_room(processes, blocked).is_err() {
         return Err(Status::NoMemory);
@@ -104,7 +140,16 @@ fn process_create(
 }
 
 /// Makes room for one process more, and for each process in the list of the blocked.
-fn make_room(processes: &mut Vec<Process>, blocked: &mut Vec<Pid>) -> Result<(), AllocError> {
+fn make_room(processes: &mut Vec<Process>, blocked: &mut Vec<Pid>) -> Result<(), AllocError>
+    requires { length blocked.old.items ≤ length processes.old.items }
+    ensures place { OnOk result
+        (length processes.old.items + 1 ≤ vec_capacity processes.new) }
+    ensures room { OnOk result (length processes.old.items + 1 ≤ vec_capacity blocked.new) }
+    ensures kept { length processes.old.items ≤ vec_capacity blocked.old
+        → length processes.old.items ≤ vec_capacity blocked.new }
+    ensures same_processes { processes.new.items ≡ processes.old.items }
+    ensures same_blocked { blocked.new.items ≡ blocked.old.items }
+{
     processes.reserve(1)?;
     blocked.reserve(processes.len() + 1 - blocked.len())
 }
@@ -126,7 +171,14 @@ fn process_start(
     process: u64,
     handle: u64,
     word: u64,
-) -> Result<(), Status> {
+) -> Result<(), Status>
+    requires place { place < length processes.old.items }
+    ensures { (blocked : List ℕ) (caller : Process)
+        → slice_get processes.old.items place ≡ Some caller
+        → ProcessStartDoes library.now place process handle word caller
+        (lab processes.old.items objects.old blocked) result
+        (lab processes.new.items objects.new blocked) }
+{
     match enter(library, processes, place, process, handle) {
         Ok(started) => {
             take_out(&mut processes[place].table, handle);
@@ -157,7 +209,19 @@ fn enter(
     place: usize,
     process: u64,
     handle: u64,
-) -> Result<Started, Status> {
+) -> Result<Started, Status>
+    requires place { place < length processes.old.items }
+    requires in_order { IsTrue (is_sorted nat_cmp (map process_entry processes.old.items)) }
+    ensures entered { IfOk result (λ started. (caller : Process)
+        → slice_get processes.old.items place ≡ Some caller
+        → Enters library.now processes.old.items caller process handle started
+        processes.new.items) }
+    ensures err { IfErr result (λ refused. (caller : Process)
+        → slice_get processes.old.items place ≡ Some caller
+        → IsRefusedBy true (start_refusal library.now processes.old.items caller.table.entries
+        process handle) refused) }
+    ensures unchanged { OnErr result (processes.new.items ≡ processes.old.items) }
+{
     let (child, entry) = find_child(library, processes, place, process, handle)?;
     let value = insert(&mut processes[child].table, entry)?;
     Ok(Started {
@@ -173,7 +237,16 @@ fn find_child(
     place: usize,
     process: u64,
     handle: u64,
-) -> Result<(usize, Entry), Status> {
+) -> Result<(usize, Entry), Status>
+    requires place { place < length processes.now }
+    requires in_order { IsTrue (is_sorted nat_cmp (map process_entry processes.now)) }
+    ensures refusal { (caller : Process) → slice_get processes.now place ≡ Some caller
+        → result_err result
+        ≡ start_refusal library.now processes.now caller.table.entries process handle }
+    ensures found { IfOk result (λ found. (caller : Process)
+        → slice_get processes.now place ≡ Some caller
+        → IsFound processes.now caller process handle found.0 found.1) }
+{
     let table = &processes[place].table;
     let child = look_up(table, process, &[Kind::Process], Rights::WRITE)?;
     let entry = look_up(table, handle, &[], Rights::TRANSFER)?;
@@ -202,7 +275,15 @@ fn task_kill(
     blocked: &mut Vec<Pid>,
     place: usize,
     task: u64,
-) -> Result<(), Status> {
+) -> Result<(), Status>
+    requires place { place < length processes.old.items }
+    requires in_order { IsTrue (is_sorted nat_cmp (map process_entry processes.old.items)) }
+    ensures does { (caller : Process) → slice_get processes.old.items place ≡ Some caller
+        → TaskKillDoes task caller (lab processes.old.items objects.old blocked.old.items) result
+        (lab processes.new.items objects.new blocked.new.items) }
+    ensures count { length processes.new.items ≡ length processes.old.items }
+    ensures capacity { vec_capacity blocked.new ≡ vec_capacity blocked.old }
+{
     let task = look_up(
         &processes[place].table,
         task,
@@ -218,7 +299,9 @@ fn task_kill(
 
 /// Each process ends that lives and is the task or stands below it. Its handles are left for now, as
 /// what keeps it in its place may be a handle of its own.
-fn end_within(processes: &mut Vec<Process>, objects: &Objects, task: Koid) {
+fn end_within(processes: &mut Vec<Process>, objects: &Objects, task: Koid)
+    ensures { processes.new.items ≡ map (ended_within objects.now task) processes.old.items }
+{
     for place in 0..processes.len() {
         let process = &mut processes[place];
         if process.lives() && objects.is_within(task, process.pid) {
@@ -228,7 +311,13 @@ fn end_within(processes: &mut Vec<Process>, objects: &Objects, task: Koid) {
 }
 
 /// Those of the list are left that are still blocked.
-fn keep_blocked(processes: &[Process], blocked: &mut Vec<Pid>) {
+fn keep_blocked(processes: &[Process], blocked: &mut Vec<Pid>)
+    requires { IsTrue (is_sorted nat_cmp (map process_entry processes.now)) }
+    ensures items { blocked.new.items
+        ≡ filter (λ k. state_passes is_blocked (get (map process_entry processes.now) k))
+        blocked.old.items }
+    ensures capacity { vec_capacity blocked.new ≡ vec_capacity blocked.old }
+{
     let mut place = 0;
     while place < blocked.len() {
         if is_blocked(processes, blocked[place]) {
@@ -240,7 +329,10 @@ fn keep_blocked(processes: &[Process], blocked: &mut Vec<Pid>) {
 }
 
 /// Whether the process waits within a call.
-fn is_blocked(processes: &[Process], pid: Pid) -> bool {
+fn is_blocked(processes: &[Process], pid: Pid) -> bool
+    requires { IsTrue (is_sorted nat_cmp (map process_entry processes.now)) }
+    ensures { result ≡ state_passes is_blocked (get (map process_entry processes.now) pid) }
+{
     match place_of(processes, pid) {
         Some(place) => processes[place].is_blocked(),
         None => false,
@@ -248,7 +340,11 @@ fn is_blocked(processes: &[Process], pid: Pid) -> bool {
 }
 
 /// The handles close of each process that is over.
-fn close_ended(alloc: Global, processes: &mut Vec<Process>, objects: &mut Objects) {
+fn close_ended(alloc: Global, processes: &mut Vec<Process>, objects: &mut Objects)
+    ensures closes { ClosesAllEnded
+        processes.old.items objects.old processes.new.items objects.new }
+    ensures listed { KeepsListed objects.old objects.new }
+{
     for place in 0..processes.len() {
         let process = &mut processes[place];
         if !process.lives() {

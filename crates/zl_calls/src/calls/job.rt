@@ -1,10 +1,13 @@
 //! Calls on jobs.
 
-ghost use Rattle.zl_calls.specs.calls.Job.{JobCreateDoes, JobSetPolicyDoes, has_child_at, setting_found};
 ghost use Rattle.std.specs.Prelude.{◌≡◌};
+ghost use Rattle.std.specs.Option.{option_map};
+ghost use Rattle.zl_rights.specs.Policies.{setting_of};
+ghost use Rattle.zl_calls.specs.calls.Job.{JobCreateDoes, JobSetPolicyDoes, has_child_at, setting_value};
 
 use crate::calls::{insert, look_up};
-use zl_objects::{Body, JobFault, Objects};
+use zl_jobs::JobFault;
+use zl_objects::{Body, Objects};
 use zl_rights::{Action, Condition, Entry, HValue, Kind, Koid, Mode, Rights, Status};
 use zl_table::Table;
 
@@ -20,7 +23,7 @@ pub fn job_create(table: &mut Table, objects: &mut Objects, value: u64) -> Resul
     ensures { JobCreateDoes value table.old objects.old result table.new objects.new }
 {
     let above = look_up(table, value, &[Kind::Job], Rights::MANAGE_JOB)?;
-    let child = match objects.child_of(above.koid) {
+    let child = match objects.job_below(above.koid) {
         Ok(child) => child,
         Err(JobFault::OutOfRange) => return Err(Status::OutOfRange),
         Err(JobFault::BadState) => return Err(Status::BadState),
@@ -92,7 +95,7 @@ pub fn has_children(objects: &Objects, job: Koid) -> bool
 
 /// What is to be set, if each of the numbers is known.
 fn setting_of(mode: u64, condition: u64, action: u64) -> Option<Setting>
-    ensures { result ≡ setting_found mode condition action }
+    ensures { option_map setting_value result ≡ setting_of mode condition action }
 {
     Some(Setting {
         mode: Mode::from_number(mode)?,

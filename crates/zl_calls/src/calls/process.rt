@@ -1,8 +1,19 @@
 //! Calls on processes.
 
-ghost use Rattle.std.specs.Prelude.{◌≡◌};
-ghost use Rattle.zl_code.specs.Effects.{signed_word};
-ghost use Rattle.zl_calls.specs.calls.Process.{Ends};
+ghost use Rattle.std.specs.Prelude.{◌≡◌, ◌<◌, [], ◌∷◌, length, slice_get, Some, IsTrue, IfOk, OnOk, IfErr, OnErr};
+ghost use Rattle.std.specs.Option.{option_map};
+ghost use Rattle.std.specs.Result.{result_err, result_ok};
+ghost use Rattle.zl_code.specs.Effects.{new_entry, signed_word};
+ghost use Rattle.zl_code.specs.Jobs.{is_allowing, is_declared, is_only_start, misfits};
+ghost use Rattle.zl_rights.specs.LookUp.{looked_up};
+ghost use Rattle.zl_rights.specs.Numbers.{MANAGE_PROCESS};
+ghost use Rattle.zl_table.specs.Table.{Inserts};
+ghost use Rattle.zl_objects.specs.Jobs.{action_of, job_at};
+ghost use Rattle.zl_objects.specs.Objects.{has_koids, with_new};
+ghost use Rattle.zl_calls.specs.Program.{program_value};
+ghost use Rattle.zl_calls.specs.Registered.{KeepsListed};
+ghost use Rattle.zl_calls.specs.calls.Process.{Drained, Ends};
+ghost use Rattle.zl_calls.specs.calls.Task.{create_refusal, needs_more};
 
 use crate::calls::{insert, look_up};
 use crate::process::Process;
@@ -50,7 +61,14 @@ pub fn find_job<'a>(
     objects: &Objects,
     job: u64,
     program: u64,
-) -> Result<(Koid, &'a Image), Status> {
+) -> Result<(Koid, &'a Image), Status>
+    ensures refusal { result_err result
+        ≡ create_refusal library.now table.now.entries objects.now job program }
+    ensures job { IfOk result (λ found. option_map (λ e. e.koid)
+        (result_ok (looked_up table.now.entries job (Kind.Job ∷ []) MANAGE_PROCESS)) ≡ Some found.0) }
+    ensures image { IfOk result (λ found. option_map (λ g. g.image)
+        (slice_get library.now program) ≡ Some found.1.now) }
+{
     let job = look_up(table, job, &[Kind::Job], Rights::MANAGE_PROCESS)?;
     let Some(program) = library.get(program as usize) else {
         return Err(Status::InvalidArgs);
@@ -68,7 +86,10 @@ pub fn find_job<'a>(
 }
 
 /// Whether the program was checked, and declares a need that the policy of the job doesn't allow.
-fn lacks_need(objects: &Objects, job: Koid, program: &Program) -> bool {
+fn lacks_need(objects: &Objects, job: Koid, program: &Program) -> bool
+    ensures { result ≡ needs_more
+        (action_of (job_at objects.now.objects job)) (Some (program_value program.now)) }
+{
     program.is_checked()
         && NEEDS
             .iter()
@@ -76,7 +97,9 @@ fn lacks_need(objects: &Objects, job: Koid, program: &Program) -> bool {
 }
 
 /// Whether the policy of the job allows what the condition stands for.
-fn allows(objects: &Objects, job: Koid, condition: Condition) -> bool {
+fn allows(objects: &Objects, job: Koid, condition: Condition) -> bool
+    ensures { result ≡ is_allowing (action_of (job_at objects.now.objects job) condition) }
+{
     matches!(objects.action(job, condition), Action::Allow)
 }
 
@@ -86,7 +109,17 @@ pub fn make_process(
     table: &mut Table,
     objects: &mut Objects,
     job: Koid,
-) -> Result<HValue, Status> {
+) -> Result<HValue, Status>
+    requires room { length table.old.entries < 1024 }
+    requires koid { IsTrue (has_koids objects.old.next_koid 1) }
+    ensures ok { IfOk result (λ made. Inserts
+        table.old (new_entry objects.old.next_koid Kind.Process) made table.new) }
+    ensures made { OnOk result (objects.new
+        ≡ with_new objects.old (Body.Process job Life.Created) 1) }
+    ensures err { IfErr result (λ refused. refused ≡ Status.NoMemory) }
+    ensures same_table { OnErr result (table.new ≡ table.old) }
+    ensures same_objects { OnErr result (objects.new ≡ objects.old) }
+{
     let body = Body::Process {
         job,
         life: Life::Created,
@@ -109,7 +142,9 @@ pub fn make_process(
 }
 
 /// Whether the program with this number was checked, and declares anything else than this handle.
-pub fn misfits(library: &Library, program: usize, entry: &Entry) -> bool {
+pub fn misfits(library: &Library, program: usize, entry: &Entry) -> bool
+    ensures { result ≡ misfits (slice_get library.now program) (Some entry.now) }
+{
     match library.get(program) {
         Some(program) => program.is_checked() && !is_only_start(program.image().starts(), entry),
         None => false,
@@ -117,7 +152,9 @@ pub fn misfits(library: &Library, program: usize, entry: &Entry) -> bool {
 }
 
 /// Whether one handle is declared, and this one will do for it.
-fn is_only_start(starts: &[Start], entry: &Entry) -> bool {
+fn is_only_start(starts: &[Start], entry: &Entry) -> bool
+    ensures { result ≡ is_only_start starts.now (Some entry.now) }
+{
     match starts {
         [start] => is_declared(start, entry),
         _ => false,
@@ -125,7 +162,9 @@ fn is_only_start(starts: &[Start], entry: &Entry) -> bool {
 }
 
 /// Whether the handle is of the declared kind, with the declared rights at least.
-fn is_declared(start: &Start, entry: &Entry) -> bool {
+fn is_declared(start: &Start, entry: &Entry) -> bool
+    ensures { result ≡ is_declared start.now entry.now }
+{
     let is_of_kind = match start.kind {
         Some(kind) => kind.number() == entry.kind.number(),
         None => true,
@@ -134,7 +173,10 @@ fn is_declared(start: &Start, entry: &Entry) -> bool {
 }
 
 /// The handles of the table close, one after another.
-pub fn close_all(objects: &mut Objects, mut table: Table) {
+pub fn close_all(objects: &mut Objects, mut table: Table)
+    ensures closes { Drained table.entries objects.old objects.new }
+    ensures listed { KeepsListed objects.old objects.new }
+{
     while let Some(entry) = table.drain() {
         objects.release(entry.koid);
     }

@@ -6,7 +6,7 @@
 ghost use Rattle.std.specs.Prelude.{◌≡◌, ◌≤◌, ◌<◌, ◌+◌, ◌++◌, ◌∷◌, [], length, nat_lt, ℕ, vec_capacity, IsTrue};
 ghost use Rattle.std.specs.Option.{option_to_list};
 ghost use Rattle.zl_rights.specs.Map.{each, get, has_key, update};
-ghost use Rattle.zl_objects.specs.Objects.{has_living_child, held_once_less, is_kept, keeper_of};
+ghost use Rattle.zl_objects.specs.Objects.{has_living_child, held_once_less, is_kept, keeper_in};
 ghost use Rattle.zl_objects.specs.Release.{all_koids, koids_of, named_in};
 ghost use Rattle.zl_objects.specs.Dying.{budget, is_last, is_unkept, left_at, unkept_at, LetsGo};
 ghost use Rattle.zl_objects.specs.Ports.{reserved_in};
@@ -156,13 +156,21 @@ fn end_waits(by_koid: &mut BTreeMap<Koid, Object>, koid: Koid, reserved: bool, s
     }
 }
 
-/// The job of which it was a living child is noted, if it was one.
-fn note_keeper(dying: &mut Vec<Koid>, body: &Body)
+/// The job of which the object is a living child, if it is one.
+#[tactic(auto, using(crate::proofs::ByKoid::by_koid))]
+fn keeper_at(by_koid: &BTreeMap<Koid, Object>, koid: Koid) -> Option<Koid>
+    ensures { result ≡ keeper_in (get by_koid.now.entries koid) }
+{
+    by_koid.get(&koid)?.body.keeper()
+}
+
+/// The job that was found is noted, if there is one.
+fn note_keeper(dying: &mut Vec<Koid>, keeper: Option<Koid>)
     requires room { length dying.old.items < vec_capacity dying.old }
-    ensures noted { dying.new.items ≡ dying.old.items ++ option_to_list (keeper_of body.now) }
+    ensures noted { dying.new.items ≡ dying.old.items ++ option_to_list keeper }
     ensures capacity { vec_capacity dying.new ≡ vec_capacity dying.old }
 {
-    if let Some(job) = body.keeper() {
+    if let Some(job) = keeper {
         dying.push_reserved(job);
     }
 }
@@ -178,12 +186,13 @@ fn remove_noted(by_koid: &mut BTreeMap<Koid, Object>, dying: &mut Vec<Koid>, koi
     ensures capacity { vec_capacity dying.new ≡ vec_capacity dying.old }
 {
     let reserved = has_reserved(by_koid, koid);
+    let keeper = keeper_at(by_koid, koid);
     let Some(gone) = take_unkept(by_koid, koid) else {
         return;
     };
     let Object { body, signals, .. } = gone;
     end_waits(by_koid, koid, reserved, signals);
-    note_keeper(dying, &body);
+    note_keeper(dying, keeper);
     if let Body::ChannelEnd { queue, .. } = body {
         let_go_queue(by_koid, dying, queue);
     }

@@ -250,7 +250,14 @@ impl Made {
         if self.give(&mut process, handles).is_err() {
             return Err(BootCause::NoMemory);
         }
-        let Ok(_) = self.objects.create(Body::Process { job, life: Life::Running }, 0) else {
+        let Ok(_) = self.objects.create(
+            Body::Process {
+                job,
+                life: Life::Running,
+            },
+            0,
+        )
+        else {
             return Err(BootCause::NoMemory);
         };
         if self.processes.push(process).is_err() {

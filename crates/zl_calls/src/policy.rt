@@ -146,7 +146,9 @@ fn deny(process: &mut Process, call: &CallInstr) -> Option<Outcome>
         }
         CallInstr::PortCreate { status, port } => Some(process.answer_made(*status, *port, denied)),
         CallInstr::ProcessCreate {
-            status, process: made, ..
+            status,
+            process: made,
+            ..
         } => Some(process.answer_made(*status, *made, denied)),
         _ => None,
     }
@@ -174,7 +176,9 @@ fn examine(table: &Table, cpu: &Cpu, call: &CallInstr) -> Result<(), Status>
         CallInstr::Dup { handle, .. } => find(table, cpu, *handle, &[], Rights::DUPLICATE),
         CallInstr::Replace { handle, .. } => find(table, cpu, *handle, &[], Rights::empty()),
         CallInstr::ChanWrite {
-            channel, handles, ..
+            channel,
+            handles,
+            ..
         } => {
             find(table, cpu, *channel, &[Kind::Channel], Rights::WRITE)?;
             let (values, count) = cpu.listed(handles);
@@ -206,13 +210,21 @@ fn examine(table: &Table, cpu: &Cpu, call: &CallInstr) -> Result<(), Status>
             find(table, cpu, *job, &[Kind::Job], Rights::MANAGE_PROCESS)
         }
         CallInstr::ProcessStart {
-            process, handle, ..
+            process,
+            handle,
+            ..
         } => {
             find(table, cpu, *process, &[Kind::Process], Rights::WRITE)?;
             find(table, cpu, *handle, &[], Rights::TRANSFER)
         }
         CallInstr::TaskKill { task, .. } => {
-            find(table, cpu, *task, &[Kind::Process, Kind::Job], Rights::DESTROY)
+            find(
+                table,
+                cpu,
+                *task,
+                &[Kind::Process, Kind::Job],
+                Rights::DESTROY,
+            )
         }
         CallInstr::JobCreate { job, .. } => {
             find(table, cpu, *job, &[Kind::Job], Rights::MANAGE_JOB)

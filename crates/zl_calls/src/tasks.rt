@@ -64,8 +64,9 @@ pub fn reach(
         } => {
             let job = processes[place].cpu.register(*job);
             let program = processes[place].cpu.register(*program);
-            let made =
-                process_create(alloc, library, processes, objects, blocked, place, job, program);
+            let made = process_create(
+                alloc, library, processes, objects, blocked, place, job, program,
+            );
             Some(processes[place].answer_made(*status, *process, made))
         }
         CallInstr::ProcessStart {

@@ -91,9 +91,7 @@ fn lacks_need(objects: &Objects, job: Koid, program: &Program) -> bool
         (action_of (job_at objects.now.objects job)) (Some (program_value program.now)) }
 {
     program.is_checked()
-        && NEEDS
-            .iter()
-            .any(|need| program.image().needs(*need) && !allows(objects, job, *need))
+        && NEEDS.iter().any(|need| program.image().needs(*need) && !allows(objects, job, *need))
 }
 
 /// Whether the policy of the job allows what the condition stands for.
@@ -105,11 +103,7 @@ fn allows(objects: &Objects, job: Koid, condition: Condition) -> bool
 
 /// Makes the object of a process in the job, with a handle that has the default rights. Only memory
 /// can be refused.
-pub fn make_process(
-    table: &mut Table,
-    objects: &mut Objects,
-    job: Koid,
-) -> Result<HValue, Status>
+pub fn make_process(table: &mut Table, objects: &mut Objects, job: Koid) -> Result<HValue, Status>
     requires room { length table.old.entries < 1024 }
     requires koid { IsTrue (has_koids objects.old.next_koid 1) }
     ensures ok { IfOk result (λ made. Inserts

@@ -145,7 +145,8 @@ impl Made {
         ensures ok { OnOk result ((lib : Library)
             → Makes lib (Statement.Policy job condition action) self.old self.new) }
         ensures err { IfErr result (λ cause. (lib : Library)
-            → IsCauseOf (boot_fault lib (seen self.old) (Statement.Policy job condition action)) cause) }
+            → IsCauseOf
+            (boot_fault lib (seen self.old) (Statement.Policy job condition action)) cause) }
     {
         if !self.objects.is_job(job) {
             return Err(BootCause::Unknown);

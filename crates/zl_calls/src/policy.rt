@@ -128,7 +128,8 @@ fn made_by(call: &CallInstr) -> Option<Condition>
 #[tactic(auto, unfolding(zl_code::specs::Request::site_of, zl_code::specs::Instructions::row_of, zl_code::specs::Spells::call_parts))]
 fn deny(process: &mut Process, call: &CallInstr) -> Option<Outcome>
     requires counter { process.old.cpu.counter < 2 ^ 32 }
-    ensures denied { IfSome result (λ outcome. (r : Objects) → IfSome (site_of call.now process.old.cpu)
+    ensures denied { IfSome result (λ outcome. (r : Objects)
+        → IfSome (site_of call.now process.old.cpu)
         (λ s. IsDenied s process.old r outcome process.new r)) }
     ensures nothing { IfNone result (IfSome (site_of call.now process.old.cpu)
         (λ s. condition_of s.request ≡ None)) }

@@ -13,3 +13,5 @@ pub mod Makes
 pub mod Steps
 pub mod Gives
 pub mod Registered
+pub mod Policed
+pub mod Reaching

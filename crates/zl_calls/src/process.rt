@@ -1,5 +1,8 @@
 ghost use Rattle.std.specs.Prelude.{◌≡◌, ◌<◌, ◌^◌, [], ◌∷◌, None};
-ghost use Rattle.zl_rights.specs.Signals.{is_ready};
+ghost use Rattle.zl_rights.specs.Signals.{is_ready, lives};
+ghost use Rattle.zl_rights.specs.Settle.{state_without};
+ghost use Rattle.zl_code.specs.Sound.{is_blocked};
+ghost use Rattle.zl_code.specs.Starting.{is_created};
 ghost use Rattle.zl_calls.specs.World.{state_value, seen_in};
 ghost use Rattle.zl_code.specs.Common.{answered};
 ghost use Rattle.zl_rights.specs.Numbers.{status_magnitude};
@@ -27,6 +30,8 @@ pub struct SignalRegisters {
 /// A blocked one is still at its wait, and has the registers of its answer here.
 #[derive(Clone, Copy)]
 pub enum State {
+    /// Made by a call, and not started yet. It is gone once its object is.
+    Created,
     Ready,
     /// Blocked until a signal of the mask is active at the object.
     AwaitsSignal {
@@ -53,11 +58,18 @@ pub struct Process {
 }
 
 impl Process {
-    /// What a trace tells of the process.
-    pub fn state(&self) -> ProcState
-        ensures { result ≡ seen_in (state_value self.now.state) }
+    /// What a trace tells of the process, by whether its object is there.
+    pub fn state(&self, is_there: bool) -> ProcState
+        ensures { result ≡ seen_in (state_without is_there (state_value self.now.state)) }
     {
         match self.state {
+            State::Created => {
+                if is_there {
+                    ProcState::Created
+                } else {
+                    ProcState::Gone
+                }
+            }
             State::Ready => ProcState::Ready,
             State::AwaitsSignal { .. } => ProcState::Blocked,
             State::AwaitsPacket { .. } => ProcState::Blocked,
@@ -70,6 +82,30 @@ impl Process {
         ensures { result ≡ is_ready (state_value self.now.state) }
     {
         matches!(self.state, State::Ready)
+    }
+
+    /// Whether it was made and isn't over. Of one that was never started, its object may be gone.
+    pub fn lives(&self) -> bool
+        ensures { result ≡ lives (state_value self.now.state) }
+    {
+        !matches!(self.state, State::Ended(_))
+    }
+
+    /// Whether it was made and not started.
+    pub fn is_created(&self) -> bool
+        ensures { result ≡ is_created (state_value self.now.state) }
+    {
+        matches!(self.state, State::Created)
+    }
+
+    /// Whether it waits within a call.
+    pub fn is_blocked(&self) -> bool
+        ensures { result ≡ is_blocked (state_value self.now.state) }
+    {
+        matches!(
+            self.state,
+            State::AwaitsSignal { .. } | State::AwaitsPacket { .. }
+        )
     }
 
     /// The call is answered: its status register holds the answer, and the next instruction stands

@@ -14,5 +14,6 @@ pub mod Released
 pub mod Removing
 pub mod Showing
 pub mod Sums
+pub mod Tasks
 pub mod Whole
 pub mod Worked

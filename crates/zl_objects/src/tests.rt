@@ -1,5 +1,5 @@
 use crate::releasing::has_reserved;
-use crate::{Body, Objects, Wait};
+use crate::{Body, Life, Objects, Wait};
 use bitflags::Flags;
 use std::alloc::{AllocError, Global};
 use std::test::Fail;
@@ -80,7 +80,7 @@ fn a_job_goes_with_its_last_process(rt: HostRuntime) -> Result<(), Fail> {
     let mut objects = Objects::new(rt.alloc())?;
     let process = Body::Process {
         job: Objects::ROOT_JOB,
-        lives: true,
+        life: Life::Running,
     };
     assert_eq!(rt; objects.next_koid(), Some(2));
     let pid = objects.create(process, 0)?;

@@ -18,7 +18,7 @@ use crate::program::Library;
 use bitflags::Flags;
 use std::alloc::{AllocError, Global};
 use zl_code::{Boot, BootCause, BootFault, Grant, Grants, Image, Statement};
-use zl_objects::{Body, Objects};
+use zl_objects::{Body, Life, Objects};
 use zl_rights::{Entry, Kind, Koid, Rights};
 use zl_table::Table;
 
@@ -191,7 +191,7 @@ impl Made {
         if self.give(&mut process, handles).is_err() {
             return Err(BootCause::NoMemory);
         }
-        let Ok(_) = self.objects.create(Body::Process { job, lives: true }, 0) else {
+        let Ok(_) = self.objects.create(Body::Process { job, life: Life::Running }, 0) else {
             return Err(BootCause::NoMemory);
         };
         if self.processes.push(process).is_err() {

@@ -1,9 +1,9 @@
 -- A sweep that goes from koid to koid and leaves what something keeps.
-use Rattle.zl_rights.proofs.Common.{◌≡◌, ◌+◌, ◌<◌, ◌≤◌, ◌==◌, ◌||◌, ◌⊎◌, ℕ, Bool, true, false, List, [], ◌∷◌, ◌++◌, length, map, filter, refl, sym, ap, ◌∙◌, subst, Option, Some, None, inl, inr, arith, eqb-true, IsTrue, is_some, nat_cmp, nat_lt, nat_tests, is_sorted, list_any, count_by, append-nil, cases_Bool, false≢true, none-some, or_left, or_right, Map, each, get, has_key}
+use Rattle.zl_rights.proofs.Common.{◌≡◌, ◌+◌, ◌<◌, ◌≤◌, ◌==◌, ◌||◌, ◌⊎◌, ℕ, Bool, true, false, List, [], ◌∷◌, ◌++◌, length, map, filter, refl, sym, ap, ◌∙◌, subst, Option, Some, None, inl, inr, arith, eqb-true, IsTrue, is_some, nat_cmp, nat_lt, nat_tests, if◌then◌else◌, is_sorted, list_any, count_by, append-nil, cases_Bool, false≢true, none-some, or_left, or_right, Map, each, get, has_key}
 use Rattle.std.proofs.lemmas.Bool.{or_cases}
 use Rattle.zl_objects.specs.declared.object.Object.{Object}
 use Rattle.zl_objects.specs.Dying.{LetsGo, Thins, budget, is_named}
-use Rattle.zl_objects.specs.Jobs.{all_killed}
+use Rattle.zl_objects.specs.Jobs.{all_killed, is_within, killed_if}
 use Rattle.zl_objects.specs.Objects.{is_kept}
 use Rattle.zl_objects.specs.Release.{AreKeptBut, Cascades, all_koids, none_left}
 use Rattle.zl_objects.specs.Walks.{IsLeastFrom, IsNext}
@@ -45,9 +45,9 @@ lies_later k j (x ∷ xs) h = elim (cases_Bool (nat_lt k x)) as (λ _. k < j) [
 -- ---- the sweep
 
 -- something keeps each object below this koid
-record AreKeptBelow (from : ℕ) (m : Map Object) : Type 0 where
-  in_order : IsTrue (is_sorted nat_cmp m)
-  late : (k : ℕ) (o : Object) → get m k ≡ Some o → is_kept m k o ≡ false → from ≤ k
+pub record AreKeptBelow (from : ℕ) (m : Map Object) : Type 0 where
+  pub in_order : IsTrue (is_sorted nat_cmp m)
+  pub late : (k : ℕ) (o : Object) → get m k ≡ Some o → is_kept m k o ≡ false → from ≤ k
 
 -- the sweep has come as far as this koid
 pub record Sweeps (from : ℕ) (m m2 : Map Object) : Type 0 where
@@ -131,8 +131,8 @@ module _ (m m2 : Map Object) (from : ℕ) (sweeps : Sweeps from m m2) where
 -- a kill leaves the koids
 pub killed_koids : (m : Map Object) (task : ℕ) → all_koids (all_killed m task) ≡ all_koids m
 unfolding all_killed each
-killed_koids m task = same m
+killed_koids m task = same (λ j. killed_if (is_within m task j)) m
   where
-    same : {f : ℕ → Object → Object} (n : Map Object) → map (λ (e : ℕ × Object). e.0) (each f n) ≡ map (λ (e : ℕ × Object). e.0) n
-    same [] = refl
-    same (e ∷ n) = ap (λ (ks : List ℕ). e.0 ∷ ks) (same n)
+    same : (f : ℕ → Object → Object) (n : Map Object) → map (λ (e : ℕ × Object). e.0) (each f n) ≡ map (λ (e : ℕ × Object). e.0) n
+    same f [] = refl
+    same f (e ∷ n) = ap (λ (ks : List ℕ). e.0 ∷ ks) (same f n)

@@ -21,14 +21,14 @@ use Rattle.zl_objects.proofs.Bodies.{Changed, changed, alone_updated, alone_left
 
 -- ---- lists of what was noted
 
-noted_left : (k : ℕ) (xs ys : List ℕ) → IsTrue (list_any (λ x. x == k) xs) → IsTrue (list_any (λ x. x == k) (xs ++ ys))
+pub noted_left : (k : ℕ) (xs ys : List ℕ) → IsTrue (list_any (λ x. x == k) xs) → IsTrue (list_any (λ x. x == k) (xs ++ ys))
 noted_left k [] ys h = absurd (false≢true h)
 noted_left k (x ∷ xs) ys h = elim (or_cases (x == k) _ h) as (λ _. IsTrue (list_any (λ y. y == k) (x ∷ xs ++ ys))) [
   | inl here ↦ or_left (x == k) _ here
   | inr later ↦ or_right (x == k) _ (noted_left k xs ys later)
 ]
 
-noted_last : (k : ℕ) (xs : List ℕ) → IsTrue (list_any (λ x. x == k) (xs ++ k ∷ []))
+pub noted_last : (k : ℕ) (xs : List ℕ) → IsTrue (list_any (λ x. x == k) (xs ++ k ∷ []))
 noted_last k [] = or_left (k == k) _ (eq-eqb k k refl)
 noted_last k (x ∷ xs) = or_right (x == k) _ (noted_last k xs)
 
@@ -236,6 +236,29 @@ module _ (m : Map Object) (d : List ℕ) (k : ℕ) where
 pub unkept_fits : (m : Map Object) (k : ℕ) (o : Object) → get m k ≡ Some o → is_kept m k o ≡ false → budget m (k ∷ []) ≤ length m
 unfolding budget
 unkept_fits m k o there unkept = omega (arith, count_but_one is_named m k o there (or_parts (nat_lt 0 o.handles) (stays_alone m k o.body) unkept).0)
+
+pub test_fits : (m : Map Object) (k : ℕ) → IsTrue (is_unkept m k (get m k)) → budget m (k ∷ []) ≤ length m
+test_fits m k unkept = by_object (get m k) refl unkept
+  where
+    by_object : (q : Option Object) → get m k ≡ q → IsTrue (is_unkept m k q) → budget m (k ∷ []) ≤ length m
+    by_object None is h = absurd (false≢true h)
+    by_object (Some o) is h = elim (cases_Bool (is_kept m k o)) as (λ _. budget m (k ∷ []) ≤ length m) [
+      | inl kept ↦ absurd (false≢true (rw kept at h))
+      | inr loose ↦ unkept_fits m k o is loose
+    ]
+
+-- what something keeps stays
+pub test_kept : (m : Map Object) (k : ℕ) → is_unkept m k (get m k) ≡ false → LetsGo [] m (k ∷ []) m []
+test_kept m k out = kept_went m [] k (λ o at. by_test o (cases_Bool (is_kept m k o)) (rw at at out))
+  where
+    by_test : (o : Object) → IsTrue (is_kept m k o) ⊎ (is_kept m k o ≡ false) → is_unkept m k (Some o) ≡ false → IsTrue (is_kept m k o)
+    by_test o (inl kept) h = kept
+    by_test o (inr loose) h = absurd (false≢true (sym h ∙ rw loose refl))
+
+-- one place is taken where there is room for each object
+pub none_noted : (m : Map Object) (k cap : ℕ) (d : List ℕ) → IsTrue (is_unkept m k (get m k)) → d ≡ [] → length m ≤ cap → length d < cap
+unfolding budget
+none_noted m k cap d unkept empty room = rw empty (omega (arith, test_fits m k unkept, room))
 
 -- ---- what was taken out
 

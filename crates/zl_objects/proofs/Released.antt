@@ -1,5 +1,5 @@
 -- What is left of the objects once handles have gone: each as it was, and the invariant holds.
-use Rattle.zl_rights.proofs.Common.{◌≡◌, ◌<◌, ◌≤◌, ℕ, true, false, sym, ◌||◌, ◌==◌, ◌⊎◌, List, [], ◌∷◌, ◌++◌, length, if◌then◌else◌, refl, ap, ◌∙◌, subst, Option, Some, None, inl, inr, IsTrue, arith, is_some, list_any, append-nil, append_assoc, same_Some, or_left, or_right, cases_Bool, false≢true, Map, get, has_key, update, without}
+use Rattle.zl_rights.proofs.Common.{◌≡◌, ◌<◌, ◌≤◌, ℕ, true, false, sym, ◌||◌, ◌==◌, ◌⊎◌, List, [], ◌∷◌, ◌++◌, length, if◌then◌else◌, refl, ap, ◌∙◌, subst, Option, Some, None, inl, inr, IsTrue, arith, cond, count_by, nat_tests, is_some, list_any, append-nil, append_assoc, same_Some, or_left, or_right, cases_Bool, false≢true, Map, get, has_key, update, without}
 use Rattle.std.proofs.lemmas.Bool.{or_cases}
 use Rattle.std.proofs.lemmas.List.Sums.{count_by-le-length}
 use Rattle.zl_rights.specs.World.{Wait}
@@ -13,9 +13,9 @@ use Rattle.zl_objects.specs.Dying.{HasPeer, IsWhole, LetsGo, Thins, budget, is_n
 use Rattle.zl_objects.specs.Ports.{unreserved}
 use Rattle.zl_objects.specs.Seen.{body_value}
 use Rattle.zl_objects.specs.Waits.{HavePlaces, KeepsWaits}
-use Rattle.zl_objects.proofs.Bare.{IsAlike, alike, length_same, of_body}
+use Rattle.zl_objects.proofs.Bare.{IsAlike, alike, length_same, named_same, of_body}
 use Rattle.zl_objects.proofs.Ending.{all_ports_there}
-use Rattle.zl_objects.proofs.Sums.{length_left}
+use Rattle.zl_objects.proofs.Sums.{length_left, sum_left, sum_no_more}
 use Rattle.zl_objects.proofs.Bodies.{Changed, changed, changed_body, found_left}
 use Rattle.zl_objects.proofs.Budget.{thin_then}
 
@@ -60,11 +60,21 @@ cascaded_was _ _ _ (waits_end ks m mid m2 same more) j o at =
     let old : IsAlike m j was.before = alike m mid same j was.before was.there in
     record { before = old.before; there = old.there; body = was.body ∙ old.body; raised = was.raised ∙ old.raised }
 
-cascaded_shorter : (ks : List ℕ) (m m2 : Map Object) → Cascades ks m m2 → length m2 ≤ length m
+pub cascaded_shorter : (ks : List ℕ) (m m2 : Map Object) → Cascades ks m m2 → length m2 ≤ length m
 cascaded_shorter _ _ _ (none_left m) = omega arith
 cascaded_shorter _ _ _ (let_go k ks m m2 more) = omega (arith, cascaded_shorter ks (update m k held_once_less) m2 more, length-update m k held_once_less)
 cascaded_shorter _ _ _ (goes k gone ks m m2 there unkept more) = omega (arith, cascaded_shorter _ (without m k) m2 more, length_left m k)
 cascaded_shorter _ _ _ (waits_end ks m mid m2 same more) = omega (arith, cascaded_shorter ks mid m2 more, length_same m mid same)
+
+-- no more objects are named than before
+pub cascaded_named : (ks : List ℕ) (m m2 : Map Object) → Cascades ks m m2 → count_by is_named m2 ≤ count_by is_named m
+cascaded_named _ _ _ (none_left m) = omega arith
+cascaded_named _ _ _ (let_go k ks m m2 more) = omega (arith, cascaded_named ks (update m k held_once_less) m2 more, sum_no_more (λ e. cond (is_named e) 1 0) m k held_once_less (lower k))
+  where
+    lower : (j : ℕ) (o : Object) → cond (is_named (j, held_once_less o)) 1 0 ≤ cond (is_named (j, o)) 1 0
+    lower j o = grind (arith, nat_tests)
+cascaded_named _ _ _ (goes k gone ks m m2 there unkept more) = omega (arith, cascaded_named _ (without m k) m2 more, sum_left (λ e. cond (is_named e) 1 0) m k)
+cascaded_named _ _ _ (waits_end ks m mid m2 same more) = omega (arith, cascaded_named ks mid m2 more, named_same m mid same)
 
 -- ---- the invariant
 

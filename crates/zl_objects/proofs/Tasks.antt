@@ -75,7 +75,7 @@ module _ {waits : List WaitValue} where
 
 module _ (kills : ℕ → Bool) where
   -- each object that the test passes is killed
-  f : ℕ → Object → Object
+  abbrev f : ℕ → Object → Object
   f j o = killed_if (kills j) o
 
   same_waits : (j : ℕ) (o : Object) → (f j o).signals.waits ≡ o.signals.waits

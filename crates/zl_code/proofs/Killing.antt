@@ -1,11 +1,11 @@
 -- What stands below a killed job is killed with it: nothing that lives is left below it.
-use Rattle.zl_code.proofs.Common.{◌≡◌, ◌<◌, ◌≤◌, ◌+◌, arith, inl, inr, ℕ, zero, suc, Bool, true, false, ◌==◌, ◌&&◌, ◌||◌, [], refl, ap, sym, ◌∙◌, subst, IsTrue, Option, Some, None, option_map, if◌then◌else◌, cases_Bool, eqb-true, or_left, or_right, none-some, same_Some, true≢false, false≢true, Map, get, each, World, Process, State, Created, Ready, Blocked, Ended, Gone, Object, Body, JobBody, ProcessBody, lives, body_in, IsSound, get-each}
+use Rattle.zl_code.proofs.Common.{nat_tests, is_some, ne_eqb, eq-eqb, get-put, with_object, body_of, put, ◌≡◌, ◌<◌, ◌≤◌, ◌+◌, arith, inl, inr, ℕ, zero, suc, Bool, true, false, ◌==◌, ◌&&◌, ◌||◌, [], refl, ap, sym, ◌∙◌, subst, IsTrue, Option, Some, None, option_map, if◌then◌else◌, cases_Bool, eqb-true, or_left, or_right, none-some, same_Some, true≢false, false≢true, Map, get, each, World, Process, State, Created, Ready, Blocked, Ended, Gone, Object, Body, JobBody, ProcessBody, lives, body_in, IsSound, get-each}
 use Rattle.std.proofs.lemmas.Bool.{or_cases}
 use Rattle.zl_rights.specs.Numbers.{KILLED}
 use Rattle.zl_rights.specs.Signals.{is_job_below, is_process_of}
 use Rattle.zl_rights.specs.declared.policy.Action.{Action}
 use Rattle.zl_code.specs.Tests.{parent_in}
-use Rattle.zl_code.specs.Jobs.{is_under_by, is_within, body_killed, object_killed, process_killed, with_killed}
+use Rattle.zl_code.specs.Jobs.{depth_in, is_dead, is_deepest, job_within, is_under_by, is_within, body_killed, object_killed, process_killed, with_killed}
 use Rattle.zl_code.specs.Sound.{LivesAt, HasItsObject, IsBelow, IsSoundJob, StandsBelow}
 use Rattle.zl_code.proofs.Changes.{IsChildless}
 
@@ -187,3 +187,55 @@ module _ (w : World) (s : IsSound w) (t : ℕ) (some : (0 == t) ≡ false) where
           by_object None here e = absurd (none-some o e)
           by_object (Some y) here e =
               rw (← same_Some _ o e) (by_life p x y (is_within w.objects t p) there here refl (rw (same_Some _ q is) alive))
+
+-- ---- what is made in a job
+
+-- the job in which something is to be made lives
+pub living_job : (w : World) (k : ℕ) → is_dead (body_of w k) ≡ false → (depth : ℕ) × (parent : ℕ) × (policy : Map Action) × (body_of w k ≡ Some (JobBody parent depth policy false))
+living_job w k alive = by_body (body_of w k) refl alive
+  where
+    by_body : (b : Option Body) → body_of w k ≡ b → is_dead b ≡ false → (depth : ℕ) × (parent : ℕ) × (policy : Map Action) × (body_of w k ≡ Some (JobBody parent depth policy false))
+    by_body (Some (JobBody parent depth policy false)) is h = (depth, parent, policy, is)
+    by_body (Some (JobBody parent depth policy true)) is h = absurd (true≢false h)
+    by_body _ is h = absurd (true≢false h)
+
+-- it lives beside a new object too
+pub lives_beside : (w : World) (b : Body) (k depth parent : ℕ) (policy : Map Action) → body_of w k ≡ Some (JobBody parent depth policy false) → IsSound w → LivesAt (with_object w b).objects k depth
+unfolding with_object
+lives_beside w b k depth parent policy is s = record { parent = parent; policy = policy; there = ap body_in (get-put w.objects w.next_koid (record { body = b; raised = 0 }) k ∙ rw (ne_eqb w.next_koid k (λ e. omega (arith, e, below))) refl) ∙ is }
+  where
+    some_body : (o : Option Object) → body_in o ≡ Some (JobBody parent depth policy false) → IsTrue (is_some o)
+    some_body None e = absurd (none-some _ e)
+    some_body (Some o) e = refl
+
+    below : k < w.next_koid
+    below = s.objects.below k (some_body (get w.objects k) is)
+
+-- a new job stands below the one in which it is made
+pub new_job_stands : (w : World) (k : ℕ) → is_dead (body_of w k) ≡ false → is_deepest (body_of w k) ≡ false → IsSound w
+    → StandsBelow (with_object w (job_within k (body_of w k))).objects w.next_koid (job_within k (body_of w k))
+new_job_stands w k lives_there shallow_there s = record {
+  later = below;
+  shallow = rw living.3 deeper;
+  policy_known = rw living.3 above.policy_known;
+  above = λ e. inr (depth_in (body_of w k), refl, subst (λ d. LivesAt (with_object w (job_within k (body_of w k))).objects k d) (sym (ap depth_in living.3)) (lives_beside w (job_within k (body_of w k)) k living.0 living.1 living.2 living.3 s));
+}
+  where
+    living : (depth : ℕ) × (parent : ℕ) × (policy : Map Action) × (body_of w k ≡ Some (JobBody parent depth policy false))
+    living = living_job w k lives_there
+
+    above : IsSoundJob w.objects k living.1 living.0 living.2 false
+    above = job_of w.objects s.tree k living.0 (record { parent = living.1; policy = living.2; there = living.3 })
+
+    shallow : is_deepest (Some (JobBody living.1 living.0 living.2 false)) ≡ false
+    shallow = rw (← living.3) shallow_there
+
+    deeper : living.0 + 1 ≤ 16
+    deeper = grind (arith, nat_tests, shallow)
+
+    some_body : (o : Option Object) → body_in o ≡ Some (JobBody living.1 living.0 living.2 false) → IsTrue (is_some o)
+    some_body None e = absurd (none-some _ e)
+    some_body (Some o) e = refl
+
+    below : k < w.next_koid
+    below = s.objects.below k (some_body (get w.objects k) living.3)

@@ -1,5 +1,5 @@
 -- What steps keep, along runs and histories from a boot world.
-use Rattle.zl_code.proofs.Common.{◌≡◌, ◌<◌, arith, inl, inr, ℕ, false, ◌∙◌, All-nil, HasPeer, IsSoundWait, JobBody, with_object, ◌==◌, List, [], ◌∷◌, refl, subst, IsTrue, Option, Some, None, is_some, list_all, flat_map, cases_Bool, eqb-true, false≢true, none-some, same_Some, within, get, World, Object, is_process, queue_of, Library, Step, pid_of, single, IsLegalHistory, Boots, IsBoot, boot_effect, origin, HasGivenKoids, has_default_rights, HandlesAreSound, HandlesAreNamed, raisable, IsSound, KeepsProcesses, Runs}
+use Rattle.zl_code.proofs.Common.{on_object, ◌≡◌, ◌<◌, arith, inl, inr, ℕ, false, ◌∙◌, All-nil, HasPeer, IsSoundWait, JobBody, with_object, ◌==◌, List, [], ◌∷◌, refl, subst, IsTrue, Option, Some, None, is_some, list_all, flat_map, cases_Bool, eqb-true, false≢true, none-some, same_Some, within, get, World, Object, is_process, queue_of, Library, Step, pid_of, single, IsLegalHistory, Boots, IsBoot, boot_effect, origin, HasGivenKoids, has_default_rights, HandlesAreSound, HandlesAreNamed, raisable, IsSound, KeepsProcesses, Runs}
 use Rattle.zl_code.specs.declared.boot.Statement.{Statement}
 use Rattle.zl_code.specs.declared.history.TraceItem.{TraceItem}
 use Rattle.zl_code.specs.Koids.{KeepsKoids}
@@ -65,8 +65,10 @@ settled_sound lib w p x after s step = wholly_sound after (live_settled step.act
 
 -- a boot registers no wait
 no_wait_booted : (lib : Library) (w : World) (s : Statement) (vs : List ℕ) → (boot_effect lib w s vs).waits ≡ w.waits
-unfolding boot_effect with_object
+unfolding boot_effect with_object on_object
 no_wait_booted lib w (statement.Process job program word handles) vs = refl
+no_wait_booted lib w (statement.Job parent) vs = refl
+no_wait_booted lib w (statement.Policy job condition action) vs = refl
 no_wait_booted lib w statement.Event vs = refl
 no_wait_booted lib w statement.Port vs = refl
 no_wait_booted lib w statement.Channel vs = refl

@@ -18,7 +18,7 @@ use Rattle.zl_rights.specs.Policies.{setting_of}
 use Rattle.zl_rights.specs.declared.policy.Action.{Action}
 use Rattle.std.specs.Option.{option_to_list}
 use Rattle.zl_code.proofs.CanStart.{started_may_get}
-use Rattle.zl_code.proofs.Killing.{childless, job_of}
+use Rattle.zl_code.proofs.Killing.{childless, living_job, lives_beside, new_job_stands}
 use Rattle.zl_code.specs.Waiting.{source_at, wait_of, registered, without_keyed, is_by_handle}
 use Rattle.zl_rights.specs.World.{Wait}
 use Rattle.std.proofs.lemmas.Bool.{not-true}
@@ -43,27 +43,6 @@ module _ (lib : Library) (w : World) (p : ℕ) (q : Process) (there : get w.proc
   unfolding row_of refusal handle_operands examined operand
   has_job job program passes = is_granted w p (kind.Job ∷ []) MANAGE_PROCESS (entry_at w p job) (first_is_none _ _ (first_is_none _ _ passes))
 
-  -- the job in which something is to be made lives
-  pub living_job : (k : ℕ) → is_dead (body_of w k) ≡ false → (depth : ℕ) × (parent : ℕ) × (policy : Map Action) × (body_of w k ≡ Some (JobBody parent depth policy false))
-  living_job k alive = by_body (body_of w k) refl alive
-    where
-      by_body : (b : Option Body) → body_of w k ≡ b → is_dead b ≡ false → (depth : ℕ) × (parent : ℕ) × (policy : Map Action) × (body_of w k ≡ Some (JobBody parent depth policy false))
-      by_body (Some (JobBody parent depth policy false)) is h = (depth, parent, policy, is)
-      by_body (Some (JobBody parent depth policy true)) is h = absurd (true≢false h)
-      by_body _ is h = absurd (true≢false h)
-
-  -- it lives beside a new object too
-  pub lives_beside : (b : Body) (k depth parent : ℕ) (policy : Map Action) → body_of w k ≡ Some (JobBody parent depth policy false) → IsSound w → LivesAt (with_object w b).objects k depth
-  unfolding with_object
-  lives_beside b k depth parent policy is s = record { parent = parent; policy = policy; there = ap body_in (get-put w.objects w.next_koid (record { body = b; raised = 0 }) k ∙ rw (ne_eqb w.next_koid k (λ e. omega (arith, e, below))) refl) ∙ is }
-    where
-      some_body : (o : Option Object) → body_in o ≡ Some (JobBody parent depth policy false) → IsTrue (is_some o)
-      some_body None e = absurd (none-some _ e)
-      some_body (Some o) e = refl
-
-      below : k < w.next_koid
-      below = s.objects.below k (some_body (get w.objects k) is)
-
   -- a process is made, and the first handle to it
   pub process_made : (job program : ℕ) (vs : List ℕ) → refusal lib w p (process_create job program) ≡ None → HaveRoom q (new_entry w.next_koid kind.Process ∷ [])
       → IsTrue (gets_all (get (left_by (process_create job program)).processes p) (new_entry w.next_koid kind.Process ∷ []) vs)
@@ -80,7 +59,7 @@ module _ (lib : Library) (w : World) (p : ℕ) (q : Process) (there : get w.proc
           job = object_at w p job;
           there = rw (get-put w.objects w.next_koid new_object w.next_koid, eq-eqb w.next_koid w.next_koid refl) refl;
           depth = living.0;
-          lives = lives_beside (ProcessBody (object_at w p job)) (object_at w p job) living.0 living.1 living.2 living.3 s;
+          lives = lives_beside w (ProcessBody (object_at w p job)) (object_at w p job) living.0 living.1 living.2 living.3 s;
         };
       }) refl)
       (all_enter w begun p q (new_entry w.next_koid kind.Process ∷ []) vs (λ s. get-put w.processes w.next_koid (created_process lib program) p ∙ rw (ne_eqb w.next_koid p (λ e. apart s e)) there) (ap runs ready) (rw there at gets) (λ s. room)
@@ -103,7 +82,7 @@ module _ (lib : Library) (w : World) (p : ℕ) (q : Process) (there : get w.proc
       apart s e = let below : p < w.next_koid = s.processes p (ap is_some there) in omega (arith, e, below)
 
       living : (depth : ℕ) × (parent : ℕ) × (policy : Map Action) × (body_of w (object_at w p job) ≡ Some (JobBody parent depth policy false))
-      living = living_job (object_at w p job) (test_fails _ status.BadState (listed_none lib w p (process_create job program) passes).1.0)
+      living = living_job w (object_at w p job) (test_fails _ status.BadState (listed_none lib w p (process_create job program) passes).1.0)
 
       below_next : IsSound w → object_at w p job < w.next_koid
       below_next s = let (o, at, fits) = named_object w p job (kind.Job ∷ []) MANAGE_PROCESS (has_job job program passes) s.named in s.objects.below (object_at w p job) (ap is_some at)
@@ -112,40 +91,9 @@ module _ (lib : Library) (w : World) (p : ℕ) (q : Process) (there : get w.proc
   pub job_stands : (j : ℕ) → refusal lib w p (job_create j) ≡ None → IsSound w
       → StandsBelow (with_object (left_by (job_create j)) (job_within (object_at w p j) (body_of w (object_at w p j)))).objects (left_by (job_create j)).next_koid (job_within (object_at w p j) (body_of w (object_at w p j)))
   unfolding taken_handles handle_operands row_of remove_all listed
-  job_stands j passes s = record {
-    later = below;
-    shallow = rw living.3 deeper;
-    policy_known = rw living.3 above.policy_known;
-    above = λ e. inr (depth_in (body_of w k), refl, subst (λ d. LivesAt (with_object w (job_within k (body_of w k))).objects k d) (sym (ap depth_in living.3)) (lives_beside (job_within k (body_of w k)) k living.0 living.1 living.2 living.3 s));
-  }
-    where
-      k : ℕ
-      k = object_at w p j
-
-      none : AreNone (listed lib w p (job_create j))
-      none = listed_none lib w p (job_create j) passes
-
-      living : (depth : ℕ) × (parent : ℕ) × (policy : Map Action) × (body_of w k ≡ Some (JobBody parent depth policy false))
-      living = living_job k (test_fails _ status.BadState none.1.0)
-
-      alive : LivesAt w.objects k living.0
-      alive = record { parent = living.1; policy = living.2; there = living.3 }
-
-      above : IsSoundJob w.objects k living.1 living.0 living.2 false
-      above = job_of w.objects s.tree k living.0 alive
-
-      shallow : is_deepest (Some (JobBody living.1 living.0 living.2 false)) ≡ false
-      shallow = rw (← living.3) (test_fails _ status.OutOfRange none.0)
-
-      deeper : living.0 + 1 ≤ 16
-      deeper = grind (arith, nat_tests, shallow)
-
-      some_body : (o : Option Object) → body_in o ≡ Some (JobBody living.1 living.0 living.2 false) → IsTrue (is_some o)
-      some_body None e = absurd (none-some _ e)
-      some_body (Some o) e = refl
-
-      below : k < w.next_koid
-      below = s.objects.below k (some_body (get w.objects k) living.3)
+  job_stands j passes s =
+      let none = listed_none lib w p (job_create j) passes in
+      new_job_stands w (object_at w p j) (test_fails _ status.BadState none.1.0) (test_fails _ status.OutOfRange none.0) s
 
   -- ---- a start and a kill
 

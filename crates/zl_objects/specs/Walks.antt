@@ -1,4 +1,4 @@
--- Going through the objects by koid, and leaving what something keeps. No public clause cites this module.
+-- Going through the objects by koid. No public clause cites this module.
 use Rattle.std.specs.Prelude.{ℕ, ◌≡◌, ◌≤◌, IsTrue, false, Option, Some, None}
 use Rattle.zl_rights.specs.Map.{Map, has_key}
 use Rattle.zl_objects.specs.declared.object.Object.{Object}

@@ -1,7 +1,7 @@
 use Rattle.std.proofs.Common.{◌+◌, sym, ap, ◌∙◌}
 use Rattle.zl_verify.proofs.Leading.{closed_targets}
 use Rattle.zl_verify.proofs.Bounding.{step_bound, over_budget}
-use Rattle.zl_verify.proofs.checked.bound.Goals as goal
+use Rattle.zl_verify.proofs.checked.exact_bound.Goals as goal
 
 pub numbers-requires : goal.numbers-requires
 numbers-requires c = rw c.deref.ensures.value (closed_targets _ _ _ (c.in-Ok.ensures {u = tt}) c.requires.typing.typing)

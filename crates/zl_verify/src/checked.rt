@@ -9,6 +9,7 @@ ghost use Rattle.zl_verify.specs.Steps.{IsStepBound};
 ghost use Rattle.zl_verify.specs.Checks.{IsLeastTyping, IsRefused};
 ghost use Rattle.zl_verify.specs.Headline.{IsNeverRefused};
 
+use crate::ahead::bound_ahead;
 use crate::refusal::{Refusal, RefusalCause};
 use crate::search::{Fault, Found, solve};
 use crate::seen::Seen;
@@ -69,8 +70,8 @@ impl Checked {
     }
 }
 
-/// A step bound of the least typing, or why there is none.
-fn bound(
+/// A step bound of the least typing, or why there is none, by the edges that are followed there.
+fn exact_bound(
     alloc: Global,
     bounds: &Bounds,
     image: &Image,
@@ -97,6 +98,29 @@ fn bound(
             at,
             cause: RefusalCause::Budget,
         }),
+    }
+}
+
+/// A step bound of the least typing, or why there is none.
+fn bound(
+    alloc: Global,
+    bounds: &Bounds,
+    image: &Image,
+    found: &Found,
+) -> Result<Vec<Option<u32>>, Fault>
+    requires alike { RoundAlike bounds.now (bounds_of image.now.code) }
+    requires typing { IsLeastTyping image.now
+        (at (states_of image.now found.now.blocks.numbers found.now.states.items)) }
+    ensures bound { IfOk result (λ steps. IsStepBound image.now
+        (at (states_of image.now found.now.blocks.numbers found.now.states.items))
+        (at steps.items)) }
+    ensures exact { IfErr result (λ fault. IsRefused image.now fault.at fault.cause) }
+{
+    match bound_ahead(alloc, image) {
+        Ok(Some(steps)) => Ok(steps),
+        // Where the code alone gives none, what is known at the instructions may give one yet.
+        Ok(None) => exact_bound(alloc, bounds, image, found),
+        Err(_) => Err(Fault::at_once(RefusalCause::NoMemory)),
     }
 }
 

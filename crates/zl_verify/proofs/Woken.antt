@@ -17,7 +17,6 @@ use Rattle.zl_rights.proofs.MapLaws.{get-put, get-each, get-where_key-in, get-wh
 use Rattle.zl_code.specs.declared.history.TraceItem.{TraceItem}
 use Rattle.zl_code.specs.Image.{Image, Library, is_among}
 use Rattle.zl_code.specs.Spells.{is_in_range}
-use Rattle.zl_code.specs.Boot.{is_job_body}
 use Rattle.zl_code.specs.Tests.{body_in, body_of, parent_in, parent_of, policy_in, action_of, unless_allowed, creates}
 use Rattle.zl_code.specs.Sound.{IsSound, HasItsObject}
 use Rattle.zl_code.proofs.SoundRuns.{step_sound, run_sound}
@@ -152,17 +151,13 @@ module _ (u w2 : World) (K : Koids) (a : AreBare (without_others u K) w2) where
 
   settled_creates : (p : ℕ) → HasItsObject w2.objects p → (c : Condition) → creates (without_others u K) p c ≡ creates u p c
   unfolding creates
-  settled_creates p (job, is, is_job) c =
+  settled_creates p own c =
       ap (λ j. unless_allowed (action_of (without_others u K) j c)) above
-      ∙ (ap (λ o. unless_allowed (unwrap_or (get (policy_in o) (condition_number c)) action.Allow)) (job_kept (body_of w2 job) refl is_job)
-      ∙ ap (λ j. unless_allowed (action_of u j c)) (sym above ∙ ap parent_in (body_kept p (ProcessBody job) is)))
+      ∙ (ap (λ o. unless_allowed (unwrap_or (get (policy_in o) (condition_number c)) action.Allow)) (body_kept own.job _ own.lives.there)
+      ∙ ap (λ j. unless_allowed (action_of u j c)) (sym above ∙ ap parent_in (body_kept p (ProcessBody own.job) own.there)))
     where
-      above : parent_of (without_others u K) p ≡ job
-      above = sym (same_parent (without_others u K) w2 a p) ∙ ap parent_in is
-
-      job_kept : (o : Option Body) → body_of w2 job ≡ o → is_job_body o ≡ true → body_of (without_others u K) job ≡ body_of u job
-      job_kept None at e = cc
-      job_kept (Some b) at e = body_kept job b at
+      above : parent_of (without_others u K) p ≡ own.job
+      above = sym (same_parent (without_others u K) w2 a p) ∙ ap parent_in own.there
 
 -- ---- the process
 

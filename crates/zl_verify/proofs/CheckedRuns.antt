@@ -56,7 +56,7 @@ module _ (lib : Library) (i : Image) (t : ℕ → Option State) (range : is_in_r
     over_still : (p : ℕ) → (m == p) ≡ false → HasEnded w p → HasEnded w2 p
     over_still p apart o = record {
       process = o.process;
-      there = ended_still p o.process o.over lib w m x w2 b.step (over_after_act lib w m x w2 (sound_before i t range typing lib w m x w2 b) b.step p o.process apart o.there o.over);
+      there = ended_still p o.process o.over lib w m x w2 b.step (over_after_act lib w m x w2 (sound_before lib w m x w2 b) b.step p o.process apart o.there o.over);
       over = o.over;
     }
 

@@ -43,7 +43,7 @@ use Rattle.zl_verify.proofs.Ended.{ended_still}
 -- ---- what stands next
 
 -- the call at the site is one that has a request
-abbrev HasSite : Cpu → Next → Type 0
+abbrev pub HasSite : Cpu → Next → Type 0
 HasSite c (AtCall called s) = (x : CallInstr) × SiteAt c x s
 HasSite c _ = ⊤
 
@@ -65,7 +65,7 @@ site_next i c = by (instr_at i c.counter)
     by (Some (instr.Call x)) = called x (site_of x c) refl
     by (Some (instr.Unknown bytes)) = tt
 
-site_for : (lib : Library) (process : Process) → HasSite process.cpu (next_for lib process)
+pub site_for : (lib : Library) (process : Process) → HasSite process.cpu (next_for lib process)
 site_for lib process = by (slice_get lib process.program)
   where
     by : (o : Option Program) → HasSite process.cpu (next_in o process.cpu)
@@ -88,24 +88,24 @@ module _ (p q : ℕ) (apart : (p == q) ≡ false) where
   abbrev Same : World → World → Type 0
   Same u w = get u.processes q ≡ get w.processes q
 
-  left_other : (hs : List ℕ) (w : World) → Same (remove_all w p hs) w
+  pub left_other : (hs : List ℕ) (w : World) → Same (remove_all w p hs) w
   unfolding remove_all
   left_other [] w = refl
   left_other (h ∷ hs) w = left_other hs (on_process w p (process_without h)) ∙ changed_elsewhere w p (process_without h) q apart
 
-  stored_other : (at : ℕ × List ℕ) (w : World) → Same (storing w p at) w
+  pub stored_other : (at : ℕ × List ℕ) (w : World) → Same (storing w p at) w
   stored_other (address, []) w = refl
   stored_other (address, b ∷ bytes) w = changed_elsewhere w p _ q apart
 
-  ended_other : (w : World) (code : _) → Same (ended w p code) w
+  pub ended_other : (w : World) (code : _) → Same (ended w p code) w
   unfolding ended
   ended_other w code = changed_elsewhere w p (process_ended code) q apart
 
-  waiting_other : (w : World) (ds : List ℕ) (awaited : Option Awaited) → Same (waiting w p ds awaited) w
+  pub waiting_other : (w : World) (ds : List ℕ) (awaited : Option Awaited) → Same (waiting w p ds awaited) w
   waiting_other w ds None = refl
   waiting_other w ds (Some awaited) = changed_elsewhere w p _ q apart
 
-  replied_other : (u : World) (t : Site) (answer : Status) (values : List ℕ) → Same (replied u p t answer values) u
+  pub replied_other : (u : World) (t : Site) (answer : Status) (values : List ℕ) → Same (replied u p t answer values) u
   unfolding replied
   replied_other u t answer values = changed_elsewhere u p _ q apart
 
@@ -136,9 +136,9 @@ module _ (p q : ℕ) (apart : (p == q) ≡ false) where
 
 module _ (lib : Library) (w : World) (p : ℕ) (caller : Process) (there : get w.processes p ≡ Some caller) (below : (q : ℕ) (y : Process) → get w.processes q ≡ Some y → q < w.next_koid) where
   -- a world in which every started process but p is as it was or killed, and each policy of such a one as it was
-  record LeavesOthers (w2 : World) : Type 0 where
-    others : (q : ℕ) (y : Process) → (p == q) ≡ false → get w.processes q ≡ Some y → is_created y.state ≡ false → IsLeft y (get w2.processes q)
-    alike : AreAlike w w w2
+  pub record LeavesOthers (w2 : World) : Type 0 where
+    pub others : (q : ℕ) (y : Process) → (p == q) ≡ false → get w.processes q ≡ Some y → is_created y.state ≡ false → IsLeft y (get w2.processes q)
+    pub alike : AreAlike w w w2
 
   nothing_done : LeavesOthers w
   nothing_done = record { others = λ q y apart at old. as_before at; alike = same_objects w w w refl }
@@ -197,11 +197,11 @@ module _ (lib : Library) (w : World) (p : ℕ) (caller : Process) (there : get w
   when_acted c (AtCall called t) (y, here) x w2 (o, e, h) = when_called c y t here h.0 (refusal lib w p t.request) refl o w2 h.1
   when_acted c IsStuck site x w2 a = rw a.1 (when_ended w STUCK nothing_done)
 
-keys_below : (w : World) → IsSound w → (q : ℕ) (y : Process) → get w.processes q ≡ Some y → q < w.next_koid
+pub keys_below : (w : World) → IsSound w → (q : ℕ) (y : Process) → get w.processes q ≡ Some y → q < w.next_koid
 keys_below w sound q y at = sound.processes q (ap is_some at)
 
 module _ (lib : Library) (w : World) (p : ℕ) (x : TraceItem) (w2 : World) (sound : IsSound w) (step : Step lib w p x w2) where
-  left_by_step : LeavesOthers lib w p step.process step.is_there (keys_below w sound) step.acted
+  pub left_by_step : LeavesOthers lib w p step.process step.is_there (keys_below w sound) step.acted
   left_by_step = when_acted lib w p step.process step.is_there (keys_below w sound) step.process.cpu (next_for lib step.process) (site_for lib step.process) x step.acted step.acts
 
   -- what has ended is as it was right after the act of another
@@ -226,7 +226,7 @@ module _ (lib : Library) (w : World) (p : ℕ) (x : TraceItem) (w2 : World) (sou
 module _ (i : Image) (t : ℕ → Option State) (range : is_in_range i ≡ true) (typing : IsTyping i t) (lib : Library) (w : World) (p : ℕ) (x : TraceItem) (w2 : World) (b : IsRunStep lib w p x w2) (q : ℕ) (process : Process) (apart : (p == q) ≡ false)
     (there : get w.processes q ≡ Some process) (running : runs process.state ≡ true) (k : Conforms i t w q process) where
   sound : IsSound w
-  sound = sound_before i t range typing lib w p x w2 b
+  sound = sound_before lib w p x w2 b
 
   still_allowed : (c : Condition) → IsTrue (is_among i.needs c) → creates b.step.acted q c ≡ None
   still_allowed c named = same_policy w b.step.acted q process sound there (lives_then process.state running) (left_by_step lib w p x w2 sound b.step).alike c ∙ k.allowed c named

@@ -256,13 +256,13 @@ effect_alike c _ _ (job_create_at a b d) lib w u p passes le vs = made_alike w u
 effect_alike c _ _ (job_set_policy_at a b d e f) lib w u p passes le vs = set_alike lib w u p (reg c b) (reg c d) (reg c e) (reg c f) passes
 effect_alike c _ _ _ lib w u p passes le vs = same_objects w u _ refl
 
-inserted_objects : (es : List Entry) (vs : List ℕ) (w : World) (p : ℕ) → (insert_all w p es vs).objects ≡ w.objects
+pub inserted_objects : (es : List Entry) (vs : List ℕ) (w : World) (p : ℕ) → (insert_all w p es vs).objects ≡ w.objects
 unfolding insert_all on_process
 inserted_objects [] vs w p = refl
 inserted_objects (e ∷ es) [] w p = refl
 inserted_objects (e ∷ es) (v ∷ vs) w p = inserted_objects es vs _ p
 
-stored_objects : (at : ℕ × List ℕ) (w : World) (p : ℕ) → (storing w p at).objects ≡ w.objects
+pub stored_objects : (at : ℕ × List ℕ) (w : World) (p : ℕ) → (storing w p at).objects ≡ w.objects
 unfolding on_process
 stored_objects (address, []) w p = refl
 stored_objects (address, b ∷ bytes) w p = refl

@@ -125,7 +125,7 @@ module _ (lib : Library) (i : Image) (t : ℕ → Option State) (range : is_in_r
     own = b.step.process
 
     sound : IsSound w
-    sound = sound_before i t range typing lib w p x w2 b
+    sound = sound_before lib w p x w2 b
 
     over_after : HasEnded b.step.acted p → HasEnded w2 p
     over_after o = record { process = o.process; there = ended_still p o.process o.over lib w p x w2 b.step o.there; over = o.over }

@@ -2,7 +2,7 @@
 
 ghost use Rattle.std.specs.List.{AllByRecursion};
 ghost use Rattle.std.specs.Prelude.{ℕ, ◌≡◌, ◌≢◌, ◌==◌, ◌↔◌, ◌⊎◌, ℤ, Bool};
-ghost use Rattle.std.specs.Prelude.{slice_get, false, IsTrue, List, [], Option, Some, Ok};
+ghost use Rattle.std.specs.Prelude.{slice_get, false, IsTrue, List, [], None, Option, Some, Ok};
 ghost use Rattle.zl_rights.specs.Common.{World, Cpu, Process, Ready, get, runs};
 ghost use Rattle.zl_rights.specs.declared.status.Status.{Status};
 ghost use Rattle.zl_code.specs.declared.boot.Statement.{Statement};
@@ -10,7 +10,9 @@ ghost use Rattle.zl_code.specs.declared.history.CallName.{CallName};
 ghost use Rattle.zl_code.specs.declared.history.Outcome.TheVariants as outcome;
 ghost use Rattle.zl_code.specs.declared.history.TraceItem.{TraceItem};
 ghost use Rattle.zl_code.specs.declared.instr.CallInstr.{CallInstr};
-ghost use Rattle.zl_code.specs.Image.{Image, Library, call_at};
+ghost use Rattle.zl_code.specs.Image.{Image, Library, call_at, is_among};
+ghost use Rattle.zl_code.specs.Tests.{creates};
+ghost use Rattle.zl_rights.specs.declared.policy.Condition.{Condition};
 ghost use Rattle.zl_code.specs.Spells.{is_in_range};
 ghost use Rattle.zl_code.specs.Handles.{HandlesAreSound};
 ghost use Rattle.zl_code.specs.Request.{Site};
@@ -87,8 +89,8 @@ pub fn runs_keep_queues_sized()
 
 /// A process that is started with handles as its image declares them, and whose job allows what the
 /// image needs, is as a typing of its image says; a boot starts each of its processes so, where the
-/// handles that it gives to it are as the image declares them. And in each step of a run from a
-/// boot world, a process that is so right after what the step does is so at its end, once handles
+/// handles that it gives to it are as the image declares them and the policy of its job allows what
+/// the image needs. And in each step of a run from a boot world, a process that is so right after what the step does is so at its end, once handles
 /// that nothing holds are gone, waits have given their packets and processes are awake: it is as it
 /// was, or it waited, and stands ready at the end of a followed edge. Own profile.
 pub fn start_and_wake()
@@ -99,7 +101,9 @@ pub fn start_and_wake()
         → IsSizedBoot lib statements boot → get boot.processes p ≡ Some q
         → (s : IsBooted lib q) × ((i : Image) (checked : Bool)
         → slice_get lib s.program ≡ Some (record { checked = checked; image = i })
-        → AreAsDeclared i.starts s.handles → IsProperStart i boot p q) }
+        → AreAsDeclared i.starts s.handles
+        → ((c : Condition) → IsTrue (is_among i.needs c) → creates boot p c ≡ None)
+        → IsProperStart i boot p q) }
     ensures wakes { (i : Image) (t : ℕ → Option State)
         (lib : Library) (w : World) (p : ℕ) (x : TraceItem) (w2 : World)
         → IsTrue (is_in_range i) → IsTyping i t → (run : IsRunStep lib w p x w2)

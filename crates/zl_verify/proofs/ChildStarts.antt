@@ -1,10 +1,10 @@
 -- A process that another starts is started properly, where its program is checked.
-use Rattle.std.proofs.Common.{◌≡◌, ℕ, ◌<◌, ◌≤◌, ◌⊎◌, Bool, true, false, not, ◌&&◌, ◌||◌, ◌==◌, List, [], ◌∷◌, ◌++◌, length, refl, sym, ap, ◌∙◌, subst, Option, Some, None, option_map, Result, Ok, Err, arith, inl, inr, IsTrue}
+use Rattle.std.proofs.Common.{◌≡◌, ℕ, ◌≤◌, Bool, true, false, not, ◌&&◌, ◌||◌, ◌==◌, List, [], ◌∷◌, ◌++◌, refl, sym, ap, ◌∙◌, subst, Option, Some, None, option_map, Ok, Err, arith}
 use Rattle.std.specs.Prelude.{if◌then◌else◌, slice_get}
-use Rattle.std.specs.List.{AllByRecursion, list_any}
+use Rattle.std.specs.List.{AllByRecursion}
 use Rattle.std.specs.Option.{option_to_list}
 use Rattle.std.proofs.lemmas.Bool.Decides.{nat_tests}
-use Rattle.std.proofs.lemmas.Option.{same_Some, none-some}
+use Rattle.std.proofs.lemmas.Option.{same_Some}
 use Rattle.zl_rights.specs.declared.entry.Entry.{Entry}
 use Rattle.zl_rights.specs.declared.kind.Kind.{Kind}
 use Rattle.zl_rights.specs.declared.policy.Action.{Action}
@@ -24,30 +24,27 @@ use Rattle.zl_code.specs.declared.history.Outcome.TheVariants as outcome
 use Rattle.zl_code.specs.declared.history.TraceItem.{TraceItem}
 use Rattle.zl_code.specs.declared.history.TraceItem.TheVariants as item
 use Rattle.zl_code.specs.declared.image.Start.{Start}
-use Rattle.zl_code.specs.declared.instr.CallInstr.{CallInstr}
-use Rattle.zl_code.specs.Image.{Image, Library, Program, is_among}
+use Rattle.zl_code.specs.Image.{Image, Library, Program}
 use Rattle.zl_code.specs.First.{first_some}
 use Rattle.zl_code.specs.Tests.{Operand, entry_at, object_at, creates, ends_if_kill, faults, by_look_up, operand, operand_after, seen_after, contains, examined, unless_allowed, action_of, parent_of, by_policy}
-use Rattle.zl_code.specs.Effects.{on_process, process_with, insert_all, may_get, may_get_all, gets_all}
+use Rattle.zl_code.specs.Effects.{on_process, process_with, may_get, may_get_all}
 use Rattle.zl_code.specs.Starting.{is_created, started_with, program_in, program_of}
-use Rattle.zl_code.specs.Boot.{started_process}
-use Rattle.zl_code.specs.Jobs.{is_declared, is_only_start, misfits}
+use Rattle.zl_code.specs.Jobs.{is_only_start, misfits}
 use Rattle.zl_code.specs.Refusals.{refusal, handle_operands, condition_of}
 use Rattle.zl_code.specs.CallTable.{Request, process_start, listed, effect, new_handles, gives_ok}
 use Rattle.zl_code.specs.Request.{Site, site}
-use Rattle.zl_code.specs.Calls.{Calls, CallBy, Choice, Refused, WantsMemory, Values, taken_handles, taken, may_choose, replied, with_effect, after_ok, ok_outcome}
-use Rattle.zl_code.specs.Steps.{Next, AtCall, next_for, Acts, Step, Runs, pid_of}
+use Rattle.zl_code.specs.Calls.{Calls, CallBy, Choice, Refused, WantsMemory, Values, taken_handles, taken, may_choose, replied, with_effect}
+use Rattle.zl_code.specs.Steps.{AtCall, Acts, Runs, pid_of}
 use Rattle.zl_code.specs.Sound.{IsSound}
 use Rattle.zl_abs.specs.Values.{ANY, kind_below}
 use Rattle.zl_abs.proofs.Order.{both}
-use Rattle.zl_verify.specs.Conforms.{IsAs}
 use Rattle.zl_verify.specs.SizedLaws.{IsSizedBoot}
-use Rattle.zl_verify.specs.WakeLaws.{IsRunStep, AreAsDeclared, IsProperStart, StartsChild}
+use Rattle.zl_verify.specs.WakeLaws.{IsRunStep, AreAsDeclared, StartsChild}
 use Rattle.zl_verify.specs.Headline.{IsStarted}
-use Rattle.zl_verify.proofs.Ordinary.{is_good, IsOrdinary, AreOrdinary, listed_ordinary}
-use Rattle.zl_verify.proofs.Working.{listed_none, test_fails, test_passes}
+use Rattle.zl_verify.proofs.Ordinary.{is_good, AreOrdinary, listed_ordinary}
+use Rattle.zl_verify.proofs.Working.{listed_none, test_fails}
 use Rattle.zl_verify.proofs.OwnEffect.{starts_created, no_child, same_policy}
-use Rattle.zl_verify.proofs.Others.{HasSite, site_for, left_other, replied_other, keys_below, left_by_step}
+use Rattle.zl_verify.proofs.Others.{HasSite, site_for, left_other, replied_other, left_by_step}
 use Rattle.zl_verify.proofs.Giving.{getting_all}
 use Rattle.zl_verify.proofs.SizedCalls.{IsSizedRequest, request_sized}
 use Rattle.zl_verify.proofs.SizedRuns.{world_sized}
@@ -55,7 +52,7 @@ use Rattle.zl_verify.proofs.Woken.{sound_before, settled_there, allowed_after}
 use Rattle.zl_verify.proofs.Ended.{awake_still}
 use Rattle.zl_verify.proofs.CheckedRuns.{one_more}
 use Rattle.zl_verify.proofs.BootStarts.{is_booted}
-use Rattle.zl_verify.proofs.Unstarted.{IsUnstarted, AreUnstarted, inserted_at, changed_at}
+use Rattle.zl_verify.proofs.Unstarted.{AreUnstarted, inserted_at, changed_at}
 use Rattle.zl_verify.proofs.UnstartedRuns.{lives_new, step_unstarted}
 
 -- ---- a refusal isn't OK

@@ -1,16 +1,13 @@
 -- A process that was made and isn't started yet is as it was made, and its job allows what its program needs; what a step does keeps this.
-use Rattle.std.proofs.Common.{◌≡◌, ℕ, ◌<◌, ◌⊎◌, Bool, true, false, not, ◌&&◌, ◌||◌, ◌==◌, List, [], ◌∷◌, refl, sym, ap, ◌∙◌, subst, Option, Some, None, option_map, arith, inl, inr}
-use Rattle.std.specs.Prelude.{ℤ, is_some, if◌then◌else◌, slice_get, unwrap_or}
-use Rattle.std.specs.List.{list_any}
+use Rattle.std.proofs.Common.{◌≡◌, ℕ, ◌<◌, ◌⊎◌, Bool, true, false, ◌==◌, List, [], ◌∷◌, refl, sym, ap, ◌∙◌, subst, Option, Some, None, option_map, arith, inl, inr}
+use Rattle.std.specs.Prelude.{ℤ, if◌then◌else◌, slice_get}
 use Rattle.std.proofs.lemmas.Bool.{cases_Bool, eqb-true}
 use Rattle.std.proofs.lemmas.Bool.Decides.{nat_tests}
 use Rattle.std.proofs.lemmas.Option.{same_Some}
 use Rattle.zl_rights.specs.declared.entry.Entry.{Entry}
-use Rattle.zl_rights.specs.declared.policy.Action.{Action}
-use Rattle.zl_rights.specs.declared.policy.Action.TheVariants as action
 use Rattle.zl_rights.specs.declared.policy.Condition.{Condition}
 use Rattle.zl_rights.specs.declared.status.Status.TheVariants as status
-use Rattle.zl_rights.specs.Common.{condition_number, get, put, lives, World, Cpu, Process, State as Life, Created, Ready, Blocked, Ended, ProcessBody}
+use Rattle.zl_rights.specs.Common.{get, put, World, Cpu, Process, State as Life, Created, Ready, Blocked, Ended, ProcessBody}
 use Rattle.zl_rights.specs.Numbers.{KILLED}
 use Rattle.zl_rights.specs.Signals.{has_ended}
 use Rattle.zl_rights.specs.World.{Awaited}
@@ -21,25 +18,23 @@ use Rattle.zl_code.specs.declared.history.TraceItem.{TraceItem}
 use Rattle.zl_code.specs.declared.instr.CallInstr.{CallInstr}
 use Rattle.zl_code.specs.Image.{Library, Program, is_among}
 use Rattle.zl_code.specs.Local.{reg}
-use Rattle.zl_code.specs.Tests.{entry_at, object_at, body_in, body_of, parent_in, parent_of, policy_in, action_of, unless_allowed, creates}
+use Rattle.zl_code.specs.Tests.{object_at, creates}
 use Rattle.zl_code.specs.Effects.{on_process, on_object, with_object, process_with, process_ended, insert_all, ended, waiting}
 use Rattle.zl_code.specs.Starting.{is_created, created_process, started_with}
-use Rattle.zl_code.specs.Jobs.{is_allowing, lacks_need, is_within, process_killed, with_killed}
+use Rattle.zl_code.specs.Jobs.{is_within, process_killed, with_killed}
 use Rattle.zl_code.specs.Refusals.{refusal}
-use Rattle.zl_code.specs.Sound.{IsSound}
-use Rattle.zl_code.specs.CallTable.{Request, process_create, process_start, task_kill, listed, effect, new_handles, receiver_of, entering_at, stored_by, gives_ok, gives_refused, awaited_by, ends_caller}
+use Rattle.zl_code.specs.CallTable.{Request, process_create, process_start, task_kill, effect, new_handles, receiver_of, entering_at, stored_by, gives_ok, gives_refused, awaited_by, ends_caller}
 use Rattle.zl_code.specs.Request.{Site}
 use Rattle.zl_code.specs.Calls.{Choice, Refused, WantsMemory, Values, CallBy, taken_handles, taken, cpu_answered, replied, with_effect, after_refusal, after_ok, ok_outcome}
-use Rattle.zl_code.specs.Steps.{Next, Moves, AtCall, IsStuck, next_for, Acts, Step}
+use Rattle.zl_code.specs.Steps.{Next, Moves, AtCall, IsStuck, Acts}
 use Rattle.zl_code.proofs.Entering.{left_behind}
 use Rattle.zl_verify.proofs.Giving.{getting_all}
-use Rattle.zl_verify.proofs.OwnTable.{changed_here, changed_elsewhere, inserted_elsewhere, own_handles, losing_all, losing_same, lost_and_got, removed_here}
+use Rattle.zl_verify.proofs.OwnTable.{changed_here, changed_elsewhere, inserted_elsewhere, own_handles, losing_all, losing_same, removed_here}
 use Rattle.zl_verify.proofs.OwnTable.{getting_same}
 use Rattle.zl_verify.proofs.Storing.{storing_same}
 use Rattle.zl_verify.proofs.Sites.{SiteAt, process_create_at, process_start_at, task_kill_at}
-use Rattle.zl_verify.proofs.Working.{listed_none, test_fails}
-use Rattle.zl_verify.proofs.OwnEffect.{IsDone, other_koid, caller_after, caller_ending, inserted_objects, stored_objects, same_policy}
-use Rattle.zl_verify.proofs.Others.{HasSite, site_for, left_other, stored_other, ended_other, waiting_other, replied_other, keys_below, left_by_step}
+use Rattle.zl_verify.proofs.OwnEffect.{IsDone, caller_after, caller_ending, inserted_objects, stored_objects}
+use Rattle.zl_verify.proofs.Others.{HasSite, left_other, stored_other, ended_other, waiting_other, replied_other}
 
 -- The process x with the koid k is as it was made, and its job allows what its program needs, if that is checked.
 pub record IsUnstarted (lib : Library) (w : World) (k : ℕ) (x : Process) : Type 0 where

@@ -1,23 +1,22 @@
 -- In every world of a run from a boot world, a process that isn't started yet is as it was made, and its job allows what its program needs.
-use Rattle.std.proofs.Common.{◌≡◌, ℕ, ◌<◌, ◌⊎◌, Bool, true, false, not, ◌&&◌, ◌||◌, ◌==◌, List, [], ◌∷◌, ◌++◌, refl, sym, ap, ◌∙◌, subst, Option, Some, None, option_map, arith, inl, inr}
+use Rattle.std.proofs.Common.{◌≡◌, ℕ, ◌<◌, ◌⊎◌, Bool, true, false, not, ◌&&◌, ◌||◌, ◌==◌, List, [], ◌∷◌, refl, sym, ap, ◌∙◌, subst, Option, Some, None, option_map, arith, inl, inr}
 use Rattle.std.specs.Prelude.{is_some, if◌then◌else◌, slice_get, unwrap_or}
 use Rattle.std.specs.List.{fold, list_any}
 use Rattle.std.proofs.lemmas.Bool.{cases_Bool, eqb-true}
 use Rattle.std.proofs.lemmas.Bool.Decides.{nat_tests}
-use Rattle.std.proofs.lemmas.Option.{none-some, same_Some}
+use Rattle.std.proofs.lemmas.Option.{same_Some}
 use Rattle.zl_rights.specs.declared.entry.Entry.{Entry}
 use Rattle.zl_rights.specs.declared.policy.Action.{Action}
 use Rattle.zl_rights.specs.declared.policy.Action.TheVariants as action
 use Rattle.zl_rights.specs.declared.policy.Condition.{Condition}
 use Rattle.zl_rights.specs.declared.status.Status.TheVariants as status
 use Rattle.zl_rights.specs.Common.{condition_number, answered, get, put, lives, Settles, process_settled, without_others, fired, wakes, World, Process, State as Life, Created, Ready, Blocked, Object, Body, PortBody, ProcessBody}
-use Rattle.zl_rights.specs.World.{Awaited, SignalOf, PacketAt, Packet}
+use Rattle.zl_rights.specs.World.{SignalOf, PacketAt, Packet}
 use Rattle.zl_rights.specs.Signals.{active}
 use Rattle.zl_rights.specs.Numbers.{meets}
 use Rattle.zl_rights.specs.Settle.{state_without}
 use Rattle.zl_rights.specs.Wakes.{made_ready, packet_values, with_body, woken_by_first, woken_by, woken_at_port, woken_from, woken_if_there, woken}
 use Rattle.zl_rights.proofs.MapLaws.{get-put, get-each}
-use Rattle.zl_code.specs.declared.boot.Statement.{Statement}
 use Rattle.zl_code.specs.declared.history.TraceItem.{TraceItem}
 use Rattle.zl_code.specs.Image.{Library, Program, is_among}
 use Rattle.zl_code.specs.Tests.{koid_in, object_at, body_in, body_of, parent_in, parent_of, policy_in, action_of, unless_allowed, creates}
@@ -26,15 +25,12 @@ use Rattle.zl_code.specs.Jobs.{is_allowing, lacks_need}
 use Rattle.zl_code.specs.Refusals.{refusal}
 use Rattle.zl_code.specs.Sound.{IsSound}
 use Rattle.zl_code.specs.CallTable.{process_create, listed}
-use Rattle.zl_code.specs.Steps.{Step, pid_of, Runs, next_for}
-use Rattle.zl_code.proofs.SoundRuns.{step_sound, boot_sound}
-use Rattle.zl_verify.specs.SizedLaws.{IsSizedBoot}
-use Rattle.zl_verify.specs.WakeLaws.{IsRunStep, IsBooted}
+use Rattle.zl_code.specs.Steps.{Step, next_for}
+use Rattle.zl_verify.specs.WakeLaws.{IsRunStep}
 use Rattle.zl_verify.proofs.Working.{listed_none, test_fails}
 use Rattle.zl_verify.proofs.OwnEffect.{other_koid, same_policy}
 use Rattle.zl_verify.proofs.Others.{site_for, keys_below, left_by_step}
 use Rattle.zl_verify.proofs.Woken.{allowed_after}
-use Rattle.zl_verify.proofs.BootStarts.{is_booted}
 use Rattle.zl_verify.proofs.Unstarted.{IsUnstarted, AreUnstarted, Comes, was, made, AllCome, when_acted}
 
 itself : (k : ℕ) → (k == k) ≡ true

@@ -95,9 +95,10 @@ pub fn runs_keep_queues_sized()
 /// A process that is started with handles as its image declares them, and whose job allows what the
 /// image needs, is as a typing of its image says; a boot starts each of its processes so, where the
 /// handles that it gives to it are as the image declares them and the policy of its job allows what
-/// the image needs. And in each step of a run from a boot world, a process that is so right after what the step does is so at its end, once handles
-/// that nothing holds are gone, waits have given their packets and processes are awake: it is as it
-/// was, or it waited, and stands ready at the end of a followed edge. Own profile.
+/// the image needs. And in each step of a run from a boot world, a process that is so right after
+/// what the step does is so at its end, once handles that nothing holds are gone, waits have given
+/// their packets and processes are awake: it is as it was, or it waited, and stands ready at the end
+/// of a followed edge. Own profile.
 pub fn start_and_wake()
     ensures starts { (i : Image) (t : ℕ → Option State) (w : World) (p : ℕ) (q : Process)
         → IsTrue (is_in_range i) → IsTyping i t → IsProperStart i w p q → Conforms i t w p q }

@@ -1,8 +1,8 @@
 //! Laws of the definitions: each function's contract is one law, and its body is empty.
 
 ghost use Rattle.std.specs.List.{AllByRecursion};
-ghost use Rattle.std.specs.Prelude.{ℕ, ◌≡◌, ◌≢◌, ◌==◌, ◌↔◌, ◌⊎◌, ℤ, Bool};
-ghost use Rattle.std.specs.Prelude.{slice_get, true, false, IsTrue, List, [], None, Option, Some, Ok};
+ghost use Rattle.std.specs.Prelude.{ℕ, ◌≡◌, ◌≢◌, ◌==◌, ◌↔◌, ◌⊎◌, ℤ, Bool, true, false};
+ghost use Rattle.std.specs.Prelude.{slice_get, IsTrue, List, [], None, Option, Some, Ok};
 ghost use Rattle.zl_rights.specs.Common.{World, Cpu, Process, Ready, get, runs};
 ghost use Rattle.zl_rights.specs.declared.status.Status.{Status};
 ghost use Rattle.zl_rights.specs.declared.status.Status.TheVariants as status;
@@ -39,8 +39,8 @@ ghost use Rattle.zl_verify.specs.WakeLaws.{IsBooted, IsRunStep, EndsStep, Others
 ghost use Rattle.zl_verify.specs.Headline.{IsStarted};
 
 /// In a world with sound handles, a process that is as a typing of its image says is never stuck.
-/// After a local instruction it stands at the end of a followed edge, and is there as the typing says.
-/// Own profile.
+/// After a local instruction it stands at the end of a followed edge, and is there as the typing
+/// says. Own profile.
 pub fn local_step()
     ensures not_stuck { (i : Image) (t : ℕ → Option State) (w : World) (p : ℕ) (q : Process)
         → IsTrue (is_in_range i) → IsTyping i t → HandlesAreSound w
@@ -53,12 +53,12 @@ pub fn local_step()
 {}
 
 /// A process that is as a typing of its image says can ask for its call. In a sound world in which
-/// what is queued fits who receives it, however the call then ends: no answer is BAD_HANDLE, WRONG_TYPE
-/// or ACCESS_DENIED, and behind an answer the process stands at the end of a followed edge, as the
-/// typing says there; where the call blocks, the process is as the typing says where it stands; and no
-/// policy ends it, as nothing does but its own `process_exit`, or its own `task_kill` of itself or of a
-/// job above it. The world is that right after the call, before handles that nothing holds go and
-/// processes wake. Own profile.
+/// what is queued fits who receives it, however the call then ends: no answer is BAD_HANDLE,
+/// WRONG_TYPE or ACCESS_DENIED, and behind an answer the process stands at the end of a followed
+/// edge, as the typing says there; where the call blocks, the process is as the typing says where
+/// it stands; and no policy ends it, as nothing does but its own `process_exit`, or its own
+/// `task_kill` of itself or of a job above it. The world is that right after the call, before
+/// handles that nothing holds go and processes wake. Own profile.
 pub fn own_call()
     ensures can_call { (i : Image) (t : ℕ → Option State) (w : World) (p : ℕ) (q : Process)
         → IsTrue (is_in_range i) → IsTyping i t → HandlesAreSound w
@@ -97,8 +97,8 @@ pub fn runs_keep_queues_sized()
 /// handles that it gives to it are as the image declares them and the policy of its job allows what
 /// the image needs. And in each step of a run from a boot world, a process that is so right after
 /// what the step does is so at its end, once handles that nothing holds are gone, waits have given
-/// their packets and processes are awake: it is as it was, or it waited, and stands ready at the end
-/// of a followed edge. Own profile.
+/// their packets and processes are awake: it is as it was, or it waited, and stands ready at the
+/// end of a followed edge. Own profile.
 pub fn start_and_wake()
     ensures starts { (i : Image) (t : ℕ → Option State) (w : World) (p : ℕ) (q : Process)
         → IsTrue (is_in_range i) → IsTyping i t → IsProperStart i w p q → Conforms i t w p q }
@@ -144,9 +144,9 @@ pub fn steps_of_others()
 
 /// In a run from a boot world, from where a process runs and is as a typing of its image says,
 /// whatever it and others do: none of its calls is answered BAD_HANDLE, WRONG_TYPE or
-/// ACCESS_DENIED, no call of its own ends it but `process_exit` and `task_kill` of itself or of a job
-/// above it, so that no policy does, and it is never stuck. In each world that follows it runs, and is
-/// as the typing says, or has ended, as it also does where another kills it. Own profile.
+/// ACCESS_DENIED, no call of its own ends it but `process_exit` and `task_kill` of itself or of a
+/// job above it, so that no policy does, and it is never stuck. In each world that follows it runs,
+/// and is as the typing says, or has ended, as it also does where another kills it. Own profile.
 pub fn never_refused()
     ensures fine { (i : Image) (t : ℕ → Option State) → IsTrue (is_in_range i) → IsTyping i t
         → (lib : Library) (statements : List Statement) (boot w after : World)

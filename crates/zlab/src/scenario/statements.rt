@@ -1,10 +1,12 @@
 //! The lines that make a statement or open a part.
-ghost use Rattle.std.specs.Prelude.{◌≡◌, [], map};
+ghost use Rattle.std.specs.Prelude.{◌≡◌, ◌&&◌, [], ◌∷◌, map, codes};
+ghost use Rattle.zl_asm.specs.Words.{is_word};
+ghost use Rattle.zl_rights.specs.Signals.{is_empty};
 ghost use Rattle.std.specs.Option.{option_map};
 ghost use Rattle.zlab.specs.Lines.{number_of};
 ghost use Rattle.zlab.specs.Handles.{handles_of};
 ghost use Rattle.zl_rights.specs.Names.{condition_named};
-ghost use Rattle.zlab.specs.Scenario.{at, action_named, body_named, job_said, object_named, policy_said, process_said, limit_said, statement_said};
+ghost use Rattle.zlab.specs.Scenario.{at, Statements, action_named, body_named, job_said, object_named, policy_said, process_said, limit_said, statement_said};
 ghost use Rattle.zlab.specs.Reading.{part_with, body_with, Tells, Keeps};
 
 use crate::fault::Cause;
@@ -43,12 +45,8 @@ pub fn read_statement(
             draft.push_statement(line, statement)?;
             Ok(Part::Statements)
         }
-        [name, most] if is(name, b"limit") => {
-            read_limit(draft, most)?;
-            Ok(Part::Statements)
-        }
-        [name, parent] if is(name, b"job") => {
-            read_job(draft, line, parent)?;
+        [name, value] => {
+            read_pair(draft, line, name, value)?;
             Ok(Part::Statements)
         }
         [name, mark, form] => {
@@ -58,15 +56,49 @@ pub fn read_statement(
             body.open(form);
             Ok(Part::Block { opened: line })
         }
-        [name, job, condition, action] if is(name, b"policy") => {
-            read_policy(draft, line, job, condition, action)?;
-            Ok(Part::Statements)
+        [name, job, program, word, handles @ ..] => {
+            if is_policy(name, handles) {
+                read_policy(draft, line, job, program, word)?;
+                return Ok(Part::Statements);
+            }
+            if is(name, b"process") {
+                read_process(draft, alloc, line, job, program, word, handles)?;
+                return Ok(Part::Statements);
+            }
+            Err(Fault::Refused(Cause::Syntax))
         }
-        [name, job, program, word, handles @ ..] if is(name, b"process") => {
-            read_process(draft, alloc, line, job, program, word, handles)?;
-            Ok(Part::Statements)
-        }
-        _ => Err(Fault::Refused(Cause::Syntax)),
+    }
+}
+
+/// Reads a line of a name and one number.
+#[tactic(auto, unfolding(crate::specs::Scenario::statement_said))]
+fn read_pair(draft: &mut Draft, line: u64, name: &[u8], value: &[u8]) -> Result<(), Fault>
+    ensures answer { Tells result (λ _. at draft.new Statements)
+        (statement_said line draft.old (name.now ∷ value.now ∷ [])) }
+    ensures unchanged { Keeps result draft.old draft.new }
+{
+    if is(name, b"limit") {
+        read_limit(draft, value)?;
+        return Ok(());
+    }
+    if is(name, b"job") {
+        read_job(draft, line, value)?;
+        return Ok(());
+    }
+    Err(Fault::Refused(Cause::Syntax))
+}
+
+/// Whether a line of this name, with these words behind its first four, is a policy.
+fn is_policy(name: &[u8], more: &[&[u8]]) -> bool
+    ensures { result ≡ (is_word name.now (codes "policy")
+        && is_empty (map (λ word. word.now) more.now)) }
+{
+    if !is(name, b"policy") {
+        return false;
+    }
+    match more {
+        [] => true,
+        _ => false,
     }
 }
 

@@ -64,3 +64,4 @@ pub mod BootObjects
 pub mod BootLab
 pub mod BootRun
 pub mod BootBlocked
+pub mod Policies

@@ -9,7 +9,7 @@ use Rattle.zl_calls.specs.declared.process.Process.{Process}
 
 -- an object that agrees with its process shows what that is in
 shown : (w : World) (k : ℕ) (b : Body) → Agrees w k b → Shows w k b
-shown w k body.RootJob agrees = tt
+shown w k (body.Job own) agrees = tt
 shown w k (body.Process job alive) agrees = record { living = agrees.living; over = agrees.over }
 shown w k body.Event agrees = tt
 shown w k (body.Port port) agrees = tt

@@ -10,6 +10,7 @@ use Rattle.zl_objects.specs.declared.object.Body.TheVariants as body
 use Rattle.zl_objects.specs.declared.object.Object.{Object}
 use Rattle.zl_objects.specs.Objects.{queue_of, with_channel}
 use Rattle.zl_objects.specs.Ports.{new_port}
+use Rattle.zl_objects.proofs.Bodies.{more_in_job}
 use Rattle.zl_objects.proofs.ByKoid.{put_last}
 use Rattle.zl_calls.specs.declared.process.Process.{Process}
 use Rattle.zl_calls.specs.declared.booting.Made.{Made}
@@ -71,12 +72,7 @@ module _ (ps : List Process) (r : Objects) (making : IsMaking ps [] r) (b : Body
       job_there (Some o) h = refl
 
   still_in_job : (c : Body) → IsTrue (is_in_job r.objects c) → IsTrue (is_in_job grown.objects c)
-  still_in_job body.RootJob h = refl
-  still_in_job (body.Process j false) h = refl
-  still_in_job (body.Process j true) h = job_grown j h
-  still_in_job body.Event h = refl
-  still_in_job (body.Port port) h = refl
-  still_in_job (body.ChannelEnd peer queue) h = refl
+  still_in_job = more_in_job r.objects grown.objects job_grown
 
   not_there : (test : StateValue → Bool) → is_process (world_value ps r) test n ≡ false
   unfolding is_process

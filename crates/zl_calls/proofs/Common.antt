@@ -6,7 +6,7 @@ pub use Rattle.zl_calls.specs.Consistent.{AreNamed, IsConsistent, IsNamed}
 pub use Rattle.zl_calls.specs.Gives.{Gives, IsBare, allowed, if_default, process_given, rights_if}
 pub use Rattle.zl_calls.specs.Makes.{IsCauseOf, IsReached, Makes, seen}
 pub use Rattle.zl_calls.specs.Making.{IsMaking, IsSound}
-pub use Rattle.zl_objects.specs.Objects.{Objects, changing, has_place, held_once_more, holding, is_job_at, is_job_body, is_job_in, is_kept, job_in, job_of, kind_at, kind_in, lives_below, new_object, raised_changed, root_alone, stays_alone, stopped, stopped_body, stopping, with_new}
+pub use Rattle.zl_objects.specs.Objects.{Objects, changing, has_place, held_once_more, holding, is_job_at, is_job_body, is_job_in, is_kept, job_in, job_of, kind_at, kind_in, is_child, new_object, raised_changed, root_alone, stays_alone, stopped, stopped_body, stopping, with_new}
 unfoldable pub use Rattle.zl_objects.specs.Objects.{has_living_child}
 pub use Rattle.zl_objects.specs.Release.{AreKeptBut, Cascades, Releases, koids_of, none_left}
 pub use Rattle.zl_objects.specs.Seen.{Agrees, IsExact, body_value, is_in_job, object_entry, object_value}

@@ -47,7 +47,7 @@ settable_named : (os : Map Object) (e : Entry) → IsNamed os e → settable_of 
 settable_named os e named = rw (get_seen os e.koid, named.there, named.kind) (by_body named.object.body)
   where
     by_body : (b : Body) → settable_of (Some (body_value b)) ≡ settable_at (kind_of (body_value b))
-    by_body body.RootJob = refl
+    by_body (body.Job own) = refl
     by_body (body.Process job lives) = refl
     by_body body.Event = refl
     by_body (body.Port port) = refl

@@ -1,5 +1,5 @@
 -- One object more, with one handle that is to enter a table: what the invariant says of both.
-use Rattle.zl_calls.proofs.Common.{◌≡◌, ◌<◌, ◌≤◌, ◌+◌, ◌^◌, ℕ, Bool, true, false, ◌||◌, ◌==◌, List, [], ◌∷◌, ◌++◌, map, refl, sym, ap, ◌∙◌, subst, cond, Option, Some, None, inl, inr, IsTrue, arith, eq-eqb, if◌then◌else◌, is_some, list_any, count_by, sum_by-cons, cases_Bool, eqb-true, false≢true, same_Some, Map, get, put, has_key, is_process, map-append, state_passes, All, All-nil, has_living_child, handles_to, get-put, sorted_put, put_key, queued_to, body_value, Objects, AreKeptBut, new_object, with_new, is_kept, stays_alone, lives_below, is_job_at, is_job_in, object_entry, object_value, process_entry, world_value, IsConsistent, IsSound, AreNamed, IsNamed, Agrees, is_in_job}
+use Rattle.zl_calls.proofs.Common.{◌≡◌, ◌<◌, ◌≤◌, ◌+◌, ◌^◌, ℕ, Bool, true, false, ◌||◌, ◌==◌, List, [], ◌∷◌, ◌++◌, map, refl, sym, ap, ◌∙◌, subst, cond, Option, Some, None, inl, inr, IsTrue, arith, eq-eqb, if◌then◌else◌, is_some, list_any, count_by, sum_by-cons, cases_Bool, eqb-true, false≢true, same_Some, Map, get, put, has_key, is_process, map-append, state_passes, All, All-nil, has_living_child, handles_to, get-put, sorted_put, put_key, queued_to, body_value, Objects, AreKeptBut, new_object, with_new, is_kept, stays_alone, is_child, is_job_at, is_job_in, object_entry, object_value, process_entry, world_value, IsConsistent, IsSound, AreNamed, IsNamed, Agrees, is_in_job}
 use Rattle.zl_code.proofs.Common.{Process as ProcessValue, State as StateValue}
 use Rattle.zl_rights.specs.declared.entry.Entry.{Entry}
 use Rattle.zl_objects.specs.declared.object.Body.{Body}
@@ -8,6 +8,7 @@ use Rattle.zl_objects.specs.declared.object.Object.{Object}
 use Rattle.zl_calls.specs.declared.process.Process.{Process}
 use Rattle.zl_rights.specs.World.{Message}
 use Rattle.zl_objects.specs.Objects.{queue_of}
+use Rattle.zl_objects.proofs.Bodies.{more_in_job}
 use Rattle.zl_objects.proofs.ByKoid.{put_last}
 use Rattle.zl_objects.proofs.Law.{has_seen, kept_all}
 use Rattle.zl_calls.proofs.Counted.{never_named}
@@ -28,7 +29,7 @@ grown_seen r b handles given =
 
 -- where no message is, no handle is
 none_queued : (j : ℕ) (b : Body) → queue_of b ≡ [] → ◌≡◌ {A = ℕ} (queued_to j (body_value b)) 0
-none_queued j body.RootJob empty = refl
+none_queued j (body.Job own) empty = refl
 none_queued j (body.Process job lives) empty = refl
 none_queued j body.Event empty = refl
 none_queued j (body.Port port) empty = refl
@@ -105,7 +106,7 @@ module _ (ps : List Process) (m : Map Entry) (r : Objects) (growing : IsGrowing 
         by_process (Some q) is = absurd (omega (arith, sound.given_processes n (rw is refl)))
 
     -- what it is neither runs nor is a living child of a job, and no message is in it; the handle x names it, and none of m does
-    module _ (childless : (j : ℕ) → lives_below j b ≡ false) (quiet : ((test : StateValue → Bool) → is_process (world_value ps r) test n ≡ false) → Agrees (world_value ps r) n b) (empty : queue_of b ≡ []) (in_job : IsTrue (is_in_job grown.objects b)) (koid : n < 2 ^ 62)
+    module _ (childless : (j : ℕ) → is_child j b ≡ false) (quiet : ((test : StateValue → Bool) → is_process (world_value ps r) test n ≡ false) → Agrees (world_value ps r) n b) (empty : queue_of b ≡ []) (in_job : IsTrue (is_in_job grown.objects b)) (koid : n < 2 ^ 62)
         (apart_from : ◌≡◌ {A = ℕ} (count_by (λ h. h.1.koid == n) m) 0) (x : ℕ × Entry) (names : x.1.koid ≡ n) where
       same_handles : (j : ℕ) → handles_to (world_value ps grown) j ≡ handles_to (world_value ps r) j
       same_handles j = same_tables ps r grown j (queues_grown r b 1 j (none_queued j b empty))
@@ -165,12 +166,7 @@ module _ (ps : List Process) (m : Map Entry) (r : Objects) (growing : IsGrowing 
               job_there (Some o) h = refl
 
           still_in_job : (c : Body) → IsTrue (is_in_job r.objects c) → IsTrue (is_in_job grown.objects c)
-          still_in_job body.RootJob h = refl
-          still_in_job (body.Process job false) h = refl
-          still_in_job (body.Process job true) h = job_grown job h
-          still_in_job body.Event h = refl
-          still_in_job (body.Port port) h = refl
-          still_in_job (body.ChannelEnd peer queue) h = refl
+          still_in_job = more_in_job r.objects grown.objects job_grown
 
       pub grown_one : IsGrowing ps (x ∷ m) grown
       unfolding has_living_child
@@ -182,7 +178,7 @@ module _ (ps : List Process) (m : Map Entry) (r : Objects) (growing : IsGrowing 
       }
         where
           still_alone : (j : ℕ) (c : Body) → stays_alone grown.objects j c ≡ stays_alone r.objects j c
-          still_alone j body.RootJob = any_behind (λ e. lives_below j e.1.body) r.objects (n, fresh) (childless j)
+          still_alone j (body.Job own) = any_behind (λ e. is_child j e.1.body) r.objects (n, fresh) (childless j)
           still_alone j (body.Process job lives) = refl
           still_alone j body.Event = refl
           still_alone j (body.Port port) = refl

@@ -1,5 +1,5 @@
 -- Objects that are the same but for waits and reserved places: what doesn't see these.
-use Rattle.zl_rights.proofs.Common.{◌≡◌, ℕ, ◌&&◌, ◌||◌, ◌==◌, List, [], ◌∷◌, length, map, refl, sym, ap, ◌∙◌, subst, cond, Option, Some, None, arith, nat_lt, is_some, suc, option_map, count_by, sum_by-cons, below_all, is_sorted, nat_cmp, none-some, same_Some, Map, get, has_key, each}
+use Rattle.zl_rights.proofs.Common.{◌≡◌, ℕ, ◌&&◌, ◌||◌, List, [], ◌∷◌, length, map, refl, sym, ap, ◌∙◌, subst, cond, Option, Some, None, arith, nat_lt, is_some, suc, option_map, count_by, sum_by-cons, below_all, is_sorted, nat_cmp, none-some, same_Some, Map, get, has_key, each}
 use Rattle.std.specs.Ordering.{is_lt}
 use Rattle.zl_rights.specs.World.{World}
 use Rattle.zl_rights.proofs.MapLaws.{get-each}
@@ -7,12 +7,13 @@ use Rattle.zl_rights.proofs.MapTests.{list_any-each}
 use Rattle.zl_objects.specs.declared.object.Body.{Body}
 use Rattle.zl_objects.specs.declared.object.Body.TheVariants as body
 use Rattle.zl_objects.specs.declared.object.Object.{Object}
-use Rattle.zl_objects.specs.Objects.{has_living_child, is_child, is_job_at, is_job_in, is_job_body, is_kept, keeper_of, stays_alone}
+use Rattle.zl_objects.specs.Objects.{has_living_child, is_child, is_job_at, is_job_in, is_job_body, is_kept, stays_alone}
 use Rattle.zl_objects.specs.Dying.{is_named}
 use Rattle.zl_objects.specs.Ports.{unreserved}
 use Rattle.zl_objects.specs.Release.{AreKeptBut}
-use Rattle.zl_objects.specs.Seen.{Agrees, body_value, is_above, is_in_job, object_entry}
+use Rattle.zl_objects.specs.Seen.{Agrees, body_value, is_in_job, object_entry}
 use Rattle.zl_objects.specs.Waits.{AreSameButWaits, bare}
+use Rattle.zl_objects.proofs.Bodies.{same_in_job}
 
 -- the objects without waits and reserved places
 abbrev all_bare : Map Object → Map Object
@@ -153,11 +154,7 @@ module _ (m m2 : Map Object) (same : AreSameButWaits m m2) where
       by_body (body.Port p) = refl
 
   pub in_job_same : (b c : Body) → unreserved b ≡ unreserved c → is_in_job m2 b ≡ is_in_job m c
-  in_job_same b c is = above (keeper_of b) ∙ of_body (is_in_job m) (λ packets reserved. refl) b c is
-    where
-      above : (o : Option ℕ) → is_above m2 o ≡ is_above m o
-      above None = refl
-      above (Some job) = ap (λ j. (job == 0) || j) (carried (λ n. is_job_at n job) (λ n. job_bare n job))
+  in_job_same b c is = same_in_job m m2 (λ job. carried (λ n. is_job_at n job) (λ n. job_bare n job)) b ∙ of_body (is_in_job m) (λ packets reserved. refl) b c is
 
   pub alike : (k : ℕ) (o : Object) → get m2 k ≡ Some o → IsAlike m k o
   alike k o at = by_object (get m k) refl

@@ -1,5 +1,6 @@
 -- What keeps objects, once one of them was changed or has gone.
-use Rattle.zl_rights.proofs.Common.{◌≡◌, ℕ, Bool, true, false, ◌||◌, ◌==◌, [], ◌∷◌, refl, sym, ap, ◌∙◌, Option, Some, None, inl, inr, IsTrue, if◌then◌else◌, is_some, list_any, option_map, nat_cmp, is_sorted, cases_Bool, eqb-true, false≢true, none-some, same_Some, Map, get, has_key, update, without}
+use Rattle.zl_rights.proofs.Common.{◌≡◌, ℕ, Bool, true, false, ◌||◌, ◌==◌, [], ◌∷◌, refl, sym, ap, ◌∙◌, Option, Some, None, inl, inr, IsTrue, if◌then◌else◌, is_some, list_any, option_map, nat_cmp, is_sorted, cases_Bool, eqb-true, false≢true, or_left, or_right, none-some, same_Some, Map, get, has_key, update, without}
+use Rattle.std.proofs.lemmas.Bool.{or_cases}
 use Rattle.zl_rights.proofs.MapLaws.{get-update}
 use Rattle.zl_table.proofs.MapEdits.{get-without, sorted_parts, without_lower}
 use Rattle.zl_objects.specs.declared.object.Body.{Body}
@@ -90,6 +91,26 @@ module _ (m : Map Object) (sorted : IsTrue (is_sorted nat_cmp m)) (k : ℕ) (o :
 
 -- ---- jobs and bodies
 
+module _ (m n : Map Object) where
+  -- the same jobs
+  pub same_in_job : ((j : ℕ) → is_job_at n j ≡ is_job_at m j) → (b : Body) → is_in_job n b ≡ is_in_job m b
+  same_in_job same b = above (keeper_of b)
+    where
+      above : (q : Option ℕ) → is_above n q ≡ is_above m q
+      above None = refl
+      above (Some job) = ap (λ j. (job == 0) || j) (same job)
+
+  -- more jobs
+  pub more_in_job : ((j : ℕ) → IsTrue (is_job_at m j) → IsTrue (is_job_at n j)) → (b : Body) → IsTrue (is_in_job m b) → IsTrue (is_in_job n b)
+  more_in_job more b = above (keeper_of b)
+    where
+      above : (q : Option ℕ) → IsTrue (is_above m q) → IsTrue (is_above n q)
+      above None h = refl
+      above (Some job) h = elim (or_cases (job == 0) (is_job_at m job) h) as (λ _. IsTrue (is_above n (Some job))) [
+        | inl none ↦ or_left (job == 0) _ none
+        | inr there ↦ or_right (job == 0) _ (more job there)
+      ]
+
 module _ (f : Object → Object) (same : (o : Object) → (f o).body ≡ o.body) where
   pub changed_body : (m : Map Object) (k j : ℕ) (q : Object) → (c : Changed f m k j q) → q.body ≡ c.before.body
   changed_body m k j q c = ap (λ (x : Object). x.body) c.is ∙ elim (k == j) as (λ b. (if b then f c.before else c.before).body ≡ c.before.body) [ true ↦ same c.before | false ↦ refl ]
@@ -105,8 +126,4 @@ module _ (f : Object → Object) (same : (o : Object) → (f o).body ≡ o.body)
       by_object (Some o) = rw (same o) refl
 
   pub in_job_updated : (m : Map Object) (k : ℕ) (b : Body) → is_in_job (update m k f) b ≡ is_in_job m b
-  in_job_updated m k b = above (keeper_of b)
-    where
-      above : (q : Option ℕ) → is_above (update m k f) q ≡ is_above m q
-      above None = refl
-      above (Some job) = ap (λ j. (job == 0) || j) (job_updated m k job)
+  in_job_updated m k b = same_in_job m (update m k f) (job_updated m k) b

@@ -310,7 +310,7 @@ module _ (w : World) (ks : List ℕ) (m : Map Object) (exact : IsExact w ks m) w
         found : IsTrue (living_child (with_objects w m) (has_key (map object_entry m)) k) → ⊥
         found some =
             let f : Found (λ e. test (object_entry e)) m = any_found (λ e. test (object_entry e)) m exact.in_order (sym (any_seen test m) ∙ some) in
-            no_living f.key f.value f.at (sym (seen_child w k f.key f.value.body (exact.agrees f.key f.value f.at)) ∙ (and_parts (has_key (map object_entry m) f.key) _ f.passes).1)
+            no_living f.key f.value f.at (sym (seen_child w k f.key f.value.body (exact.agrees f.key f.value f.at)) ∙ (and_parts (has_key (map object_entry m) f.key) (is_job_below k (body_value f.value.body) || (is_process_of k (body_value f.value.body) && is_process w lives f.key)) f.passes).1)
 
     not_held : is_held (with_objects w m) (has_key (map object_entry m)) k ≡ false
     unfolding is_held is_process

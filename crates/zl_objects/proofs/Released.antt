@@ -1,6 +1,5 @@
 -- What is left of the objects once handles have gone: each as it was, and the invariant holds.
 use Rattle.zl_rights.proofs.Common.{◌≡◌, ◌<◌, ◌≤◌, ℕ, true, false, sym, ◌||◌, ◌==◌, ◌⊎◌, List, [], ◌∷◌, ◌++◌, length, if◌then◌else◌, refl, ap, ◌∙◌, subst, Option, Some, None, inl, inr, IsTrue, arith, cond, count_by, nat_tests, is_some, list_any, append-nil, append_assoc, same_Some, or_left, or_right, cases_Bool, false≢true, Map, get, has_key, update, without}
-use Rattle.std.proofs.lemmas.Bool.{or_cases}
 use Rattle.std.proofs.lemmas.List.Sums.{count_by-le-length}
 use Rattle.zl_rights.specs.World.{Wait}
 use Rattle.zl_table.proofs.MapEdits.{is_sorted-update, length-update}

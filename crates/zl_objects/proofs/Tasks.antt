@@ -1,5 +1,5 @@
 -- The invariant of the objects, once jobs and processes were started, killed or given a policy.
-use Rattle.zl_rights.proofs.Common.{◌≡◌, ◌<◌, ◌≤◌, ℕ, Bool, true, false, List, [], ◌∷◌, length, refl, sym, ap, ◌∙◌, subst, suc, Option, Some, None, arith, IsTrue, is_some, if◌then◌else◌, nat_cmp, none-some, same_Some, Map, each, get, update, has_key, option_map, sum_by-cons}
+use Rattle.zl_rights.proofs.Common.{◌≡◌, ℕ, Bool, true, false, List, [], ◌∷◌, length, refl, sym, ap, ◌∙◌, subst, suc, Option, Some, None, arith, is_some, nat_cmp, none-some, same_Some, Map, each, get, update, has_key, option_map, sum_by-cons}
 use Rattle.std.specs.Prelude.{Result, Ok, Err, OnOk, OnErr}
 use Rattle.std.specs.Map.{lookup, set_value}
 use Rattle.std.specs.BTreeMap.{is_at}
@@ -7,12 +7,11 @@ use Rattle.zl_rights.specs.World.{Wait as WaitValue}
 use Rattle.zl_rights.specs.declared.policy.Action.{Action}
 use Rattle.zl_rights.specs.declared.policy.Condition.{Condition}
 use Rattle.zl_rights.proofs.MapLaws.{get-each}
-use Rattle.zl_signals.specs.declared.watch.Watch.{Watch}
 use Rattle.zl_objects.specs.declared.object.Body.{Body}
 use Rattle.zl_objects.specs.declared.object.Body.TheVariants as body
 use Rattle.zl_objects.specs.declared.object.Object.{Object}
 use Rattle.zl_objects.specs.Dying.{HasPeer, IsKept, IsWhole}
-use Rattle.zl_objects.specs.Jobs.{all_killed, is_within, killed, killed_body, killed_if, with_policy_body, with_policy_set}
+use Rattle.zl_objects.specs.Jobs.{all_killed, is_within, killed_body, killed_if, with_policy_body, with_policy_set}
 use Rattle.zl_objects.specs.Objects.{is_end_at, is_end_body, is_end_in, started, started_body}
 use Rattle.zl_objects.specs.Ports.{reserved_in, reserved_of}
 use Rattle.zl_objects.specs.Waits.{HavePlaces, waits_at, waits_for, waits_in}

@@ -1,13 +1,13 @@
 -- Going through the objects by koid.
 use Rattle.zl_rights.proofs.Common.{◌≡◌, ◌<◌, ◌≤◌, ◌+◌, ◌==◌, ◌||◌, ℕ, Bool, true, false, List, [], ◌∷◌, refl, sym, ap, ◌∙◌, subst, Option, Some, None, inl, inr, arith, eq-eqb, eqb-true, IsTrue, is_some, if◌then◌else◌, cases_Bool, false≢true, true≢false, nat_tests, nat_cmp, nat_lt, Map, get, each, update, has_key, option_map}
-use Rattle.std.specs.Cmp.{nat_cmp_is, unsigned_tied}
-use Rattle.std.specs.Ordering.{is_gt, is_lt}
+use Rattle.std.specs.Cmp.{unsigned_tied}
+use Rattle.std.specs.Ordering.{is_gt}
 use Rattle.std.specs.List.{AllByRecursion}
 use Rattle.std.specs.List.Sorted.{IsStrictlySortedBy}
 use Rattle.std.specs.Map.{keys_of}
 use Rattle.std.specs.BTreeMap.{BTreeMap}
 use Rattle.std.specs.BTreeMap.Range.{IsRangeOf}
-use Rattle.std.specs.declared.cmp.Ordering.TheVariants.{Less, Greater}
+use Rattle.std.specs.declared.cmp.Ordering.TheVariants.{Less}
 use Rattle.std.specs.declared.ops.Bound.TheVariants.{Included, Unbounded}
 use Rattle.zl_rights.proofs.MapLaws.{get-each}
 use Rattle.zl_objects.specs.declared.object.Object.{Object}

@@ -1,5 +1,5 @@
 -- A worked world that the objects fit: handles in a table and in a queue, and one that has gone and still counts.
-use Rattle.zl_rights.proofs.Common.{◌≡◌, ◌+◌, ◌<◌, ℕ, true, false, ◌==◌, ◌⊎◌, [], ◌∷◌, refl, sym, subst, None, Some, inl, inr, IsTrue, arith, count_by, cases_Bool, eqb-true, false≢true, nat_tests, same_Some, none-some, Map, get, has_key, World, Process, Created, Ready, is_process}
+use Rattle.zl_rights.proofs.Common.{◌≡◌, ◌+◌, ◌<◌, ℕ, false, ◌==◌, ◌⊎◌, [], ◌∷◌, refl, sym, subst, None, Some, inl, inr, IsTrue, arith, count_by, cases_Bool, eqb-true, false≢true, nat_tests, same_Some, none-some, Map, get, has_key, World, Process, Created, Ready, is_process}
 use Rattle.zl_rights.specs.declared.entry.Entry.{Entry}
 use Rattle.zl_rights.specs.declared.kind.Kind.TheVariants as kind
 use Rattle.zl_rights.specs.Counts.{handles_to}

@@ -1,6 +1,6 @@
--- Going through the objects by koid, and leaving what something keeps. No public clause cites this module.
+-- Going through the objects by koid. No public clause cites this module.
 use Rattle.std.specs.Prelude.{ℕ, ◌≡◌, ◌≤◌, IsTrue, false, Option, Some, None}
-use Rattle.zl_rights.specs.Map.{Map, get, has_key}
+use Rattle.zl_rights.specs.Map.{Map, has_key}
 use Rattle.zl_objects.specs.declared.object.Object.{Object}
 
 -- k is the least koid from this one on

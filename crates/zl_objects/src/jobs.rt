@@ -220,8 +220,8 @@ impl Objects {
         }
     }
 
-    /// What the policy of the job decides for the condition: `Allow` where nothing is set, and where
-    /// it is no job.
+    /// What the policy of the job decides for the condition: `Allow` where nothing is set, and
+    /// where it is no job.
     ///
     /// Source: the page "zx_job_set_policy" of the Fuchsia documentation.
     pub fn action(&self, job: Koid, condition: Condition) -> Action
@@ -259,8 +259,8 @@ impl Objects {
 
     /// A new job in the job, with the policy of that, to be given to `create`.
     ///
-    /// `OutOfRange` where the job stands at the depth `Job::MOST_DEPTH`, then `BadState` where it was
-    /// killed or isn't there.
+    /// `OutOfRange` where the job stands at the depth `Job::MOST_DEPTH`, then `BadState` where it
+    /// was killed or isn't there.
     /// Source: the page "zx_job_create" of the Fuchsia documentation.
     pub fn job_below(&self, job: Koid) -> Result<Job, JobFault>
         ensures { result ≡ new_in job (job_at self.now.objects job) }
@@ -283,7 +283,8 @@ impl Objects {
         action: Action,
         mode: Mode,
     ) -> Result<(), Status>
-        ensures answer { result ≡ policy_answer (job_at self.old.objects job) condition action mode }
+        ensures answer { result
+            ≡ policy_answer (job_at self.old.objects job) condition action mode }
         ensures ok { OnOk result (self.new ≡ setting_policy self.old job condition action) }
         ensures unchanged { OnErr result (self.new ≡ self.old) }
     {

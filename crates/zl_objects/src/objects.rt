@@ -342,13 +342,14 @@ impl Objects {
         }
     }
 
-    /// The job is killed, and each job below it, and the processes below it are over; or the process
-    /// is over, if it is one. What isn't held any more goes, with the waits as in `release`. It takes
-    /// no memory. The handles of the processes are to be closed by `release`.
+    /// The job is killed, and each job below it, and the processes below it are over; or the
+    /// process is over, if it is one. What isn't held any more goes, with the waits as in `release`.
+    /// It takes no memory. The handles of the processes are to be closed by `release`.
     ///
     /// Source: the page "zx_task_kill" of the Fuchsia documentation.
     pub fn kill(&mut self, task: Koid)
-        ensures releases { Releases [] (all_koids self.old.objects) (killing self.old task) self.new }
+        ensures releases { Releases [] (all_koids self.old.objects)
+            (killing self.old task) self.new }
         ensures largest { LeavesLargest [] (all_koids self.old.objects)
             (killing self.old task) self.new }
         ensures waits { LeavesWaits (killing self.old task) self.new }

@@ -178,7 +178,8 @@ fn note_keeper(dying: &mut Vec<Koid>, keeper: Option<Koid>)
 /// The object that was noted goes with its queue and its waits, unless something keeps it, and the
 /// job of which it was a living child is noted.
 fn remove_noted(by_koid: &mut BTreeMap<Koid, Object>, dying: &mut Vec<Koid>, koid: Koid)
-    requires fits { budget by_koid.old.entries (dying.old.items ++ koid ∷ []) ≤ vec_capacity dying.old }
+    requires fits { budget by_koid.old.entries (dying.old.items ++ koid ∷ [])
+        ≤ vec_capacity dying.old }
     ensures goes { LetsGo [] by_koid.old.entries (dying.old.items ++ koid ∷ [])
         by_koid.new.entries dying.new.items }
     ensures less { budget by_koid.new.entries dying.new.items + length by_koid.new.entries

@@ -15,8 +15,9 @@ impl Objects {
     /// The signals that are active at the object, none where it isn't there. It takes no memory.
     ///
     /// An end of a channel is readable while its queue isn't empty, writable while its peer is an
-    /// object, and else its peer is closed. A process is terminated once it has ended, and a job once
-    /// it was killed. A job has no jobs while none directly in it lives, and no processes likewise.
+    /// object, and else its peer is closed. A process is terminated once it has ended, and a job
+    /// once it was killed. A job has no jobs while none directly in it lives, and no processes
+    /// likewise.
     /// Source: the page "Signals" of the Fuchsia documentation.
     pub fn signals_of(&self, koid: Koid) -> Signals
         ensures signals { result.0 ≡ signals_at self.now.objects koid }

@@ -1,4 +1,4 @@
-use Rattle.zl_rights.proofs.Common.{arith, ◌≡◌, ◌++◌, [], ℕ, Option, ap, sym, subst, ◌∙◌, without, None, refl}
+use Rattle.zl_rights.proofs.Common.{arith, ◌≡◌, ◌++◌, [], ℕ, Option, ap, sym, subst, ◌∙◌, without, None}
 use Rattle.std.specs.Option.{option_to_list}
 use Rattle.std.specs.Vec.{vec_capacity}
 use Rattle.zl_objects.specs.Objects.{keeper_in, keeper_of, queue_of}

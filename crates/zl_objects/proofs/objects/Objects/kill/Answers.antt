@@ -1,10 +1,10 @@
-use Rattle.zl_rights.proofs.Common.{◌≡◌, ◌∙◌, ℕ, List, [], Some, Map, ap, get, map, refl, subst, sym}
+use Rattle.zl_rights.proofs.Common.{◌≡◌, ◌∙◌, ℕ, List, [], Some, Map, ap, get, map, refl, subst}
 use Rattle.std.specs.Vec.{vec_capacity}
 use Rattle.zl_objects.specs.declared.object.Object.{Object}
 use Rattle.zl_objects.specs.Listed.{wait_value}
 use Rattle.zl_objects.specs.Jobs.{killing}
 use Rattle.zl_objects.specs.Objects.{Objects}
-use Rattle.zl_objects.specs.Release.{Cascades, Releases, all_koids}
+use Rattle.zl_objects.specs.Release.{Releases, all_koids}
 use Rattle.zl_objects.specs.Waits.{KeepsWaits}
 use Rattle.zl_objects.proofs.Kept.{left_kept}
 use Rattle.zl_objects.proofs.Law.{leaves_largest}

@@ -1,10 +1,7 @@
-use Rattle.std.proofs.Common.{rules, refl, ◌≡◌, Some, vec_capacity}
+use Rattle.std.proofs.Common.{rules, ◌≡◌, Some, vec_capacity}
 use Rattle.std.specs.BTreeMap.{is_at}
 use Rattle.std.specs.Map.{lookup, set_value}
 use Rattle.std.specs.Ordering.{nat_cmp}
-use Rattle.zl_objects.specs.Jobs.{with_policy_set}
-use Rattle.zl_objects.proofs.ByKoid.{written}
-use Rattle.zl_objects.proofs.Refusable.{when_ok}
 use Rattle.zl_objects.proofs.Tasks.{policy_or_same_kept}
 use Rattle.zl_objects.proofs.objects.Objects.set_policy.Goals as goal
 

@@ -13,7 +13,7 @@ pub use Rattle.zl_objects.specs.Seen.{Agrees, IsExact, body_value, is_in_job, ob
 pub use Rattle.zl_calls.specs.World.{IsPlaceOf, call_for, call_in, is_ready_in, process_entry, process_value, state_value, world_blocked, world_value}
 pub use Rattle.zl_calls.specs.Acting.{DoesNext, IsActed}
 pub use Rattle.zl_calls.specs.Blocked.{AreBlocked, IsWhole}
-pub use Rattle.zl_calls.specs.calls.Answer.{unbuilt, Action, Does, IsAnswered, IsRefusedBy, Replies, answers, exits, has_room_in, no_value, one_value, status_of, told_by, values_of}
+pub use Rattle.zl_calls.specs.calls.Answer.{reaches, Action, Does, IsAnswered, IsRefusedBy, Replies, answers, exits, has_room_in, no_value, one_value, status_of, told_by, values_of}
 pub use Rattle.zl_code.specs.Effects.{may_get_all, new_entry, object_changed, signed_word, with_process}
 unfoldable pub use Rattle.zl_code.specs.Effects.{on_object}
 pub use Rattle.zl_code.specs.Tests.{faults, koid_in, may_change, parent_of, policy_in, settable_of}

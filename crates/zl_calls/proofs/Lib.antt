@@ -65,3 +65,4 @@ pub mod BootLab
 pub mod BootRun
 pub mod BootBlocked
 pub mod Policies
+pub mod Examining

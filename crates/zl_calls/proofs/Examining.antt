@@ -21,8 +21,8 @@ last_fault f None same = same
 last_fault f (Some s) same = same
 
 -- the operand of a close has this fault, where its value isn't 0
-pub closed : (entries : Map Entry) (h : ℕ) (f g : Option Status) → (h ≡ 0 → ⊥) → f ≡ g → f ≡ option_or (if h == 0 then None else g) None
-closed entries h f g not_zero same = rw (ne_eqb h 0 not_zero) (last_fault f g same)
+pub closed : (h : ℕ) (f g : Option Status) → (h ≡ 0 → ⊥) → f ≡ g → f ≡ option_or (if h == 0 then None else g) None
+closed h f g not_zero same = rw (ne_eqb h 0 not_zero) (last_fault f g same)
 
 -- a site that may not be there
 pub if_there : (there : Bool) (s : Site) (P : Site → Type 0) → P s → IfSome (then_some there s) P
@@ -55,3 +55,12 @@ module _ (entries : Map Entry) where
 
       more : (v : ℕ) → contains (h ∷ seen) v ≡ contains (before ++ h ∷ []) v
       more v = ap (λ b. (h == v) || b) (same v) ∙ (swapped (h == v) (contains before v) ∙ sym (list_any-append (λ y. y == v) before (h ∷ [])))
+
+  -- what the code found in the list
+  pub list_examined : {A : Type 0} (answer : Result A Status) (values hs : List ℕ) → fault_of answer ≡ list_refusal entries [] values → values ≡ hs → result_err answer ≡ operands_fault entries [] (list_of hs)
+  list_examined answer values hs found same =
+      by_answer answer ∙ (found ∙ (ap (λ (vs : List ℕ). list_refusal entries [] vs) same ∙ list_fault [] [] hs (λ v. refl)))
+    where
+      by_answer : {A : Type 0} (x : Result A Status) → result_err x ≡ fault_of x
+      by_answer (Ok x) = refl
+      by_answer (Err s) = refl

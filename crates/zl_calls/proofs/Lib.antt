@@ -66,3 +66,4 @@ pub mod BootRun
 pub mod BootBlocked
 pub mod Policies
 pub mod Examining
+pub mod Verdicts

@@ -146,13 +146,17 @@ abbrev decides_in : Map Object → Option ℕ → Condition → Action
 decides_in objects None c = action.Allow
 decides_in objects (Some job) c = job_action (job_at objects job) c
 
+-- where everything is allowed, there is no verdict
+pub verdict_allowed : (f : Option Status) (c : Option Condition) → verdict_by (λ _. action.Allow) f c ≡ None
+verdict_allowed None None = refl
+verdict_allowed None (Some c) = refl
+verdict_allowed (Some status.BadHandle) c = refl
+verdict_allowed (Some status.WrongType) c = refl
+verdict_allowed (Some _) c = refl
+
 verdict_decided : (objects : Map Object) (job : Option ℕ) (f : Option Status) (c : Option Condition) → verdict_by (decides_in objects job) f c ≡ verdict_in objects job f c
 verdict_decided objects (Some job) f c = refl
-verdict_decided objects None None None = refl
-verdict_decided objects None None (Some c) = refl
-verdict_decided objects None (Some status.BadHandle) c = refl
-verdict_decided objects None (Some status.WrongType) c = refl
-verdict_decided objects None (Some _) c = refl
+verdict_decided objects None f c = verdict_allowed f c
 
 -- the action of an object that was found
 seen_action : (o : Option Object) (c : Condition) → unwrap_or (get (policy_in (body_in (option_map object_value o))) (condition_number c)) action.Allow ≡ job_action (as_job_in o) c

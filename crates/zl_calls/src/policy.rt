@@ -157,7 +157,7 @@ fn deny(process: &mut Process, call: &CallInstr) -> Option<Outcome>
 
 /// Examines the handle operands of the call from left to right, and gives the fault of the first that
 /// has one. A handle that stands in a list twice isn't live any more at the second place.
-#[tactic(auto, unfolding(zl_code::specs::Request::site_of, zl_code::specs::Instructions::row_of, zl_code::specs::Spells::call_parts, zl_code::specs::Refusals::handle_operands, zl_calls::specs::Policed::operands_fault))]
+#[tactic(auto, unfolding(zl_code::specs::Request::site_of, zl_code::specs::Instructions::row_of, zl_code::specs::Spells::call_parts, zl_code::specs::Refusals::handle_operands, crate::specs::Policed::operands_fault))]
 fn examine(table: &Table, cpu: &Cpu, call: CallInstr) -> Result<(), Status>
     ensures { IfSome (site_of call cpu.now) (λ s. result_err result
         ≡ operands_fault table.now.entries [] (handle_operands s.request)) }

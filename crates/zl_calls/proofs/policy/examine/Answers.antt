@@ -1,6 +1,7 @@
 -- The fault of each call's handle operands.
-use Rattle.zl_calls.proofs.Common.{rules, call_parts, handle_operands, row_of, site_of, ◌∙◌, sym, refl}
-use Rattle.zl_calls.proofs.Examining.{closed, if_there, last_fault, list_fault}
+use Rattle.zl_calls.proofs.Common.{rules, ◌≡◌, [], call_parts, handle_operands, row_of, site_of, ◌∙◌, refl}
+use Rattle.std.specs.Result.{result_err}
+use Rattle.zl_calls.proofs.Examining.{closed, if_there, last_fault, list_examined}
 use Rattle.zl_calls.proofs.Policies.{refused_by}
 use Rattle.zl_calls.specs.Policed.{operands_fault}
 use Rattle.zl_calls.proofs.policy.examine.Goals as goal
@@ -87,16 +88,16 @@ returns-then-register-eq0 c = rw (c.in-Close.is, ← c.register.ensures, c.if-re
 
 pub returns-else-register-eq0 : goal.returns-else-register-eq0
 unfolding site_of row_of call_parts handle_operands operands_fault
-returns-else-register-eq0 c = rw c.in-Close.is (closed _ _ _ _ (λ zero. c.if-register-eq0.false (c.register.ensures ∙ zero)) (rw (c.empty.ensures tt) at c.find.ensures))
+returns-else-register-eq0 c = rw c.in-Close.is (closed _ _ _ (λ zero. c.if-register-eq0.false (c.register.ensures ∙ zero)) (rw (c.empty.ensures tt) at c.find.ensures))
 
 pub returns-in_err-find-in-ChanWrite : goal.returns-in_err-find-in-ChanWrite
 unfolding site_of row_of call_parts handle_operands operands_fault
-returns-in_err-find-in-ChanWrite c = ?
+returns-in_err-find-in-ChanWrite c = rw c.in-ChanWrite.is (if_there _ _ (λ s. result_err c.from_residual.result ≡ operands_fault c.args.table.now.entries [] (handle_operands s.request)) (rw (← c.in_err-find-in-ChanWrite.ensures {u = tt}) (search rules)))
 
 pub returns-in_ok-find-in-ChanWrite : goal.returns-in_ok-find-in-ChanWrite
 unfolding site_of row_of call_parts handle_operands operands_fault
-returns-in_ok-find-in-ChanWrite c = ?
+returns-in_ok-find-in-ChanWrite c = rw c.in-ChanWrite.is (if_there _ _ (λ s. result_err c.examine_list.result ≡ operands_fault c.args.table.now.entries [] (handle_operands s.request)) (rw (← c.in_ok-find-in-ChanWrite.ensures {u = tt}) (list_examined c.args.table.now.entries c.examine_list.result _ _ c.examine_list.ensures c.listed-count.ensures.values)))
 
 pub returns-in-ChanReadEtc : goal.returns-in-ChanReadEtc
 unfolding site_of row_of call_parts handle_operands operands_fault
-returns-in-ChanReadEtc c = ?
+returns-in-ChanReadEtc c = rw c.in-ChanReadEtc.is (if_there _ _ (λ s. result_err c.find-in-ChanReadEtc.result ≡ operands_fault c.args.table.now.entries [] (handle_operands s.request)) (last_fault _ _ c.find-in-ChanReadEtc.ensures))

@@ -67,3 +67,5 @@ pub mod BootBlocked
 pub mod Policies
 pub mod Examining
 pub mod Verdicts
+pub mod Plain
+pub mod Denials

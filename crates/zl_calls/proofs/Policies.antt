@@ -59,14 +59,14 @@ pub record IsSeen (w : World) (p : ℕ) (entries : Map Entry) (objects : Map Obj
 -- ---- faults and objects, where conditions are decided so
 
 -- a fault of a handle operand, or the end of the caller for it
-abbrev by_fault : (Condition → Action) → Option Status → Option Outcome
+abbrev pub by_fault : (Condition → Action) → Option Status → Option Outcome
 by_fault decides None = None
 by_fault decides (Some status.BadHandle) = Some (ends_if_kill (decides condition.BadHandle) (outcome.Answered status.BadHandle))
 by_fault decides (Some status.WrongType) = Some (ends_if_kill (decides condition.WrongObject) (outcome.Answered status.WrongType))
 by_fault decides (Some s) = Some (outcome.Answered s)
 
 -- how a call ends for making an object, if it does
-abbrev by_making : (Condition → Action) → Option Condition → Option Outcome
+abbrev pub by_making : (Condition → Action) → Option Condition → Option Outcome
 by_making decides None = None
 by_making decides (Some c) = unless_allowed (decides c)
 
@@ -81,7 +81,7 @@ first_fault decides (Some status.WrongType) g = refl
 first_fault decides (Some _) g = refl
 
 -- a verdict, or what is left of the refusal
-by_verdict : (decides : Condition → Action) (f : Option Status) (c : Option Condition) (rest : List (Option Outcome))
+pub by_verdict : (decides : Condition → Action) (f : Option Status) (c : Option Condition) (rest : List (Option Outcome))
     → first_some (by_fault decides f ∷ by_making decides c ∷ rest) ≡ option_or (option_map ending (verdict_by decides f c)) (first_some (answers f ∷ rest))
 by_verdict decides None None rest = refl
 by_verdict decides None (Some c) rest = by_action (decides c)
@@ -108,7 +108,7 @@ by_verdict decides (Some _) c rest = refl
 
 module _ (w : World) (p : ℕ) where
   -- the policy of the process's job, as the definitions see it
-  abbrev decides : Condition → Action
+  abbrev pub decides : Condition → Action
   decides c = action_of w (parent_of w p) c
 
   look_up_fault : (x : Result Entry Status) → by_look_up w p x ≡ by_fault decides (result_err x)
@@ -127,14 +127,14 @@ module _ (w : World) (p : ℕ) where
       by_tests false true = refl
       by_tests false false = look_up_fault (granted (entry_at w p o.value) o.kinds o.needed)
 
-  examined_fault : (seen : List ℕ) (os : List Operand) → examined w p seen os ≡ by_fault decides (operands_fault (table_of w p) seen os)
+  pub examined_fault : (seen : List ℕ) (os : List Operand) → examined w p seen os ≡ by_fault decides (operands_fault (table_of w p) seen os)
   unfolding examined operands_fault
   examined_fault seen [] = refl
   examined_fault seen (o ∷ os) =
       (λ i. first_some (operand_fault seen o i ∷ examined_fault (seen_after seen o) os i ∷ []))
       ∙ first_fault decides (fault_after (table_of w p) seen o) (operands_fault (table_of w p) (seen_after seen o) os)
 
-  policy_making : (c : Option Condition) → by_policy w p c ≡ by_making decides c
+  pub policy_making : (c : Option Condition) → by_policy w p c ≡ by_making decides c
   unfolding creates
   policy_making None = refl
   policy_making (Some c) = refl

@@ -1,5 +1,5 @@
 -- What a process does beside registered waits and blocked processes: those waits are left whose handle, object and port are.
-use Rattle.zl_calls.proofs.Common.{◌≡◌, ℕ, suc, Bool, true, false, ◌&&◌, List, [], ◌∷◌, map, refl, sym, ap, ◌∙◌, subst, Option, Some, None, inl, inr, IsTrue, arith, cases_Bool, false≢true, none-some, same_Some, is_some, if◌then◌else◌, All, and_from, and_parts, entry_at, get, has_key, state_passes, AtCall, Calls, Library, Ready, Settles, Site, next_for, Objects, process_entry, object_entry, world_blocked, world_value, IsActed, AreBlocked}
+use Rattle.zl_calls.proofs.Common.{◌≡◌, ℕ, suc, Bool, true, false, ◌&&◌, List, [], ◌∷◌, map, refl, sym, ap, ◌∙◌, subst, Option, Some, None, inl, inr, IsTrue, arith, cases_Bool, false≢true, none-some, same_Some, is_some, if◌then◌else◌, All, and_from, and_parts, entry_at, get, has_key, state_passes, AtCall, Library, Ready, Settles, Site, next_for, Objects, process_entry, object_entry, world_blocked, world_value, IsActed, AreBlocked}
 use Rattle.std.specs.List.{filter}
 use Rattle.std.specs.Prelude.{slice_index_or}
 use Rattle.std.proofs.lemmas.List.Elements.{filter_passes}
@@ -7,6 +7,7 @@ use Rattle.zl_rights.specs.Settle.{is_made_by_handle}
 use Rattle.zl_rights.specs.World.{Wait, World}
 use Rattle.zl_rights.specs.declared.entry.Entry.{Entry}
 use Rattle.zl_code.proofs.Common.{Process as ProcessValue, is_blocked, pid_of, names_its_object, IsSound as IsSoundWorld}
+use Rattle.zl_code.specs.Calls.{Calls}
 use Rattle.zl_code.specs.Sound.{IsSoundWait}
 use Rattle.zl_code.specs.declared.history.CallName.{CallName}
 use Rattle.zl_code.specs.declared.history.Outcome.{Outcome}

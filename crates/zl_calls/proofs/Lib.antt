@@ -69,3 +69,8 @@ pub mod BootObjects
 pub mod BootLab
 pub mod BootRun
 pub mod BootBlocked
+pub mod Policies
+pub mod Examining
+pub mod Verdicts
+pub mod Plain
+pub mod Denials

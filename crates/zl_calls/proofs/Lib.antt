@@ -16,6 +16,7 @@ pub mod Ending
 pub mod Firing
 pub mod FiringWorlds
 pub mod KeptLists
+pub mod KillWorlds
 pub mod LeftWaits
 pub mod ListsKept
 pub mod Refused

@@ -1,3 +1,4 @@
+use Rattle.zl_calls.proofs.KillWorlds.{processes_killed, objects_killed}
 use Rattle.zl_calls.proofs.Common.{ℕ, List, ap, slice_set}
 use Rattle.std.specs.Vec.{with_item}
 use Rattle.zl_calls.proofs.Slots.{slot_written}

@@ -61,6 +61,7 @@ pub mod Woken
 pub mod WakeLoop
 pub mod Policies
 pub mod Freedom
+pub mod Idle
 pub mod CallStepsDue
 pub mod CallSteps
 pub mod StepItems

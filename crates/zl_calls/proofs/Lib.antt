@@ -27,6 +27,9 @@ pub mod Counting
 pub mod Counted
 pub mod SameBodies
 pub mod Settled
+pub mod Keeping
+pub mod StartParts
+pub mod KillParts
 pub mod Labs
 pub mod Active
 pub mod Written

@@ -11,6 +11,8 @@ pub mod Ending
 pub mod Turning
 pub mod Leading
 pub mod Bounding
+pub mod PassingOn
+pub mod LookingAhead
 pub mod Raising
 pub mod Owners
 pub mod Writing

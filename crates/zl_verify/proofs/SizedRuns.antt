@@ -67,7 +67,7 @@ library_sized (g ∷ lib) (range, ranges) (suc n) c h = library_sized lib ranges
 module _ (lib : Library) (images : AllByRecursion (λ g. IsTrue (is_in_range g.image)) lib) where
   act_sized : (w : World) (p : ℕ) (q : Process) → get w.processes p ≡ Some q → IsSound w → IsSized w → (n : Next) → IsSizedNext n → (x : TraceItem) (w2 : World) → Acts lib w p n x w2 → IsSized w2
   act_sized w p q there sound s (Moves c) fits x w2 a = rw a.1 (process_sized w p (λ (y : Process). record y { cpu = c }) (λ y k. fits) s)
-  act_sized w p q there sound s (AtCall call t) fits x w2 (o, e, c) = call_sized lib w p q there sound s t fits o w2 c
+  act_sized w p q there sound s (AtCall call t) fits x w2 (o, e, c) = call_sized lib w p sound s t fits o w2 c
   act_sized w p q there sound s IsStuck fits x w2 a = rw a.1 (ended_sized w p STUCK s)
 
   -- the world right after what the process does

@@ -1,6 +1,7 @@
 -- What the laws of starting and waking say.
 use Rattle.std.specs.Prelude.{ℕ, ◌≡◌, ◌≤◌, Bool, List, [], ◌∷◌, Option, Some, None, IsTrue, slice_get}
-use Rattle.zl_rights.specs.Common.{get, World, Process, Blocked}
+use Rattle.zl_rights.specs.Common.{get, World, Process, Blocked, Ended}
+use Rattle.zl_rights.specs.Numbers.{KILLED}
 use Rattle.zl_rights.specs.World.{Awaited}
 use Rattle.zl_rights.specs.declared.entry.Entry.{Entry}
 use Rattle.zl_rights.specs.declared.policy.Condition.{Condition}
@@ -36,6 +37,13 @@ pub data EndsStep (i : Image) (t : ℕ → Option State) (p : ℕ) (q : Process)
   stays : get w2.processes p ≡ Some q → Conforms i t w2 p q → EndsStep i t p q w2
   -- it waited, and stands ready at the end of a followed edge, where it conforms
   wakes : (awaited : Awaited) (destinations : List ℕ) → q.state ≡ Blocked awaited destinations → IsAnswered i t p q w2 → EndsStep i t p q w2
+
+-- What the step of another makes of the process p, which was q, till it ends with w2.
+pub data OthersLeave (i : Image) (t : ℕ → Option State) (p : ℕ) (q : Process) (w2 : World) : Type 0 where
+  -- it is as it was, or it is awake, and conforms
+  left_so : EndsStep i t p q w2 → OthersLeave i t p q w2
+  -- it was killed, and its handles closed
+  was_killed : get w2.processes p ≡ Some (record q { state = Ended KILLED; handles = []; last = None }) → OthersLeave i t p q w2
 
 -- ---- a start
 

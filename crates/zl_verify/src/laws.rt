@@ -22,36 +22,36 @@ ghost use Rattle.zl_abs.specs.Typing.{rule, IsTyping};
 ghost use Rattle.zl_verify.specs.Steps.{is_pause, IsStepBound, IsOver};
 ghost use Rattle.zl_verify.specs.Over.{IsOverByCount};
 ghost use Rattle.zl_verify.specs.Conforms.{Conforms};
-ghost use Rattle.zl_verify.specs.LocalLaws.{IsUnbuilt, GoesOn};
+ghost use Rattle.zl_verify.specs.LocalLaws.{GoesOn};
 ghost use Rattle.zl_verify.specs.CallLaws.{QueuesAreSized, StandsAtCall, is_fault};
-ghost use Rattle.zl_verify.specs.CallLaws.{IsAnswered, IsWaiting, IsOwnExit, CanCall};
+ghost use Rattle.zl_verify.specs.CallLaws.{IsAnswered, IsWaiting, IsOwnEnd, CanCall};
 ghost use Rattle.zl_verify.specs.RunLaws.{IsFineItem, IsUnderWay, HasEnded, KeepsBudget};
 ghost use Rattle.zl_verify.specs.SizedLaws.{IsSizedBoot, CpusAreSized};
 ghost use Rattle.zl_verify.specs.SizedLaws.{HoldsInRuns, HoldsInHistories};
 ghost use Rattle.zl_verify.specs.WakeLaws.{AreAsDeclared, IsProperStart};
-ghost use Rattle.zl_verify.specs.WakeLaws.{IsBooted, IsRunStep, EndsStep};
+ghost use Rattle.zl_verify.specs.WakeLaws.{IsBooted, IsRunStep, EndsStep, OthersLeave};
 
-/// In a world with sound handles, a process that is as a typing of its image says is never stuck, but
-/// at a call that isn't built yet: there the operands can be read and the memory is there. After a
-/// local instruction it stands at the end of a followed edge, and is there as the typing says. Own
-/// profile.
+/// In a world with sound handles, a process that is as a typing of its image says is never stuck.
+/// After a local instruction it stands at the end of a followed edge, and is there as the typing says.
+/// Own profile.
 pub fn local_step()
     ensures not_stuck { (i : Image) (t : ℕ → Option State) (w : World) (p : ℕ) (q : Process)
         → IsTrue (is_in_range i) → IsTyping i t → HandlesAreSound w
         → get w.processes p ≡ Some q → Conforms i t w p q
-        → next_at i q.cpu ≡ IsStuck → IsUnbuilt i q.cpu }
+        → next_at i q.cpu ≢ IsStuck }
     ensures goes_on { (i : Image) (t : ℕ → Option State) (w : World) (p : ℕ) (q : Process)
         → IsTrue (is_in_range i) → IsTyping i t → HandlesAreSound w
         → get w.processes p ≡ Some q → Conforms i t w p q
         → q.state ≡ Ready → (c : Cpu) → next_at i q.cpu ≡ Moves c → GoesOn i t w p q c }
 {}
 
-/// A process that is as a typing of its image says can ask for its call, but for one that isn't built.
-/// In a sound world in which what is queued fits who receives it, however the call then ends: no answer
-/// is BAD_HANDLE, WRONG_TYPE or ACCESS_DENIED, and behind an answer the process stands at the end of a
-/// followed edge, as the typing says there; where the call blocks, the process is as the typing says
-/// where it stands; and no policy ends it, as nothing does but its own `process_exit`. The world is that
-/// right after the call, before handles that nothing holds go and processes wake. Own profile.
+/// A process that is as a typing of its image says can ask for its call. In a sound world in which
+/// what is queued fits who receives it, however the call then ends: no answer is BAD_HANDLE, WRONG_TYPE
+/// or ACCESS_DENIED, and behind an answer the process stands at the end of a followed edge, as the
+/// typing says there; where the call blocks, the process is as the typing says where it stands; and no
+/// policy ends it, as nothing does but its own `process_exit`, or its own `task_kill` of itself or of a
+/// job above it. The world is that right after the call, before handles that nothing holds go and
+/// processes wake. Own profile.
 pub fn own_call()
     ensures can_call { (i : Image) (t : ℕ → Option State) (w : World) (p : ℕ) (q : Process)
         → IsTrue (is_in_range i) → IsTyping i t → HandlesAreSound w
@@ -71,7 +71,7 @@ pub fn own_call()
     ensures ends_itself { (i : Image) (t : ℕ → Option State) (w : World) (p : ℕ) (q : Process)
         (called : CallName) (s : Site) → StandsAtCall i t w p q called s
         → (lib : Library) (code : ℤ) (w2 : World)
-        → Calls lib w p s (outcome.Ended code) w2 → IsOwnExit called s code }
+        → Calls lib w p s (outcome.Ended code) w2 → IsOwnEnd w p called s code }
 {}
 
 /// In every world of a run from a boot world, and of a legal history from one, what is queued fits
@@ -110,26 +110,26 @@ pub fn start_and_wake()
 
 /// In each step of a run from a boot world, a process that runs and is as a typing of its image
 /// says is so after the step of another, whatever that does: it is as it was, or it waited, and
-/// stands ready at the end of a followed edge. Own profile.
+/// stands ready at the end of a followed edge. Or it was killed, and has ended. Own profile.
 pub fn steps_of_others()
     ensures { (i : Image) (t : ℕ → Option State)
         (lib : Library) (w : World) (p : ℕ) (x : TraceItem) (w2 : World)
         → IsTrue (is_in_range i) → IsTyping i t → IsRunStep lib w p x w2
         → (q : ℕ) (process : Process) → (p == q) ≡ false → get w.processes q ≡ Some process
-        → IsTrue (runs process.state) → Conforms i t w q process → EndsStep i t q process w2 }
+        → IsTrue (runs process.state) → Conforms i t w q process → OthersLeave i t q process w2 }
 {}
 
 /// In a run from a boot world, from where a process runs and is as a typing of its image says,
 /// whatever it and others do: none of its calls is answered BAD_HANDLE, WRONG_TYPE or
-/// ACCESS_DENIED, no call ends it but its own `process_exit`, so that no policy does, and it is
-/// stuck only at a call that isn't built. In each world that follows it runs, and is as the typing
-/// says, or has ended. Own profile.
+/// ACCESS_DENIED, no call of its own ends it but `process_exit` and `task_kill` of itself or of a job
+/// above it, so that no policy does, and it is never stuck. In each world that follows it runs, and is
+/// as the typing says, or has ended, as it also does where another kills it. Own profile.
 pub fn never_refused()
     ensures fine { (i : Image) (t : ℕ → Option State) → IsTrue (is_in_range i) → IsTyping i t
         → (lib : Library) (statements : List Statement) (boot w after : World)
         (items more : List TraceItem) (p : ℕ)
         → IsSizedBoot lib statements boot → Runs lib boot items w → IsUnderWay lib i t w p
-        → Runs lib w more after → AllByRecursion (IsFineItem i p) more }
+        → Runs lib w more after → AllByRecursion (IsFineItem p) more }
     ensures stays { (i : Image) (t : ℕ → Option State) → IsTrue (is_in_range i) → IsTyping i t
         → (lib : Library) (statements : List Statement) (boot w after : World)
         (items more : List TraceItem) (p : ℕ)

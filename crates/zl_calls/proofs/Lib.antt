@@ -72,3 +72,4 @@ pub mod Examining
 pub mod Verdicts
 pub mod Plain
 pub mod Denials
+pub mod Policing

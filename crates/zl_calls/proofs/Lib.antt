@@ -59,6 +59,8 @@ pub mod Performed
 pub mod Performing
 pub mod Woken
 pub mod WakeLoop
+pub mod CallStepsDue
+pub mod CallSteps
 pub mod StepItems
 pub mod BootGiving
 pub mod BootFaults

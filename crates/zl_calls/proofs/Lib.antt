@@ -72,6 +72,6 @@ pub mod BootBlocked
 pub mod Policies
 pub mod Examining
 pub mod Verdicts
-pub mod Plain
 pub mod Denials
 pub mod Policing
+pub mod PolicedSteps

@@ -52,7 +52,7 @@ module _ (before : List Process) (r : Objects) (lab : IsConsistent before r) (p 
       by_object None is = refl
       by_object (Some o) is = by_body o.body (lab.agrees p.pid o is)
 
-  none_at_zero : get r.objects 0 ≡ None
+  pub none_at_zero : get r.objects 0 ≡ None
   none_at_zero = by_object (get r.objects 0) refl
     where
       by_object : (o : Option Object) → get r.objects 0 ≡ o → get r.objects 0 ≡ None

@@ -14,8 +14,7 @@ use Rattle.zl_calls.specs.declared.process.Process.{Process}
 use Rattle.zl_calls.proofs.Answered.{IsWrite}
 use Rattle.zl_calls.proofs.Labs.{IsFree}
 use Rattle.zl_calls.proofs.Performing.{HasLeft, alone_so}
-use Rattle.zl_calls.proofs.CallStepsDue.{reaches_so}
-use Rattle.zl_calls.proofs.PolicedSteps.{is_free, policed_so}
+use Rattle.zl_calls.proofs.CallStepsDue.{policed_so, reaches_so, is_free}
 
 -- the process p stands at the place, under the pid, and is at the call
 module _ (lib : Library) (ps : List Process) (r : Objects) (whole : IsConsistent ps r) (blocked : List ℕ) (are : AreBlocked ps blocked) (sound : IsSoundWorld (world_blocked ps r blocked)) (pid place : ℕ) (p : Process)

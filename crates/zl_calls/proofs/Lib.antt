@@ -59,6 +59,8 @@ pub mod Performed
 pub mod Performing
 pub mod Woken
 pub mod WakeLoop
+pub mod Policies
+pub mod Freedom
 pub mod CallStepsDue
 pub mod CallSteps
 pub mod StepItems
@@ -69,7 +71,6 @@ pub mod BootObjects
 pub mod BootLab
 pub mod BootRun
 pub mod BootBlocked
-pub mod Policies
 pub mod Examining
 pub mod Verdicts
 pub mod Denials

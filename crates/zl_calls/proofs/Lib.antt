@@ -78,3 +78,5 @@ pub mod BootBlocked
 pub mod Examining
 pub mod Verdicts
 pub mod Denials
+pub mod Policing
+pub mod PolicedSteps

@@ -1,7 +1,7 @@
 //! The calls that reach other processes than their caller: one that makes a process, one that starts
 //! it, and one that kills.
 
-ghost use Rattle.std.specs.Prelude.{ℕ, ◌≡◌, ◌+◌, ◌<◌, ◌≤◌, false, List, length, map, vec_capacity, Some, slice_get, IsTrue, IfSome, IfNone, IfOk, OnOk, IfErr, OnErr};
+ghost use Rattle.std.specs.Prelude.{ℕ, ◌≡◌, ◌+◌, ◌<◌, ◌≤◌, true, false, List, length, map, vec_capacity, Some, slice_get, IsTrue, IfSome, IfNone, IfOk, OnOk, IfErr, OnErr};
 ghost use Rattle.std.specs.List.{filter};
 ghost use Rattle.std.specs.Result.{result_err};
 ghost use Rattle.std.specs.Ordering.{nat_cmp};

@@ -4,11 +4,11 @@ use Rattle.std.specs.Bool.{then_some}
 use Rattle.std.specs.List.{find, filter, list_any}
 use Rattle.std.specs.Option.{option_or}
 use Rattle.std.specs.Result.{result_err}
-use Rattle.zl_code.specs.Common.{Library, Map, Site, created_process}
+use Rattle.zl_code.specs.Common.{Library, Map, Site}
 use Rattle.zl_code.specs.Effects.{new_entry}
 use Rattle.zl_code.specs.Image.{Program}
 use Rattle.zl_code.specs.Jobs.{is_allowing, misfits}
-use Rattle.zl_code.specs.Starting.{cpu_given, is_created}
+use Rattle.zl_code.specs.Starting.{cpu_given, created_process, is_created}
 use Rattle.zl_rights.specs.LookUp.{looked_up}
 use Rattle.zl_rights.specs.Numbers.{DESTROY, KILLED, MANAGE_PROCESS, TRANSFER, WRITE}
 use Rattle.zl_rights.specs.Signals.{lives}
@@ -148,7 +148,7 @@ pub record Enters (lib : Library) (processes : List Process) (caller : Process) 
   pub child : Process
   pub same : child ≡ record found.child { table = child.table }
   pub inserts : Inserts found.child.table e started.handle child.table
-  pub processes : processes2 ≡ with_caller processes started.place child
+  pub entered : processes2 ≡ with_caller processes started.place child
 
 -- the process of the first handle is ready, with the second handle in its table, at a value that it finds in register 0, and with the word in register 1
 pub record StartsProcess (lib : Library) (l : Lab) (place process h word : ℕ) (l2 : Lab) : Type 0 where

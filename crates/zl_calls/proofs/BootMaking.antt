@@ -147,6 +147,8 @@ module _ (ps : List Process) (p : Process) (r : Objects) (making : IsMaking ps p
       alive (state.AwaitsSignal koid mask to) h = refl
       alive (state.AwaitsPacket port to) h = refl
       alive (state.Ended code) h = absurd (false≢true h)
+      alive state.Created h = absurd (false≢true h)
+      alive state.Gone h = absurd (false≢true h)
 
   going_on : is_process (world_value after grown) has_ended n ≡ false
   unfolding is_process
@@ -157,6 +159,8 @@ module _ (ps : List Process) (p : Process) (r : Objects) (making : IsMaking ps p
       not_over (state.AwaitsSignal koid mask to) h = refl
       not_over (state.AwaitsPacket port to) h = refl
       not_over (state.Ended code) h = absurd (false≢true h)
+      not_over state.Created h = absurd (false≢true h)
+      not_over state.Gone h = absurd (false≢true h)
 
   others_as_before : (j : ℕ) → (n == j) ≡ false → (test : StateValue → Bool) → is_process (world_value after grown) test j ≡ is_process (world_value ps r) test j
   unfolding is_process

@@ -1,4 +1,7 @@
 pub mod Common
+pub mod Plain
+pub mod Departed
+pub mod Mapping
 pub mod Slots
 pub mod Listing
 pub mod Tables
@@ -7,7 +10,6 @@ pub mod Entered
 pub mod EnteredTables
 pub mod Told
 pub mod Places
-pub mod Quiet
 pub mod Beside
 pub mod Sifting
 pub mod Ending
@@ -44,6 +46,7 @@ pub mod WriteCalls
 pub mod ReadCalls
 pub mod WaitCalls
 pub mod ProcessCalls
+pub mod JobCallsDue
 pub mod Repacked
 pub mod PortCalls
 pub mod BlockedLists
@@ -56,6 +59,10 @@ pub mod Performed
 pub mod Performing
 pub mod Woken
 pub mod WakeLoop
+pub mod Policies
+pub mod Freedom
+pub mod CallStepsDue
+pub mod CallSteps
 pub mod StepItems
 pub mod BootGiving
 pub mod BootFaults
@@ -64,3 +71,6 @@ pub mod BootObjects
 pub mod BootLab
 pub mod BootRun
 pub mod BootBlocked
+pub mod Examining
+pub mod Verdicts
+pub mod Denials

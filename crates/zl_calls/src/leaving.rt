@@ -7,11 +7,11 @@ use crate::process::{Process, State};
 use zl_objects::Objects;
 
 /// Each process that was never started is gone, if its object is. It takes no memory.
-pub fn leave(processes: &mut [Process], objects: &Objects)
-    ensures { processes.new ≡ map (left_beside objects.now.objects) processes.old }
+pub fn leave(processes: &mut Vec<Process>, objects: &Objects)
+    ensures { processes.new.items ≡ map (left_beside objects.now.objects) processes.old.items }
 {
-    for process in processes.iter_mut() {
-        leave_one(process, objects);
+    for place in 0..processes.len() {
+        leave_one(&mut processes[place], objects);
     }
 }
 

@@ -13,8 +13,9 @@ use Rattle.zl_calls.specs.calls.Task.{Lab, lab}
 use Rattle.zl_calls.specs.declared.process.Process.{Process}
 use Rattle.zl_calls.proofs.Answered.{IsWrite}
 use Rattle.zl_calls.proofs.Labs.{IsFree}
-use Rattle.zl_calls.proofs.Performing.{HasLeft, alone_so}
-use Rattle.zl_calls.proofs.CallStepsDue.{policed_so, reaches_so, is_free}
+use Rattle.zl_calls.proofs.Performing.{HasLeft, alone_so, write_of}
+use Rattle.zl_calls.proofs.CallStepsDue.{policed_so, reaches_so}
+use Rattle.zl_calls.proofs.Freedom.{is_free}
 
 -- the process p stands at the place, under the pid, and is at the call
 module _ (lib : Library) (ps : List Process) (r : Objects) (whole : IsConsistent ps r) (blocked : List ℕ) (are : AreBlocked ps blocked) (sound : IsSoundWorld (world_blocked ps r blocked)) (pid place : ℕ) (p : Process)
@@ -26,8 +27,8 @@ module _ (lib : Library) (ps : List Process) (r : Objects) (whole : IsConsistent
       subst (λ (b : List ℕ). HasLeft lib ps l2.processes r l2.objects blocked b pid (item.Call pid name o)) (sym alone.blocked)
       (subst (λ (qs : List Process). HasLeft lib ps qs r l2.objects blocked blocked pid (item.Call pid name o)) (sym alone.processes)
       (alone_so lib ps r whole blocked are sound pid place p found read is_ready_there name o s next p2 l2.objects acted
-      (is_free lib ps r whole blocked are sound pid place p found read is_ready_there name s next none (world_value ps r) refl refl)
-      (is_free lib ps r whole blocked are sound pid place p found read is_ready_there name s next none (world_blocked ps r blocked) refl refl)))
+      (is_free lib ps r whole blocked sound p ((write_of lib ps r whole blocked are sound pid place p found read p refl).there) is_ready_there name s next none (world_value ps r) refl refl)
+      (is_free lib ps r whole blocked sound p ((write_of lib ps r whole blocked are sound pid place p found read p refl).there) is_ready_there name s next none (world_blocked ps r blocked) refl refl)))
 
   pub called_so : (name : CallName) → CalledAmong lib place p (lab ps r blocked) name o l2 → HasLeft lib ps l2.processes r l2.objects blocked l2.blocked pid (item.Call pid name o)
   called_so name called = rw called.named (by_acts (name_of called.call) called.site (called.next ∙ ap (calls_at (name_of called.call)) called.at_site) called.acts)

@@ -1,5 +1,5 @@
 -- What is due of calls that a policy ends, and of those that reach other processes.
-use Rattle.zl_calls.proofs.Common.{◌≡◌, ℕ, true, ◌==◌, List, map, get_or, Option, Some, None, position, is_ready, Library, Site, AtCall, next_for, Objects, object_entry, process_entry, process_value, state_value, world_blocked, AreBlocked, IsConsistent, World}
+use Rattle.zl_calls.proofs.Common.{◌≡◌, ℕ, true, ◌==◌, List, map, get_or, Option, Some, None, position, is_ready, Library, Site, AtCall, next_for, Objects, process_value, state_value, world_blocked, AreBlocked, IsConsistent}
 use Rattle.zl_code.specs.Sound.{IsSound as IsSoundWorld}
 use Rattle.zl_code.specs.declared.history.CallName.{CallName}
 use Rattle.zl_code.specs.declared.history.Outcome.{Outcome}
@@ -8,7 +8,6 @@ use Rattle.zl_calls.specs.Policed.{Policed, verdict_on}
 use Rattle.zl_calls.specs.Reaching.{IsAlone, Reaches}
 use Rattle.zl_calls.specs.calls.Task.{Lab, lab}
 use Rattle.zl_calls.specs.declared.process.Process.{Process}
-use Rattle.zl_calls.proofs.Labs.{IsFree}
 use Rattle.zl_calls.proofs.Performing.{HasLeft}
 
 -- the process p stands at the place, under the pid, and is at the call
@@ -23,7 +22,3 @@ module _ (lib : Library) (ps : List Process) (r : Objects) (whole : IsConsistent
     -- it reaches other processes
     pub reaches_so : (o : Outcome) (l2 : Lab) → Reaches lib place p s (lab ps r blocked) o l2 → HasLeft lib ps l2.processes r l2.objects blocked l2.blocked pid (item.Call pid name o)
     reaches_so = ?
-
-    -- no policy has a say, whatever waits
-    pub is_free : (w : World) → w.processes ≡ map process_entry ps → w.objects ≡ map object_entry r.objects → IsFree lib w p.pid name
-    is_free = ?

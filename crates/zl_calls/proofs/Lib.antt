@@ -28,6 +28,9 @@ pub mod Counting
 pub mod Counted
 pub mod SameBodies
 pub mod Settled
+pub mod Keeping
+pub mod StartParts
+pub mod KillParts
 pub mod Labs
 pub mod Active
 pub mod Written
@@ -60,6 +63,9 @@ pub mod Performed
 pub mod Performing
 pub mod Woken
 pub mod WakeLoop
+pub mod Policies
+pub mod Freedom
+pub mod Idle
 pub mod CallStepsDue
 pub mod CallSteps
 pub mod StepItems
@@ -70,8 +76,8 @@ pub mod BootObjects
 pub mod BootLab
 pub mod BootRun
 pub mod BootBlocked
-pub mod Policies
 pub mod Examining
 pub mod Verdicts
-pub mod Plain
 pub mod Denials
+pub mod Policing
+pub mod PolicedSteps

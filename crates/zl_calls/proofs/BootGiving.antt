@@ -146,7 +146,7 @@ registers_more (x ∷ vs) v registers =
 
 -- ---- one handle after another
 
-bare_table : IsTable (record { entries = []; last = None })
+pub bare_table : IsTable (record { entries = []; last = None })
 unfolding get
 bare_table = record { sorted = refl; few = omega arith; values = λ value there. absurd (false≢true there) }
 

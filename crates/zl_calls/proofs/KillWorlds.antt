@@ -1,16 +1,16 @@
 -- What a kill makes of the world of a lab: the definitions see the same of its processes, objects and list of the blocked.
-use Rattle.zl_calls.proofs.Common.{◌≡◌, ℕ, zero, suc, Bool, true, false, not, ◌&&◌, ◌||◌, ◌==◌, List, [], ◌∷◌, map, refl, sym, ap, ◌∙◌, subst, Option, Some, None, inl, inr, IsTrue, arith, cases_Bool, option_map, Map, get, each, lives, none-some, same_Some, eq-eqb, ne_eqb, false≢true, object_entry, object_value, body_value, process_entry, process_value, state_value, Objects, World, world_blocked, is_sorted, nat_cmp, if◌then◌else◌, ⊤}
-use Rattle.zl_code.proofs.Common.{Process as ProcessValue, Object as ObjectValue, Ended}
+use Rattle.zl_calls.proofs.Common.{◌≡◌, ℕ, zero, suc, Bool, true, false, not, ◌&&◌, ◌||◌, ◌==◌, List, [], ◌∷◌, map, refl, sym, ap, ◌∙◌, subst, Option, Some, None, inl, inr, IsTrue, arith, cases_Bool, option_map, Map, get, each, lives, runs, length, ◌<◌, state_passes, eqb-true, below_all, AreBlocked, none-some, same_Some, eq-eqb, ne_eqb, false≢true, object_entry, object_value, body_value, process_entry, process_value, state_value, Objects, World, world_blocked, is_sorted, nat_cmp, if◌then◌else◌, ⊤}
+use Rattle.zl_code.proofs.Common.{Process as ProcessValue, Object as ObjectValue, State as StateValue, Created, Ready, Blocked, Ended, Gone, is_blocked, get-each}
+use Rattle.std.specs.List.{filter}
 use Rattle.zl_rights.specs.Numbers.{KILLED}
 use Rattle.zl_code.specs.Jobs.{body_killed, is_under_by, is_within as is_within_value, object_killed, process_killed}
 use Rattle.zl_code.specs.Tests.{body_in, parent_in as parent_in_value}
 use Rattle.zl_code.specs.Sound.{IsSound as IsSoundWorld}
-use Rattle.zl_table.proofs.MapEdits.{sorted_parts}
+use Rattle.zl_table.proofs.MapEdits.{below_parts, sorted_parts}
 use Rattle.zl_objects.specs.declared.object.Body.{Body}
 use Rattle.zl_objects.specs.declared.object.Body.TheVariants as body
 use Rattle.zl_objects.specs.declared.object.Object.{Object}
 use Rattle.zl_objects.specs.Jobs.{all_killed, is_below_by, is_within, killed_body, killed_if, parent_at, parent_of}
-use Rattle.zl_objects.proofs.Found.{lower_missing}
 use Rattle.zl_objects.proofs.Law.{get_seen}
 use Rattle.zl_calls.specs.declared.process.Process.{Process}
 use Rattle.zl_calls.specs.declared.process.State.TheVariants as state
@@ -75,6 +75,13 @@ abbrev pub AreIdle : List Process → Type 0
 AreIdle [] = ⊤
 AreIdle (p ∷ ps) = IsIdle p × AreIdle ps
 
+lower_missing : {X : Type 0} (k : ℕ) (m : Map X) → IsTrue (below_all nat_cmp k m) → get m k ≡ None
+unfolding get
+lower_missing k [] below = refl
+lower_missing k (e ∷ m) below =
+    let parts = below_parts k e m below in
+    rw (ne_eqb e.0 k (λ is. omega (arith, is, parts.0))) (lower_missing k m parts.1)
+
 module _ (ps : List Process) (r : Objects) (blocked : List ℕ) (sound : IsSoundWorld (world_blocked ps r blocked)) where
   -- what is true of the process at each koid is true of each
   idle_from : (qs : List Process) → IsTrue (is_sorted nat_cmp (map process_entry qs)) → ((k : ℕ) (q : ProcessValue) → get (map process_entry qs) k ≡ Some q → lives q.state ≡ false → (q.handles ≡ []) × (q.last ≡ None)) → AreIdle qs
@@ -84,13 +91,67 @@ module _ (ps : List Process) (r : Objects) (blocked : List ℕ) (sound : IsSound
       let parts = sorted_parts (process_entry p) (map process_entry qs) sorted in (
         all p.pid (process_value p) (rw (eq-eqb p.pid p.pid refl) refl),
         idle_from qs parts.1 (λ k q at. all k q (elim (cases_Bool (p.pid == k)) as (λ _. (if p.pid == k then Some (process_value p) else get (map process_entry qs) k) ≡ Some q) [
-          | inl here ↦ absurd (none-some q (sym (lower_missing k (map process_entry qs) (subst (λ (n : ℕ). IsTrue (Rattle.std.specs.FinMap.Entries.below_all nat_cmp n (map process_entry qs))) (eqb_is here) parts.0)) ∙ at))
+          | inl here ↦ absurd (none-some q (sym (lower_missing k (map process_entry qs) (subst (λ (n : ℕ). IsTrue (below_all nat_cmp n (map process_entry qs))) (eqb-true p.pid k here) parts.0)) ∙ at))
           | inr apart ↦ rw apart at
         ])),
       )
+
+  -- a process that doesn't live has no handle, as the world is sound
+  pub are_idle : IsTrue (is_sorted nat_cmp (map process_entry ps)) → AreIdle ps
+  are_idle sorted = idle_from ps sorted (λ k q at dead. (sound.tables k q at).idle (not_running q.state dead))
     where
-      eqb_is : {n k : ℕ} → (n == k) ≡ true → n ≡ k
-      eqb_is {n} {k} e = Rattle.zl_calls.proofs.Common.eqb-true n k e
+      not_running : (s : StateValue) → lives s ≡ false → runs s ≡ false
+      not_running Created dead = refl
+      not_running Ready dead = absurd (false≢true (sym dead))
+      not_running (Blocked awaited ds) dead = absurd (false≢true (sym dead))
+      not_running (Ended code) dead = refl
+      not_running Gone dead = refl
+
+  -- those are left that are still blocked: who isn't among the killed
+  pub blocked_left : (t : ℕ) (qs : List Process) → AreBlocked ps blocked → map process_entry qs ≡ each (λ k. process_killed (is_within_value (map object_entry r.objects) t k)) (map process_entry ps)
+      → filter (λ k. state_passes is_blocked (get (map process_entry qs) k)) blocked ≡ filter (λ k. not (is_within_value (map object_entry r.objects) t k)) blocked
+  blocked_left t qs are is = alike blocked (λ k. times_of k)
+    where
+      within : ℕ → Bool
+      within k = is_within_value (map object_entry r.objects) t k
+
+      -- whoever is in the list is blocked
+      times_of : (k : ℕ) → 0 < length (filter (λ q. q == k) blocked) → state_passes is_blocked (get (map process_entry ps) k) ≡ true
+      times_of k some = by_test (state_passes is_blocked (get (map process_entry ps) k)) refl
+        where
+          by_test : (b : Bool) → state_passes is_blocked (get (map process_entry ps) k) ≡ b → state_passes is_blocked (get (map process_entry ps) k) ≡ true
+          by_test true at = at
+          by_test false at = let none : length (filter (λ q. q == k) blocked) ≡ 0 = are.once k ∙ rw at refl in absurd (omega (arith, some, none))
+
+      one : (k : ℕ) → state_passes is_blocked (get (map process_entry ps) k) ≡ true → state_passes is_blocked (get (map process_entry qs) k) ≡ not (within k)
+      one k was = ap (λ m. state_passes is_blocked (get m k)) is ∙ (ap (state_passes is_blocked) (get-each (map process_entry ps) (λ j. process_killed (within j)) k) ∙ by_process (get (map process_entry ps) k) (within k) was)
+        where
+          by_state : (q : ProcessValue) (s : StateValue) → q.state ≡ s → is_blocked s ≡ true → is_blocked (if lives s then record q { state = Ended KILLED; handles = []; last = None } else q).state ≡ false
+          by_state q (Blocked awaited ds) at h = refl
+          by_state q Created at h = absurd (false≢true h)
+          by_state q Ready at h = absurd (false≢true h)
+          by_state q (Ended code) at h = absurd (false≢true h)
+          by_state q Gone at h = absurd (false≢true h)
+
+          by_process : (o : Option ProcessValue) (b : Bool) → state_passes is_blocked o ≡ true → state_passes is_blocked (option_map (process_killed b) o) ≡ not b
+          by_process None b h = absurd (false≢true h)
+          by_process (Some q) true h = by_state q q.state refl h
+          by_process (Some q) false h = h
+
+      alike : (xs : List ℕ) → ((k : ℕ) → 0 < length (filter (λ q. q == k) xs) → state_passes is_blocked (get (map process_entry ps) k) ≡ true)
+          → filter (λ k. state_passes is_blocked (get (map process_entry qs) k)) xs ≡ filter (λ k. not (within k)) xs
+      alike [] all = refl
+      alike (x ∷ xs) all =
+          let here : state_passes is_blocked (get (map process_entry qs) x) ≡ not (within x) = one x (all x (rw (eq-eqb x x refl) (omega arith))) in
+          let rest = alike xs (λ k some. all k (longer k some)) in
+          (λ i. if here i then x ∷ filter (λ k. state_passes is_blocked (get (map process_entry qs) k)) xs else filter (λ k. state_passes is_blocked (get (map process_entry qs) k)) xs)
+          ∙ (λ i. if not (within x) then x ∷ rest i else rest i)
+        where
+          longer : (k : ℕ) → 0 < length (filter (λ q. q == k) xs) → 0 < length (filter (λ q. q == k) (x ∷ xs))
+          longer k some = elim (cases_Bool (x == k)) as (λ _. 0 < length (filter (λ q. q == k) (x ∷ xs))) [
+            | inl is2 ↦ rw is2 (omega arith)
+            | inr other ↦ rw other some
+          ]
 
 -- one process: where it lives and is killed it has ended, and else it is as it was
 killed_one : (r : Objects) (t : ℕ) (p p1 p2 : Process) (mid r2 : Objects) → p1 ≡ ended_within r t p → IsIdle p → ClosesEnded p1 mid p2 r2

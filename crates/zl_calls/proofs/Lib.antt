@@ -17,6 +17,7 @@ pub mod Firing
 pub mod FiringWorlds
 pub mod KeptLists
 pub mod KillWorlds
+pub mod KillSound
 pub mod LeftWaits
 pub mod ListsKept
 pub mod Refused

@@ -65,6 +65,7 @@ pub mod Woken
 pub mod WakeLoop
 pub mod Policies
 pub mod Freedom
+pub mod Idle
 pub mod CallStepsDue
 pub mod CallSteps
 pub mod StepItems
@@ -78,3 +79,5 @@ pub mod BootBlocked
 pub mod Examining
 pub mod Verdicts
 pub mod Denials
+pub mod Policing
+pub mod PolicedSteps

@@ -60,6 +60,8 @@ pub fn reach(
     ensures missing { IfNone result ((caller : Process)
         → slice_get processes.old.items place ≡ Some caller
         → IfSome (site_of call.now caller.cpu) (λ s. is_reaching s.request ≡ false)) }
+    ensures room { length processes.old.items ≤ vec_capacity blocked.old
+        → length processes.new.items ≤ vec_capacity blocked.new }
     ensures same_processes { IfNone result (processes.new.items ≡ processes.old.items) }
     ensures same_objects { IfNone result (objects.new ≡ objects.old) }
     ensures same_blocked { IfNone result (blocked.new.items ≡ blocked.old.items) }

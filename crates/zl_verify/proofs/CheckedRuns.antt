@@ -29,7 +29,7 @@ use Rattle.zl_verify.proofs.OwnSteps.{fine_other, Went, goes, pauses, Stopped, b
 
 -- ---- runs
 
-one_more : (lib : Library) (boot : World) (items : List TraceItem) (w : World) (x : TraceItem) (mid : World) → Runs lib boot items w → Step lib w (pid_of x) x mid → Runs lib boot (items ++ (x ∷ [])) mid
+pub one_more : (lib : Library) (boot : World) (items : List TraceItem) (w : World) (x : TraceItem) (mid : World) → Runs lib boot items w → Step lib w (pid_of x) x mid → Runs lib boot (items ++ (x ∷ [])) mid
 one_more lib boot [] w x mid e step = (mid, subst (λ v. Step lib v (pid_of x) x mid) e step, refl)
 one_more lib boot (y ∷ items) w x mid (first, before, rest) step = (first, before, one_more lib first items w x mid rest step)
 

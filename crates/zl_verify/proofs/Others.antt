@@ -1,6 +1,6 @@
 -- What one process does leaves every other as it is, and as its typing says, or ends it.
 use Rattle.std.proofs.Common.{◌≡◌, ℕ, ◌<◌, Bool, true, false, ◌==◌, List, [], ◌∷◌, refl, ap, ◌∙◌, IsTrue, Option, Some, None, option_map, arith}
-use Rattle.std.specs.Prelude.{⊤, is_some, if◌then◌else◌, slice_get}
+use Rattle.std.specs.Prelude.{⊤, is_some, slice_get}
 use Rattle.zl_rights.specs.declared.entry.Entry.{Entry}
 use Rattle.zl_rights.specs.declared.policy.Condition.{Condition}
 use Rattle.zl_rights.specs.declared.status.Status.{Status}

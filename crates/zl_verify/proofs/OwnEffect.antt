@@ -5,9 +5,9 @@ use Rattle.std.specs.Bool.{then_some}
 use Rattle.std.proofs.lemmas.Bool.{cases_Bool, eqb-true}
 use Rattle.std.proofs.lemmas.Bool.Decides.{nat_tests}
 use Rattle.std.proofs.lemmas.Option.{none-some, same_Some}
-use Rattle.zl_rights.specs.Common.{condition_number, get, lives, is_process, World, Cpu, Process, State as Life, Ready, Ended, Object, Body, ChannelEnd, EventBody, PortBody, JobBody, ProcessBody}
+use Rattle.zl_rights.specs.Common.{condition_number, get, lives, is_process, World, Cpu, Process, Ready, Object, Body, ChannelEnd, EventBody, PortBody, JobBody, ProcessBody}
 use Rattle.zl_rights.specs.Numbers.{KILLED}
-use Rattle.zl_rights.specs.Signals.{has_ended, has_child_job, has_child_process, is_process_of}
+use Rattle.zl_rights.specs.Signals.{has_ended, has_child_job, has_child_process}
 use Rattle.zl_rights.specs.Policies.{Setting, setting_of}
 use Rattle.zl_rights.specs.World.{Message, Packet}
 use Rattle.zl_rights.specs.declared.entry.Entry.{Entry}
@@ -18,21 +18,21 @@ use Rattle.zl_rights.proofs.MapLaws.{get-put, get-update, get-each}
 use Rattle.zl_code.specs.Image.{Library}
 use Rattle.zl_code.specs.declared.instr.CallInstr.{CallInstr}
 use Rattle.zl_code.specs.Tests.{object_at, body_in, body_of, parent_in, parent_of, policy_in, action_of, unless_allowed, creates}
-use Rattle.zl_code.specs.Effects.{on_process, on_object, with_object, with_process, process_ended, insert_all, storing, message_sent, message_read}
+use Rattle.zl_code.specs.Effects.{on_process, on_object, with_object, insert_all, storing, message_sent, message_read}
 use Rattle.zl_code.specs.Starting.{is_created, created_process, started_with}
 use Rattle.zl_code.specs.Jobs.{is_dead, has_child, is_within, body_killed, object_killed, process_killed, with_killed, body_with_policy, policy_changed, job_within}
 use Rattle.zl_code.specs.Waiting.{without_keyed, repacked}
 use Rattle.zl_code.specs.Local.{reg}
-use Rattle.zl_code.specs.CallTable.{process_start, task_kill, job_set_policy, listed, effect, new_handles, receiver_of, entering_at, stored_by, ends_caller}
+use Rattle.zl_code.specs.CallTable.{process_start, job_set_policy, listed, effect, new_handles, receiver_of, entering_at, stored_by, ends_caller}
 use Rattle.zl_code.specs.Refusals.{refusal}
 use Rattle.zl_code.specs.Request.{Site}
 use Rattle.zl_code.specs.Calls.{with_effect}
 use Rattle.zl_code.specs.Sound.{IsSound}
 use Rattle.zl_code.proofs.NamesKept.{list_any-get}
 use Rattle.zl_verify.proofs.Giving.{getting_all}
-use Rattle.zl_verify.proofs.OwnTable.{changed_here, changed_elsewhere, inserted_here, inserted_elsewhere, own_handles, storing_in, stored_here}
+use Rattle.zl_verify.proofs.OwnTable.{changed_elsewhere, inserted_here, inserted_elsewhere, own_handles, storing_in, stored_here}
 use Rattle.zl_verify.proofs.Working.{listed_none, test_fails, test_passes}
-use Rattle.zl_verify.proofs.Sites.{SiteAt, close_at, chan_create_at, chan_write_at, chan_read_at, event_create_at, signal_at, signal_peer_at, port_create_at, port_queue_at, port_wait_at, port_poll_at, port_cancel_at, process_create_at, process_start_at, process_exit_at, task_kill_at, job_create_at, job_set_policy_at}
+use Rattle.zl_verify.proofs.Sites.{SiteAt, chan_create_at, chan_write_at, chan_read_at, event_create_at, signal_at, signal_peer_at, port_create_at, port_queue_at, port_wait_at, port_poll_at, port_cancel_at, process_create_at, process_start_at, process_exit_at, task_kill_at, job_create_at, job_set_policy_at}
 
 -- ---- the caller
 

@@ -228,7 +228,7 @@ kill_sized u t s = record {
   waits = s.waits;
 }
 
-policy_set_sized : (x : Option Setting) (b : Body) (raised : ℕ) → IsSizedObject b raised → IsSizedObject (body_with_policy x b) raised
+pub policy_set_sized : (x : Option Setting) (b : Body) (raised : ℕ) → IsSizedObject b raised → IsSizedObject (body_with_policy x b) raised
 policy_set_sized x (JobBody parent depth policy killed) raised k = record { messages = tt; packets = tt; signals = k.signals }
 policy_set_sized x _ raised k = k
 

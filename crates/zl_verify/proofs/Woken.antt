@@ -239,7 +239,7 @@ module _ (i : Image) (t : ℕ → Option State) (range : is_in_range i ≡ true)
   become w s there = turns (fired w) (fired_sized w s) (record { now = q; there = there; made = inl refl }) w.blocked
 
 -- a process that runs is as it was after settling
-settled_there : (u v : World) → Settles u v → (p : ℕ) (q : Process) → get u.processes p ≡ Some q → runs q.state ≡ true → get v.processes p ≡ Some q
+pub settled_there : (u v : World) → Settles u v → (p : ℕ) (q : Process) → get u.processes p ≡ Some q → runs q.state ≡ true → get v.processes p ≡ Some q
 unfolding without_others
 settled_there u v (K, largest, is) p q there running = rw is (get-each u.processes (process_settled K) p ∙ (ap (option_map (process_settled K p)) there ∙ ap (λ (l : Life). Some (record q { state = l })) (by q.state running)))
   where

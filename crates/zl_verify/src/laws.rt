@@ -2,19 +2,25 @@
 
 ghost use Rattle.std.specs.List.{AllByRecursion};
 ghost use Rattle.std.specs.Prelude.{ℕ, ◌≡◌, ◌≢◌, ◌==◌, ◌↔◌, ◌⊎◌, ℤ, Bool};
-ghost use Rattle.std.specs.Prelude.{slice_get, false, IsTrue, List, [], Option, Some, Ok};
+ghost use Rattle.std.specs.Prelude.{slice_get, true, false, IsTrue, List, [], None, Option, Some, Ok};
 ghost use Rattle.zl_rights.specs.Common.{World, Cpu, Process, Ready, get, runs};
 ghost use Rattle.zl_rights.specs.declared.status.Status.{Status};
+ghost use Rattle.zl_rights.specs.declared.status.Status.TheVariants as status;
 ghost use Rattle.zl_code.specs.declared.boot.Statement.{Statement};
 ghost use Rattle.zl_code.specs.declared.history.CallName.{CallName};
+ghost use Rattle.zl_code.specs.declared.history.CallName.TheVariants as name;
 ghost use Rattle.zl_code.specs.declared.history.Outcome.TheVariants as outcome;
 ghost use Rattle.zl_code.specs.declared.history.TraceItem.{TraceItem};
+ghost use Rattle.zl_code.specs.declared.history.TraceItem.TheVariants as item;
 ghost use Rattle.zl_code.specs.declared.instr.CallInstr.{CallInstr};
-ghost use Rattle.zl_code.specs.Image.{Image, Library, call_at};
+ghost use Rattle.zl_code.specs.Image.{Image, Library, call_at, is_among};
+ghost use Rattle.zl_code.specs.Tests.{creates};
+ghost use Rattle.zl_rights.specs.declared.policy.Condition.{Condition};
 ghost use Rattle.zl_code.specs.Spells.{is_in_range};
 ghost use Rattle.zl_code.specs.Handles.{HandlesAreSound};
 ghost use Rattle.zl_code.specs.Request.{Site};
 ghost use Rattle.zl_code.specs.Calls.{Calls};
+ghost use Rattle.zl_code.specs.Starting.{program_of};
 ghost use Rattle.zl_code.specs.Steps.{Moves, IsStuck, Runs, next_at};
 ghost use Rattle.zl_abs.specs.States.{State};
 ghost use Rattle.zl_abs.specs.Rule.{Edge};
@@ -29,7 +35,8 @@ ghost use Rattle.zl_verify.specs.RunLaws.{IsFineItem, IsUnderWay, HasEnded, Keep
 ghost use Rattle.zl_verify.specs.SizedLaws.{IsSizedBoot, CpusAreSized};
 ghost use Rattle.zl_verify.specs.SizedLaws.{HoldsInRuns, HoldsInHistories};
 ghost use Rattle.zl_verify.specs.WakeLaws.{AreAsDeclared, IsProperStart};
-ghost use Rattle.zl_verify.specs.WakeLaws.{IsBooted, IsRunStep, EndsStep, OthersLeave};
+ghost use Rattle.zl_verify.specs.WakeLaws.{IsBooted, IsRunStep, EndsStep, OthersLeave, StartsChild};
+ghost use Rattle.zl_verify.specs.Headline.{IsStarted};
 
 /// In a world with sound handles, a process that is as a typing of its image says is never stuck.
 /// After a local instruction it stands at the end of a followed edge, and is there as the typing says.
@@ -87,8 +94,8 @@ pub fn runs_keep_queues_sized()
 
 /// A process that is started with handles as its image declares them, and whose job allows what the
 /// image needs, is as a typing of its image says; a boot starts each of its processes so, where the
-/// handles that it gives to it are as the image declares them. And in each step of a run from a
-/// boot world, a process that is so right after what the step does is so at its end, once handles
+/// handles that it gives to it are as the image declares them and the policy of its job allows what
+/// the image needs. And in each step of a run from a boot world, a process that is so right after what the step does is so at its end, once handles
 /// that nothing holds are gone, waits have given their packets and processes are awake: it is as it
 /// was, or it waited, and stands ready at the end of a followed edge. Own profile.
 pub fn start_and_wake()
@@ -99,13 +106,28 @@ pub fn start_and_wake()
         → IsSizedBoot lib statements boot → get boot.processes p ≡ Some q
         → (s : IsBooted lib q) × ((i : Image) (checked : Bool)
         → slice_get lib s.program ≡ Some (record { checked = checked; image = i })
-        → AreAsDeclared i.starts s.handles → IsProperStart i boot p q) }
+        → AreAsDeclared i.starts s.handles
+        → ((c : Condition) → IsTrue (is_among i.needs c) → creates boot p c ≡ None)
+        → IsProperStart i boot p q) }
     ensures wakes { (i : Image) (t : ℕ → Option State)
         (lib : Library) (w : World) (p : ℕ) (x : TraceItem) (w2 : World)
         → IsTrue (is_in_range i) → IsTyping i t → (run : IsRunStep lib w p x w2)
         → (q : ℕ) (process : Process) → get run.step.acted.processes q ≡ Some process
         → IsTrue (runs process.state) → Conforms i t run.step.acted q process
         → EndsStep i t q process w2 }
+{}
+
+/// In a run from a boot world, a process that another starts by a `process_start` that is answered
+/// OK has been started properly, where its program is checked: it is ready, with a handle as its
+/// image declares it, and its job allows what the image needs. So what is promised from a proper
+/// start on is promised of it too. Own profile.
+pub fn started_by_another()
+    ensures { (i : Image) (lib : Library) (w : World) (p : ℕ) (x : TraceItem) (w2 : World) (k : ℕ)
+        → (run : IsRunStep lib w p x w2)
+        → x ≡ item.Call p name.ProcessStart (outcome.Answered status.Ok)
+        → StartsChild lib w p run.step.process k
+        → program_of lib w k ≡ Some (record { checked = true; image = i })
+        → IsStarted lib i w2 k }
 {}
 
 /// In each step of a run from a boot world, a process that runs and is as a typing of its image

@@ -47,6 +47,7 @@ below_at k (x ∷ ps) (suc i) q below at = below_at k ps i q (below_parts k (pro
 
 -- where koids rise, a process is written under its koid
 pub writes_at : (ps : List Process) (i : ℕ) (q q2 : Process) → IsTrue (is_sorted nat_cmp (map process_entry ps)) → slice_get ps i ≡ Some q → q2.pid ≡ q.pid → IsWrite ps (slice_set ps i q2) q q2
+unfolding get update
 writes_at [] i q q2 sorted at same = absurd (none-some q at)
 writes_at (x ∷ ps) zero q q2 sorted at same =
     let is : x ≡ q = same_Some x q at in
@@ -54,11 +55,9 @@ writes_at (x ∷ ps) zero q q2 sorted at same =
     record { there = first_there here is; writes = λ f now. first_written here is f now }
   where
     first_there : (x.pid == q.pid) ≡ true → x ≡ q → get (map process_entry (x ∷ ps)) q.pid ≡ Some (process_value q)
-    unfolding get
     first_there here is = rw here (ap (λ (y : Process). Some (process_value y)) is)
 
     first_written : (x.pid == q.pid) ≡ true → x ≡ q → (f : ProcessValue → ProcessValue) → process_value q2 ≡ f (process_value q) → map process_entry (q2 ∷ ps) ≡ update (map process_entry (x ∷ ps)) q.pid f
-    unfolding update
     first_written here is f now = rw here (λ i. (same i, (now ∙ ap (λ (y : Process). f (process_value y)) (sym is)) i) ∷ map process_entry ps)
 writes_at (x ∷ ps) (suc i) q q2 sorted at same =
     let parts = sorted_parts (process_entry x) (map process_entry ps) sorted in
@@ -68,11 +67,9 @@ writes_at (x ∷ ps) (suc i) q q2 sorted at same =
     record { there = later_there apart rest; writes = λ f now. later_written apart rest f now }
   where
     later_there : (x.pid == q.pid) ≡ false → IsWrite ps (slice_set ps i q2) q q2 → get (map process_entry (x ∷ ps)) q.pid ≡ Some (process_value q)
-    unfolding get
     later_there apart rest = rw apart (rest.there)
 
     later_written : (x.pid == q.pid) ≡ false → IsWrite ps (slice_set ps i q2) q q2 → (f : ProcessValue → ProcessValue) → process_value q2 ≡ f (process_value q) → map process_entry (x ∷ slice_set ps i q2) ≡ update (map process_entry (x ∷ ps)) q.pid f
-    unfolding update
     later_written apart rest f now = rw apart (ap (λ (m : Map ProcessValue). process_entry x ∷ m) (rest.writes f now))
 
 -- changes at two keys
@@ -87,8 +84,8 @@ update_apart {X} (e ∷ m) j k f g apart = elim (cases_Bool (e.0 == j)) as (λ _
   | inr not_j ↦ elim (cases_Bool (e.0 == k)) as (λ _. update (update (e ∷ m) j f) k g ≡ update (update (e ∷ m) k g) j f) [
     | inl at_k ↦
       let other : (k == j) ≡ false = subst (λ (n : ℕ). (n == j) ≡ false) (eqb-true e.0 k at_k) not_j in
-      rw (not_j, at_k, at_k, other) refl
-    | inr not_k ↦ rw (not_j, not_k, not_k, not_j) (ap (λ (rest : Map X). e ∷ rest) (update_apart m j k f g apart))
+      rw (not_j, at_k, other) refl
+    | inr not_k ↦ rw (not_j, not_k, not_j) (ap (λ (rest : Map X). e ∷ rest) (update_apart m j k f g apart))
   ]
 ]
 
@@ -203,17 +200,13 @@ module _ (lib : Library) (ps : List Process) (r : Objects) (p : Process) (there 
     start_ends after k written =
         (λ i. record w { processes = (written ∙ by_steps) i; objects = objects_seen k i })
       where
-        abbrev m : Map ProcessValue
-        m = map process_entry ps
-
-
-        by_steps : update (update m named.koid child_after) p.pid caller_after
-            ≡ update (update (update (update m p.pid (process_without h)) named.koid (started_with (value ∷ []) word)) named.koid (process_with value e)) p.pid (λ q. record q { cpu = cpu_answered start_site status.Ok [] q.cpu })
+        by_steps : update (update (map process_entry ps) named.koid child_after) p.pid caller_after
+            ≡ update (update (update (update (map process_entry ps) p.pid (process_without h)) named.koid (started_with (value ∷ []) word)) named.koid (process_with value e)) p.pid (λ q. record q { cpu = cpu_answered start_site status.Ok [] q.cpu })
         by_steps =
-            sym (update_twice (update m named.koid child_after) p.pid (process_without h) (λ q. record q { cpu = cpu_answered start_site status.Ok [] q.cpu }))
+            sym (update_twice (update (map process_entry ps) named.koid child_after) p.pid (process_without h) (λ q. record q { cpu = cpu_answered start_site status.Ok [] q.cpu }))
             ∙ ap (λ (x : Map ProcessValue). update x p.pid (λ q. record q { cpu = cpu_answered start_site status.Ok [] q.cpu }))
-            (sym (update_apart m p.pid named.koid (process_without h) child_after apart)
-            ∙ sym (update_twice (update m p.pid (process_without h)) named.koid (started_with (value ∷ []) word) (process_with value e)))
+            (sym (update_apart (map process_entry ps) p.pid named.koid (process_without h) child_after apart)
+            ∙ sym (update_twice (update (map process_entry ps) p.pid (process_without h)) named.koid (started_with (value ∷ []) word) (process_with value e)))
 
     pub start_calls : start_refusal lib ps p.table.entries process h ≡ None → (after : List Process) (k : ℕ) → map process_entry after ≡ update (update (map process_entry ps) named.koid child_after) p.pid caller_after
         → Calls lib w p.pid start_site (outcome.Answered status.Ok) (world_value after (starting r k))

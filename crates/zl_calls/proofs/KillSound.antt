@@ -1,5 +1,5 @@
 -- A kill: the handles of all who end count still and are in no table, and the invariant holds but for what keeps the objects.
-use Rattle.zl_calls.proofs.Common.{◌≡◌, ℕ, zero, suc, ◌+◌, ◌<◌, ◌≤◌, Bool, true, false, not, ◌&&◌, ◌==◌, List, [], ◌∷◌, ◌++◌, map, refl, sym, ap, ◌∙◌, subst, cond, Option, Some, None, inl, inr, IsTrue, arith, option_map, Map, get, has_key, each, without, lives, runs, none-some, same_Some, eq-eqb, ne_eqb, false≢true, below_all, is_sorted, nat_cmp, is_some, object_entry, object_value, body_value, process_entry, process_value, state_value, Objects, World, world_value, count_by, sum_by, sum_by-cons, queued_to, handles_to, is_process, state_passes, kind_of, is_job_at, is_job_in, is_in_job, Agrees, AreNamed, IsNamed, IsConsistent, IsTable, Releases, AreKeptBut, All, All-nil, if◌then◌else◌, ⊤, list_any, append-nil, cases_Bool, eqb-true, and_from, nat_tests}
+use Rattle.zl_calls.proofs.Common.{◌≡◌, ℕ, zero, suc, ◌+◌, ◌<◌, ◌≤◌, Bool, true, false, not, ◌&&◌, ◌==◌, List, [], ◌∷◌, ◌++◌, map, refl, sym, ap, ◌∙◌, subst, cond, Option, Some, None, inl, inr, IsTrue, arith, option_map, Map, get, has_key, each, without, lives, runs, none-some, same_Some, eq-eqb, ne_eqb, false≢true, below_all, is_sorted, nat_cmp, is_some, object_entry, object_value, body_value, process_entry, process_value, state_value, Objects, World, world_value, count_by, sum_by, sum_by-cons, queued_to, handles_to, is_process, state_passes, kind_of, is_job_at, is_job_in, is_in_job, Agrees, AreNamed, IsNamed, IsConsistent, IsTable, Releases, AreKeptBut, All, All-nil, if◌then◌else◌, ⊤, list_any, append-nil, cases_Bool, eqb-true, and_from, nat_tests, or_left, or_right, ◌||◌}
 use Rattle.std.proofs.lemmas.List.Sums.{sum_by-append}
 use Rattle.zl_calls.specs.Making.{IsSound}
 use Rattle.zl_code.proofs.Common.{Process as ProcessValue, State as StateValue, Created, Ready, Blocked, Ended, Gone, get-each, Cpu}
@@ -111,10 +111,31 @@ in_tables k ps = sum_by (λ (q : ℕ × ProcessValue). count_by (λ h. h.1.koid 
 tables_cons : (k : ℕ) (p : Process) (ps : List Process) → in_tables k (p ∷ ps) ≡ count_by (λ (h : ℕ × Entry). h.1.koid == k) p.table.entries + in_tables k ps
 tables_cons k p ps = sum_by-cons (λ (q : ℕ × ProcessValue). count_by (λ h. h.1.koid == k) q.1.handles) (process_entry p) (map process_entry ps)
 
+no_lower : (k : ℕ) (m : Map ProcessValue) → IsTrue (below_all nat_cmp k m) → get m k ≡ None
+unfolding get
+no_lower k [] below = refl
+no_lower k (e ∷ m) below =
+    let parts = below_parts k e m below in
+    rw (ne_eqb e.0 k (λ is. omega (arith, is, parts.0))) (no_lower k m parts.1)
+
 -- the tables are in order, and what is in them passes
 abbrev pub AllTables : (Entry → Type 0) → List Process → Type 0
 AllTables P [] = ⊤
 AllTables P (p ∷ ps) = (IsTrue (is_sorted nat_cmp p.table.entries) × ((v : ℕ) (e : Entry) → get p.table.entries v ≡ Some e → P e)) × AllTables P ps
+
+-- what is true of the table at each koid is true of each
+pub tables_from : (P : Entry → Type 0) (ps : List Process) → IsTrue (is_sorted nat_cmp (map process_entry ps))
+    → ((k : ℕ) (q : ProcessValue) → get (map process_entry ps) k ≡ Some q → IsTrue (is_sorted nat_cmp q.handles) × ((v : ℕ) (e : Entry) → get q.handles v ≡ Some e → P e)) → AllTables P ps
+unfolding get
+tables_from P [] sorted all = tt
+tables_from P (p ∷ ps) sorted all =
+    let parts = sorted_parts (process_entry p) (map process_entry ps) sorted in (
+      all p.pid (process_value p) (rw (eq-eqb p.pid p.pid refl) refl),
+      tables_from P ps parts.1 (λ k q at. all k q (elim (cases_Bool (p.pid == k)) as (λ _. (if p.pid == k then Some (process_value p) else get (map process_entry ps) k) ≡ Some q) [
+        | inl here ↦ absurd (none-some q (sym (no_lower k (map process_entry ps) (subst (λ (n : ℕ). IsTrue (below_all nat_cmp n (map process_entry ps))) (eqb-true p.pid k here) parts.0)) ∙ at))
+        | inr apart ↦ rw apart at
+      ])),
+    )
 
 -- the handles that have left the tables of ps, which are then those of ps2, and what went with them
 pub record AreAllGone (P : Entry → Type 0) (ps ps2 : List Process) (r r2 : Objects) : Type 0 where
@@ -254,7 +275,7 @@ jobs_stay m t j = ap is_job_in (kill_in t m j) ∙ by_object (get m j) (is_withi
     by_object (Some o) false = refl
     by_object (Some o) true = by_body o.body
 
-named_killed : (m : Map Object) (t : ℕ) (e : Entry) → IsNamed m e → IsNamed (all_killed m t) e
+pub named_killed : (m : Map Object) (t : ℕ) (e : Entry) → IsNamed m e → IsNamed (all_killed m t) e
 named_killed m t e name = record {
   object = killed_if (is_within m t e.koid) name.object;
   there = kill_in t m e.koid ∙ rw (name.there) refl;
@@ -270,6 +291,21 @@ none_in : (v : ℕ) (e : Entry) → get {X = Entry} [] v ≡ Some e → ⊥
 unfolding get
 none_in v e found = none-some e found
 
+koid_in : (m : Map Object) (k : ℕ) → IsTrue (has_key m k) → IsTrue (list_any (λ x. x == k) (all_koids m))
+unfolding get
+koid_in [] k there = there
+koid_in (e ∷ m) k there = elim (cases_Bool (e.0 == k)) as (λ _. IsTrue ((e.0 == k) || list_any (λ x. x == k) (all_koids m))) [
+  | inl here ↦ or_left (e.0 == k) _ here
+  | inr apart ↦ or_right (e.0 == k) _ (koid_in m k (rw apart at there))
+]
+
+-- any may be left unkept by the marks alone
+pub all_noted : (m : Map Object) (t : ℕ) → IsTrue (is_sorted nat_cmp m) → AreKeptBut (all_koids m) (all_killed m t)
+all_noted m t sorted = record {
+  in_order = rw (killed_order m t) sorted;
+  noted = λ k o at unkept. let w = was_there m t k o at in koid_in m k (ap is_some w.there);
+}
+
 -- ---- the invariant
 
 -- what the definitions see of a process after the kill; it may go on computing with another Cpu
@@ -277,12 +313,9 @@ abbrev pub killed_with : (ℕ → Bool) → (ℕ → ProcessValue → Cpu) → �
 killed_with f cpus k q = record (process_killed (f k) q) { cpu = cpus k q }
 
 module _ (ps ps3 : List Process) (r : Objects) (lab : IsConsistent ps r) (t : ℕ) (cpus : ℕ → ProcessValue → Cpu)
-    (is : map process_entry ps3 ≡ each (killed_with (is_within r.objects t) cpus) (map process_entry ps)) (gone : List Entry) (fewer : (k : ℕ) → in_tables k ps ≡ in_tables k ps3 + naming k gone) where
+    (got : (k : ℕ) → get (map process_entry ps3) k ≡ option_map (killed_with (is_within r.objects t) cpus k) (get (map process_entry ps) k)) (gone : List Entry) (fewer : (k : ℕ) → in_tables k ps ≡ in_tables k ps3 + naming k gone) where
   abbrev within : ℕ → Bool
   within = is_within r.objects t
-
-  got : (k : ℕ) → get (map process_entry ps3) k ≡ option_map (killed_with within cpus k) (get (map process_entry ps) k)
-  got k = ap (λ m. get m k) is ∙ get-each (map process_entry ps) (killed_with within cpus) k
 
   record WasHere (k : ℕ) (q : ProcessValue) : Type 0 where
     before : ProcessValue

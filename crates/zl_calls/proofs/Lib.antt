@@ -18,6 +18,7 @@ pub mod FiringWorlds
 pub mod KeptLists
 pub mod KillWorlds
 pub mod KillSound
+pub mod KillCalls
 pub mod LeftWaits
 pub mod ListsKept
 pub mod Refused

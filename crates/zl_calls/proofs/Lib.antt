@@ -67,6 +67,7 @@ pub mod Freedom
 pub mod Idle
 pub mod CallStepsDue
 pub mod CallSteps
+pub mod Calling
 pub mod StepItems
 pub mod BootGiving
 pub mod BootFaults

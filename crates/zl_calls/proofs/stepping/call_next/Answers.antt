@@ -1,0 +1,7 @@
+use Rattle.zl_calls.proofs.Calling.{called_among}
+use Rattle.zl_calls.proofs.stepping.call_next.Goals as goal
+
+pub returns-clause-calls : goal.returns-clause-calls
+returns-clause-calls c =
+    called_among c.args.library.now c.args.processes.now.items c.args.objects.now c.args.blocked.now.items c.args.place c.index.result.now c.requires.place c.index.ensures c.in_ok-call.call c.in_ok-name.name c.in_ok-outcome.outcome _
+    c.in_ok-call.ensures.found ? c.in_ok-outcome.ensures.acts

@@ -14,7 +14,8 @@ use Rattle.zl_calls.specs.declared.process.Process.{Process}
 use Rattle.zl_calls.proofs.Answered.{IsWrite}
 use Rattle.zl_calls.proofs.Labs.{IsFree}
 use Rattle.zl_calls.proofs.Performing.{HasLeft, alone_so, write_of}
-use Rattle.zl_calls.proofs.CallStepsDue.{policed_so, reaches_so}
+use Rattle.zl_calls.proofs.CallStepsDue.{reaches_so}
+use Rattle.zl_calls.proofs.PolicedSteps.{policed_so}
 use Rattle.zl_calls.proofs.Freedom.{is_free}
 
 -- the process p stands at the place, under the pid, and is at the call

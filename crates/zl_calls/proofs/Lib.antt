@@ -27,6 +27,9 @@ pub mod Counting
 pub mod Counted
 pub mod SameBodies
 pub mod Settled
+pub mod Keeping
+pub mod StartParts
+pub mod KillParts
 pub mod Labs
 pub mod Active
 pub mod Written
@@ -61,6 +64,7 @@ pub mod Woken
 pub mod WakeLoop
 pub mod Policies
 pub mod Freedom
+pub mod Idle
 pub mod CallStepsDue
 pub mod CallSteps
 pub mod StepItems

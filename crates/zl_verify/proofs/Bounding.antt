@@ -122,6 +122,10 @@ under ns most n h e = rw (read ns n h) (by (get_or ns n None) e)
     by None q = absurd (cc)
     by (Some k) q = under_most most k q
 
+-- where no instruction is over, each has a number below most
+pub all_under : (ns : List (Option ℕ)) (most : ℕ) → position (is_over most) ns ≡ None → (n : ℕ) → n < length ns → IsBelow (at ns n) most
+all_under ns most e n h = under ns most n h (no_position (is_over most) ns n None e h)
+
 module _ (i : Image) (states : List (Option State)) (targets : List Targets) (ns : List (Option ℕ)) (most : ℕ) (is_most : most ≡ i.budget + 1)
     (are : AreTargets i states targets) (given : AreNumbers (places_at targets) (length targets) most ns) where
   numbers : AreNumbers (leads i (at states)) (length states) most ns
@@ -160,9 +164,6 @@ module _ (i : Image) (states : List (Option State)) (targets : List Targets) (ns
 
   pub step_bound : position (is_over most) ns ≡ None → IsStepBound i (at states) (at ns)
   step_bound e = record {
-    within = λ n s q. subst (λ (m : ℕ). IsBelow (at ns n) m) (omega (arith, is_most)) (small n (let h = mapped states n s q in omega (arith, numbers.long)));
-    falls = λ n k q. numbers.given.falls n k q (subst (λ (o : Option ℕ). IsBelow o most) q (small n (mapped ns n k q)));
+    within = λ n s q. subst (λ (m : ℕ). IsBelow (at ns n) m) (omega (arith, is_most)) (all_under ns most e n (let h = mapped states n s q in omega (arith, numbers.long)));
+    falls = λ n k q. numbers.given.falls n k q (subst (λ (o : Option ℕ). IsBelow o most) q (all_under ns most e n (mapped ns n k q)));
   }
-    where
-      small : (n : ℕ) → n < length ns → IsBelow (at ns n) most
-      small n h = under ns most n h (no_position (is_over most) ns n None e h)

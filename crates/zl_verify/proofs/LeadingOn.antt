@@ -1,10 +1,9 @@
 -- Where the rule of an instruction holds, it leads to another, but for the exit.
 use Rattle.std.proofs.Common.{◌≡◌, ◌≢◌, ℕ, ◌+◌, Bool, true, false, ◌&&◌, ◌||◌, not, List, [], ◌∷◌, ◌++◌, length, Option, Some, None, Result, Ok, Err, IfOk, refl, subst, arith, eqb, ltb}
-use Rattle.std.specs.Prelude.{is_some, slice_get, if◌then◌else◌}
+use Rattle.std.specs.Prelude.{is_some, if◌then◌else◌}
 use Rattle.std.proofs.lemmas.Bool.Decides.{nat_tests}
 use Rattle.zl_rights.specs.Numbers.{same_kind}
 use Rattle.zl_rights.specs.declared.kind.Kind.{Kind}
-use Rattle.zl_code.specs.declared.image.SlotArray.{SlotArray}
 use Rattle.zl_code.specs.declared.instr.Instr.{Instr}
 use Rattle.zl_code.specs.declared.instr.Instr.TheVariants as instr
 use Rattle.zl_code.specs.declared.instr.LocalInstr.{LocalInstr}
@@ -17,60 +16,19 @@ use Rattle.zl_abs.specs.declared.value.AbsVal.TheVariants.{Word, Has, KindOf, Ri
 use Rattle.zl_abs.specs.declared.cause.Cause.{Cause}
 use Rattle.zl_abs.specs.declared.cause.Cause.TheVariants as cause
 use Rattle.zl_abs.specs.Outcome.{Outcome}
-use Rattle.zl_abs.specs.Values.{ANY, capped, is_has}
-use Rattle.zl_abs.specs.States.{State, value_at, with_value, refined}
+use Rattle.zl_abs.specs.Values.{capped}
+use Rattle.zl_abs.specs.States.{State, value_at, refined}
 use Rattle.zl_abs.specs.Bounds.{bounds_of}
-use Rattle.zl_abs.specs.Rule.{and_then, word_at, writes, passes, Edge, edge_to, edges}
-use Rattle.zl_abs.specs.LocalRules.{in_memory, loads, stores, may_move, moved, takes, slot_fault, swaps_by, swaps_in, becomes, known_zero, known_there, known_kind, known_other, kind_numbered, kind_ways, equal_ways, zero_ways, below_ways, has_ways, unless, local_rule}
+use Rattle.zl_abs.specs.Rule.{and_then, Edge, edge_to, edges}
+use Rattle.zl_abs.specs.LocalRules.{becomes, known_zero, known_there, known_kind, known_other, kind_numbered, kind_ways, equal_ways, zero_ways, below_ways, has_ways, unless, local_rule}
 use Rattle.zl_abs.specs.CallRules.{Uses, uses_of, state_after, goes_on, call_rule_by, call_rule}
 use Rattle.zl_abs.specs.Typing.{target_of, rule_by, rule_with, rule}
 use Rattle.zl_verify.specs.Steps.{is_pause}
+use Rattle.zl_verify.proofs.PassingOn.{then_on, one, passes_on}
 
 -- one of the two edges is followed
 abbrev HasWay : Outcome → Type 0
 HasWay w = (is_some w.jumped || is_some w.passed) ≡ true
-
-then_on : {A : Type 0} (x : Result A Cause) (f : A → Result Outcome Cause) → ((a : A) → IfOk (f a) HasWay) → IfOk (and_then x f) HasWay
-then_on (Err c) f h = tt
-then_on (Ok a) f h = h a
-
-if_on : (t : Bool) (x : Result Outcome Cause) (c : Cause) → IfOk x HasWay → IfOk (if t then x else Err c) HasWay
-if_on true x c h = h
-if_on false x c h = tt
-
-unless_on : (t : Bool) (x : Result Outcome Cause) (c : Cause) → IfOk x HasWay → IfOk (if t then Err c else x) HasWay
-unless_on true x c h = tt
-unless_on false x c h = h
-
--- ---- what goes on to the next instruction
-
-writes_on : (s : State) (r : ℕ) (v : AbsVal) → IfOk (writes s r v) HasWay
-writes_on s r v = unless_on (is_has (value_at s r)) (Ok (passes (with_value s r v))) cause.Leak refl
-
-one : (s : State) (b : ℕ) (f : ℕ → Result Outcome Cause) → ((m : ℕ) → IfOk (f m) HasWay) → IfOk (and_then (word_at s b) f) HasWay
-one s b f h = then_on (word_at s b) f h
-
-two : (s : State) (b c : ℕ) (f : ℕ → ℕ → Result Outcome Cause) → ((m n : ℕ) → IfOk (f m n) HasWay) → IfOk (and_then (word_at s b) (λ m. and_then (word_at s c) (λ n. f m n))) HasWay
-two s b c f h = one s b _ (λ m. one s c (f m) (h m))
-
-loads_on : (i : Image) (s : State) (n bound a b offset : ℕ) → IfOk (loads i s n bound a b offset) HasWay
-loads_on i s n bound a b offset = one s b _ (λ m. if_on (in_memory i m offset n) _ _ (writes_on s a (Word bound)))
-
-stores_on : (i : Image) (s : State) (n a b offset : ℕ) → IfOk (stores i s n a b offset) HasWay
-stores_on i s n a b offset = two s a b _ (λ m x. if_on (in_memory i m offset n) (Ok (passes s)) cause.MemoryRange refl)
-
-takes_on : (s : State) (a b : ℕ) → IfOk (takes s a b) HasWay
-takes_on s a b =
-    unless_on (eqb a b) _ _ (unless_on (not (may_move (value_at s b))) _ _
-    (unless_on (is_has (value_at s a)) (Ok (passes (moved s a b (value_at s b)))) cause.Leak refl))
-
-swap_on : (s : State) (a : ℕ) (t : SlotArray) (o : Option Cause) → IfOk (swaps_by s a t o) HasWay
-swap_on s a t (Some c) = tt
-swap_on s a t None = refl
-
-swaps_on : (s : State) (a b : ℕ) (o : Option SlotArray) → IfOk (swaps_in s a b o) HasWay
-swaps_on s a b None = tt
-swaps_on s a b (Some t) = one s b _ (λ place. if_on (ltb place t.length) _ _ (swap_on s a t (slot_fault t (value_at s a))))
 
 -- ---- jumps: where the test can't succeed it can fail
 
@@ -142,7 +100,7 @@ zero_on s a (KindOf r) = equal_on s a 0 (KindOf r)
 zero_on s a (RightsOf r) = equal_on s a 0 (RightsOf r)
 
 below_on : (s : State) (a imm : ℕ) → IfOk (below_ways s a imm) HasWay
-below_on s a imm = one s a _ (λ m. either (eqb imm 0) (ltb m imm) s _ (apart m imm))
+below_on s a imm = one HasWay s a _ (λ m. either (eqb imm 0) (ltb m imm) s _ (apart m imm))
   where
     apart : (m imm : ℕ) → eqb imm 0 ≡ true → ltb m imm ≡ false
     apart m imm h = grind (arith, nat_tests)
@@ -157,22 +115,6 @@ has_on s imm (KindOf r) = refl
 
 local_on : (bounds : List ℕ) (i : Image) (x : LocalInstr) (s : State) → IfOk (local_rule bounds i x s) HasWay
 unfolding local_rule
-local_on bounds i (local.Const a imm) s = writes_on s a _
-local_on bounds i (local.Move a b) s = one s b _ (λ m. writes_on s a _)
-local_on bounds i (local.Add a b c) s = two s b c _ (λ m n. writes_on s a _)
-local_on bounds i (local.AddNumber a b imm) s = one s b _ (λ m. writes_on s a _)
-local_on bounds i (local.Subtract a b c) s = two s b c _ (λ m n. writes_on s a _)
-local_on bounds i (local.And a b c) s = two s b c _ (λ m n. writes_on s a _)
-local_on bounds i (local.Or a b c) s = two s b c _ (λ m n. writes_on s a _)
-local_on bounds i (local.Xor a b c) s = two s b c _ (λ m n. writes_on s a _)
-local_on bounds i (local.ShiftLeft a b imm) s = one s b _ (λ m. writes_on s a _)
-local_on bounds i (local.ShiftRight a b imm) s = one s b _ (λ m. writes_on s a _)
-local_on bounds i (local.Take a b) s = takes_on s a b
-local_on bounds i (local.Swap a b imm) s = swaps_on s a b (slice_get i.slots imm)
-local_on bounds i (local.LoadByte a b imm) s = loads_on i s 1 255 a b imm
-local_on bounds i (local.LoadWord a b imm) s = loads_on i s 8 ANY a b imm
-local_on bounds i (local.StoreByte a b imm) s = stores_on i s 1 a b imm
-local_on bounds i (local.StoreWord a b imm) s = stores_on i s 8 a b imm
 local_on bounds i (local.Jump target) s = refl
 local_on bounds i (local.JumpZero a target) s = zero_on s a (value_at s a)
 local_on bounds i (local.JumpNotZero a target) s = unless_ways _ (zero_on s a (value_at s a))
@@ -182,10 +124,11 @@ local_on bounds i (local.JumpBelow a imm target) s = below_on s a imm
 local_on bounds i (local.JumpNotBelow a imm target) s = unless_ways _ (below_on s a imm)
 local_on bounds i (local.JumpHas a imm target) s = has_on s imm (value_at s a)
 local_on bounds i (local.JumpHasNot a imm target) s = unless_ways _ (has_on s imm (value_at s a))
+local_on bounds i x s = passes_on HasWay (λ t. refl) bounds i x s refl
 
 answered_on : (i : Image) (s : State) (on : Bool) (o : Option Uses) → on ≡ true → IfOk (call_rule_by i s on o) HasWay
 answered_on i s true None e = tt
-answered_on i s true (Some u) e = then_on (state_after i s u) _ (λ t. refl)
+answered_on i s true (Some u) e = then_on HasWay (state_after i s u) _ (λ t. refl)
 answered_on i s false o e = cc
 
 -- each call but the exit goes on

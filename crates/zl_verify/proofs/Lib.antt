@@ -11,6 +11,8 @@ pub mod Ending
 pub mod Turning
 pub mod Leading
 pub mod Bounding
+pub mod PassingOn
+pub mod LookingAhead
 pub mod Raising
 pub mod Owners
 pub mod Writing
@@ -53,6 +55,9 @@ pub mod Others
 pub mod Ended
 pub mod OwnSteps
 pub mod CheckedRuns
+pub mod Unstarted
+pub mod UnstartedRuns
+pub mod ChildStarts
 mod Headline
 mod RowsConforms
 mod RowsRuns

@@ -6,6 +6,7 @@ pub mod Search
 pub mod Marks
 pub mod Blocks
 pub mod Leading
+pub mod Ahead
 pub mod Checks
 pub mod Names
 pub mod Conforms

@@ -9,6 +9,7 @@ ghost use Rattle.zl_verify.specs.Steps.{IsStepBound};
 ghost use Rattle.zl_verify.specs.Checks.{IsLeastTyping, IsRefused};
 ghost use Rattle.zl_verify.specs.Headline.{IsNeverRefused};
 
+use crate::ahead::bound_ahead;
 use crate::refusal::{Refusal, RefusalCause};
 use crate::search::{Fault, Found, solve};
 use crate::seen::Seen;
@@ -56,9 +57,10 @@ impl Checked {
     }
 
     /// In every run from a boot world, whatever others do: a process that was properly started from
-    /// this image gets no call answered BAD_HANDLE, WRONG_TYPE or ACCESS_DENIED, is stuck only at a
-    /// call that isn't built, is ended by no policy, and takes no more instructions than its budget
-    /// from its start on up to a wait or its exit, and behind each wait.
+    /// this image gets no call answered BAD_HANDLE, WRONG_TYPE or ACCESS_DENIED, is never stuck, is
+    /// ended by no policy, and takes no more instructions than its budget from its start on up to a
+    /// wait or its end, and behind each wait. It ends by its own `process_exit` or `task_kill`, or
+    /// where another kills it, and from then on it does nothing more.
     ///
     /// It does nothing: its clause is what an accepted image is good for. Own profile.
     pub fn sound(&self)
@@ -69,8 +71,8 @@ impl Checked {
     }
 }
 
-/// A step bound of the least typing, or why there is none.
-fn bound(
+/// A step bound of the least typing, or why there is none, by the edges that are followed there.
+fn exact_bound(
     alloc: Global,
     bounds: &Bounds,
     image: &Image,
@@ -97,6 +99,29 @@ fn bound(
             at,
             cause: RefusalCause::Budget,
         }),
+    }
+}
+
+/// A step bound of the least typing, or why there is none.
+fn bound(
+    alloc: Global,
+    bounds: &Bounds,
+    image: &Image,
+    found: &Found,
+) -> Result<Vec<Option<u32>>, Fault>
+    requires alike { RoundAlike bounds.now (bounds_of image.now.code) }
+    requires typing { IsLeastTyping image.now
+        (at (states_of image.now found.now.blocks.numbers found.now.states.items)) }
+    ensures bound { IfOk result (λ steps. IsStepBound image.now
+        (at (states_of image.now found.now.blocks.numbers found.now.states.items))
+        (at steps.items)) }
+    ensures exact { IfErr result (λ fault. IsRefused image.now fault.at fault.cause) }
+{
+    match bound_ahead(alloc, image) {
+        Ok(Some(steps)) => Ok(steps),
+        // Where the code alone gives none, what is known at the instructions may give one yet.
+        Ok(None) => exact_bound(alloc, bounds, image, found),
+        Err(_) => Err(Fault::at_once(RefusalCause::NoMemory)),
     }
 }
 

@@ -7,6 +7,7 @@
 //! search for the least typing knows nothing of handles. `laws` says what a typing is good for.
 #![tactic(auto)]
 
+mod ahead;
 mod blocks;
 mod checked;
 mod edges;

@@ -20,7 +20,7 @@ use zl_abs::{AbsState, Bounds, Step, Steps};
 use zl_code::{CallInstr, Image};
 
 /// Whether the count of instructions begins anew at this one: a wait or an exit.
-fn is_pause(image: &Image, place: usize) -> bool
+pub(crate) fn is_pause(image: &Image, place: usize) -> bool
     ensures { result ≡ is_pause (call_at image.now place) }
 {
     match image.call_at(place) {

@@ -238,6 +238,31 @@ fn a_loop_without_a_wait_is_over(rt: HostRuntime) {
     );
 }
 
+#[test]
+fn an_edge_that_is_never_followed_does_not_count(rt: HostRuntime) {
+    let alloc = rt.alloc();
+    // jlt r5, 0 to the start: no word is below 0.
+    let to_start = instr(22, [5, 0, 0, 0, 0, 0], 0, 0);
+    assert_eq!(rt; refusal(alloc, 1, &[], &[to_start, EXIT]), Ok(None));
+    // Behind an exit nothing is done.
+    assert_eq!(rt;
+        refusal(alloc, 1, &[], &[EXIT, COUNT, COUNT, EXIT]),
+        Ok(None)
+    );
+    // The first that is over is the jump behind the wait, and not the one before it.
+    let ahead = instr(22, [5, 0, 0, 0, 0, 0], 0, 3);
+    let on = instr(17, [0; 6], 0, 3);
+    assert_eq!(rt;
+        refusal(
+            alloc,
+            2,
+            &[EVENT],
+            &[ahead, WAIT_ONE, on, COUNT, COUNT, COUNT, EXIT]
+        ),
+        over(2)
+    );
+}
+
 /// The image of a refusal, spelled.
 fn given_back(alloc: Global, refusal: Refusal) -> Result<Vec<u8>, AllocError> {
     encode(alloc, &refusal.image)

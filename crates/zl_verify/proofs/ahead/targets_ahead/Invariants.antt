@@ -1,0 +1,5 @@
+use Rattle.zl_verify.specs.Ahead.{AreAhead}
+use Rattle.zl_verify.proofs.ahead.targets_ahead.Given as goal
+
+abbrev pub invariant-loop-place : goal.invariant-loop-place
+invariant-loop-place l = AreAhead l.image l.targets.items l.place

@@ -1,0 +1,47 @@
+-- Where instructions may lead whatever is known at them, by the code alone. No public clause cites this module.
+use Rattle.std.specs.Prelude.{ℕ, ◌≡◌, ◌+◌, ◌<◌, List, ◌++◌, length, Option, Some, None, nat_lt, if◌then◌else◌}
+use Rattle.std.specs.Option.{option_to_list}
+use Rattle.zl_code.specs.declared.instr.LocalInstr.{LocalInstr}
+use Rattle.zl_code.specs.declared.instr.LocalInstr.TheVariants as local
+use Rattle.zl_code.specs.Image.{Image, local_at, call_at}
+use Rattle.zl_abs.specs.States.{State}
+use Rattle.zl_verify.specs.Lists.{at}
+use Rattle.zl_verify.specs.Numbers.{places_at}
+use Rattle.zl_verify.specs.Leading.{unless_pause}
+use Rattle.zl_verify.specs.declared.steps.Targets.{Targets}
+use Rattle.zl_verify.specs.Steps.{is_pause, IsStepBound}
+
+-- where the instruction jumps, if it is a jump
+abbrev pub jump_in : Option LocalInstr → Option ℕ
+jump_in (Some (local.Jump target)) = Some target
+jump_in (Some (local.JumpZero a target)) = Some target
+jump_in (Some (local.JumpNotZero a target)) = Some target
+jump_in (Some (local.JumpEqual a imm target)) = Some target
+jump_in (Some (local.JumpNotEqual a imm target)) = Some target
+jump_in (Some (local.JumpBelow a imm target)) = Some target
+jump_in (Some (local.JumpNotBelow a imm target)) = Some target
+jump_in (Some (local.JumpHas a imm target)) = Some target
+jump_in (Some (local.JumpHasNot a imm target)) = Some target
+jump_in _ = None
+
+-- the place, if code of this length has it
+abbrev pub place_within : ℕ → Option ℕ → Option ℕ
+place_within size None = None
+place_within size (Some n) = if nat_lt n size then Some n else None
+
+-- where the n-th instruction may lead, if it is no pause: where it jumps, and to the next one
+abbrev pub onward : Image → ℕ → Option LocalInstr → List ℕ
+onward i n o = option_to_list (place_within (length i.code) (jump_in o)) ++ option_to_list (place_within (length i.code) (Some (n + 1)))
+
+-- where the n-th instruction may lead
+abbrev pub ahead : Image → ℕ → List ℕ
+ahead i n = unless_pause (is_pause (call_at i n)) (onward i n (local_at i n))
+
+-- each of the first p is where the instruction may lead
+pub record AreAhead (i : Image) (targets : List Targets) (p : ℕ) : Type 0 where
+  pub long : length targets ≡ length i.code
+  pub same : (n : ℕ) → n < p → places_at targets n ≡ ahead i n
+
+-- the numbers are a step bound, whatever is known at the instructions
+pub record BoundsAll (i : Image) (steps : List (Option ℕ)) : Type 0 where
+  pub bound : (states : List (Option State)) → length states ≡ length i.code → IsStepBound i (at states) (at steps)

@@ -1,5 +1,7 @@
 pub mod Common
 pub mod Plain
+pub mod Numbered
+pub mod Creating
 pub mod Departed
 pub mod Mapping
 pub mod Slots
@@ -46,7 +48,7 @@ pub mod WriteCalls
 pub mod ReadCalls
 pub mod WaitCalls
 pub mod ProcessCalls
-pub mod JobCallsDue
+pub mod JobCalls
 pub mod Repacked
 pub mod PortCalls
 pub mod BlockedLists

@@ -1,5 +1,5 @@
 -- What process_create does, from what its parts do.
-use Rattle.zl_calls.proofs.Common.{◌≡◌, ℕ, List, [], ◌∷◌, ◌++◌, refl, sym, ap, ◌∙◌, subst, Option, Some, None, Result, Ok, Err, none-some, same_Some, get_or, slice_get, slice_set, option_map, true, Handles, Image, Inserts, IsRefusedBy, Library, Objects, Program, new_entry, process_value, state_value, with_new}
+use Rattle.zl_calls.proofs.Common.{◌≡◌, ℕ, zero, suc, List, [], ◌∷◌, ◌++◌, refl, sym, ap, ◌∙◌, subst, Option, Some, None, Result, Ok, Err, none-some, same_Some, get_or, slice_get, slice_set, option_map, true, Handles, Image, Inserts, IsRefusedBy, Library, Objects, Program, new_entry, process_value, state_value, with_new}
 use Rattle.std.specs.Result.{result_ok}
 use Rattle.std.proofs.lemmas.Option.{get_or_from_slice_get}
 use Rattle.zl_rights.specs.LookUp.{looked_up}
@@ -24,6 +24,12 @@ blank_started lib program image = by_program (slice_get lib program)
     by_program None is = absurd (none-some image is)
     by_program (Some g) is = ap (λ (x : Image). started_cpu x 0) (sym (same_Some g.image image is))
 
+-- what is written back as it was read changes nothing
+set_itself : {X : Type 0} (xs : List X) (i : ℕ) (x : X) → x ≡ get_or xs i x → slice_set xs i x ≡ xs
+set_itself [] i x is = refl
+set_itself (y ∷ xs) zero x is = ap (λ z. z ∷ xs) is
+set_itself (y ∷ xs) (suc i) x is = ap (λ rest. y ∷ rest) (set_itself xs i x is)
+
 module _ (lib : Library) (ps ps2 : List Process) (r : Objects) (blocked blocked2 : List ℕ) (place job program : ℕ) (same_ps : ps2 ≡ ps) (same_blocked : blocked2 ≡ blocked)
     (read : Process) (is_read : read ≡ get_or ps place read) (passes : None ≡ create_refusal lib read.table.entries r job program) (caller : Process) (there : slice_get ps place ≡ Some caller) where
   is_caller : read ≡ caller
@@ -40,6 +46,13 @@ module _ (lib : Library) (ps ps2 : List Process) (r : Objects) (blocked blocked2
     refused = λ i. lab ((same ∙ same_ps) i) (same_objects i) (same_blocked i);
   }
 
+  -- the handle wants memory
+  pub not_made : (written : Process) → written ≡ get_or ps2 place written → (table : Handles) → table ≡ written.table → (r2 : Objects) → r2 ≡ r → (s : Status) → s ≡ status.NoMemory
+      → ProcessCreateDoes lib place job program caller (lab ps r blocked) (Err s) (lab (slice_set ps2 place (record written { table = table })) r2 blocked2)
+  not_made written is_written table same_table r2 same_objects s is =
+      subst (λ (x : Status). ProcessCreateDoes lib place job program caller (lab ps r blocked) (Err x) (lab (slice_set ps2 place (record written { table = table })) r2 blocked2)) (sym is)
+      (wants_memory r2 same_objects (slice_set ps2 place (record written { table = table })) (ap (λ (t : Handles). slice_set ps2 place (record written { table = t })) same_table ∙ set_itself ps2 place written is_written))
+
   -- the process is made
   module _ (koid : ℕ) (is_job : option_map (λ (e : Entry). e.koid) (result_ok (looked_up read.table.entries job (kind.Job ∷ []) MANAGE_PROCESS)) ≡ Some koid)
       (image : Image) (is_image : option_map (λ (g : Program). g.image) (slice_get lib program) ≡ Some image)
@@ -49,7 +62,7 @@ module _ (lib : Library) (ps ps2 : List Process) (r : Objects) (blocked blocked2
     written_is : written ≡ caller
     written_is = is_written ∙ (ap (λ (xs : List Process). get_or xs place written) same_ps ∙ get_or_from_slice_get ps place caller written there)
 
-    after : Process
+    abbrev after : Process
     after = record written { table = table }
 
     record Above : Type 0 where

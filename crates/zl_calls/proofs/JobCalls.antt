@@ -400,7 +400,7 @@ module _ (lib : Library) (before after : List Process) (r r2 : Objects) (p p2 : 
       set_counts i = same_counts before after p p2 write r (setting_policy r job_koid c a) i (policy_queues c a r.objects job_koid i) sets.table
 
       set_next : IsNext before after r (setting_policy r job_koid c a)
-      set_next = rebodied_next (with_policy_body c a) (policy_keeps c a) before after r lab job_koid (λ o at. policy_named c a r job_koid o.body (lab.queued k o at)) set_counts
+      set_next = rebodied_next (with_policy_body c a) (policy_keeps c a) before after r lab job_koid (λ o at. policy_named c a r job_koid o.body (lab.queued job_koid o at)) set_counts
 
       set_called : IsCalled lib before after r r2 p.pid set_site (outcome.Answered status.Ok)
       unfolding effect gives_ok new_handles insert_all remove_all taken_handles handle_operands row_of

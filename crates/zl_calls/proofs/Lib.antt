@@ -64,6 +64,7 @@ pub mod WakeLoop
 pub mod Policies
 pub mod Freedom
 pub mod CallStepsDue
+pub mod CreateCalls
 pub mod CallSteps
 pub mod StepItems
 pub mod BootGiving

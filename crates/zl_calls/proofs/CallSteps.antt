@@ -14,7 +14,7 @@ use Rattle.zl_calls.specs.declared.process.Process.{Process}
 use Rattle.zl_calls.proofs.Answered.{IsWrite}
 use Rattle.zl_calls.proofs.Labs.{IsFree}
 use Rattle.zl_calls.proofs.Performing.{HasLeft, alone_so, write_of}
-use Rattle.zl_calls.proofs.CallStepsDue.{reaches_so}
+use Rattle.zl_calls.proofs.ReachSteps.{reaches_so}
 use Rattle.zl_calls.proofs.PolicedSteps.{policed_so}
 use Rattle.zl_calls.proofs.Freedom.{is_free}
 

@@ -67,7 +67,8 @@ pub mod WakeLoop
 pub mod Policies
 pub mod Freedom
 pub mod Idle
-pub mod CallStepsDue
+pub mod ReachDue
+pub mod ReachSteps
 pub mod CreateCalls
 pub mod CallSteps
 pub mod StepItems

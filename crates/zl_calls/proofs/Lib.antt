@@ -58,6 +58,7 @@ pub mod BlockedLists
 pub mod Sleeping
 pub mod Among
 pub mod AsyncCalls
+pub mod StartCalls
 pub mod CancelCalls
 pub mod Cancelled
 pub mod Performed

@@ -3,7 +3,7 @@ use Rattle.zl_calls.proofs.Common.{◌≡◌, ℕ, List, Objects, Agrees, world_
 use Rattle.zl_rights.specs.Signals.{active}
 use Rattle.zl_objects.specs.declared.object.Body.{Body}
 use Rattle.zl_objects.specs.declared.object.Body.TheVariants as body
-use Rattle.zl_objects.specs.Signals.{Shows, signals_at}
+use Rattle.zl_objects.specs.Signals.{ShowStates, Shows, signals_at}
 use Rattle.zl_objects.proofs.Showing.{are_active}
 use Rattle.zl_calls.specs.declared.process.Process.{Process}
 
@@ -15,10 +15,14 @@ shown w k body.Event agrees = tt
 shown w k (body.Port port) agrees = tt
 shown w k (body.ChannelEnd peer queue) agrees = tt
 
--- the signals of the object k, by the objects alone, are those that are active there
-pub signals_active : (ps : List Process) (r : Objects) → IsConsistent ps r → (k : ℕ) → signals_at r.objects k ≡ active (world_value ps r) k
-signals_active ps r lab k = are_active r.objects k (world_value ps r) (record {
+-- the objects of a lab show what its processes are in
+pub states_shown : (ps : List Process) (r : Objects) → IsConsistent ps r → ShowStates (world_value ps r) r.objects
+states_shown ps r lab = record {
   in_order = lab.kept.in_order;
   no_zero = lab.no_zero;
   shown = λ j o at. shown (world_value ps r) j o.body (lab.agrees j o at);
-})
+}
+
+-- the signals of the object k, by the objects alone, are those that are active there
+pub signals_active : (ps : List Process) (r : Objects) → IsConsistent ps r → (k : ℕ) → signals_at r.objects k ≡ active (world_value ps r) k
+signals_active ps r lab k = are_active r.objects k (world_value ps r) (states_shown ps r lab)

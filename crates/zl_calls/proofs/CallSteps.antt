@@ -15,7 +15,8 @@ use Rattle.zl_calls.proofs.Answered.{IsWrite}
 use Rattle.zl_calls.proofs.Labs.{IsFree}
 use Rattle.zl_calls.proofs.Performing.{HasActed, HasLeft, alone_so, moves_so, stops_so, write_of}
 use Rattle.zl_calls.proofs.Positions.{first_at}
-use Rattle.zl_calls.proofs.CallStepsDue.{policed_so, reaches_so}
+use Rattle.zl_calls.proofs.ReachSteps.{reaches_so}
+use Rattle.zl_calls.proofs.PolicedSteps.{policed_so}
 use Rattle.zl_calls.proofs.Freedom.{is_free}
 
 -- the process p stands at the place, under the pid, and is at the call

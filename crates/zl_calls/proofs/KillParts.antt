@@ -1,12 +1,12 @@
 -- What a kill makes of the list of processes: koids stay, and each process that is over closes its handles in turn.
-use Rattle.zl_rights.proofs.Common.{◌≡◌, ◌<◌, ◌≤◌, ◌+◌, ℕ, Bool, true, false, ◌&&◌, List, [], ◌∷◌, ◌++◌, length, map, take, drop, refl, sym, ap, ◌∙◌, subst, arith, zero, suc, get_or, IsTrue, nat_cmp, below_all, is_sorted, set, slice_get, state_passes, Option, Some, None, Result, Ok, filter, has_key, is_some, option_map, Map, get, each, append-nil, take_all, length-map}
+use Rattle.zl_rights.proofs.Common.{◌≡◌, ◌<◌, ◌≤◌, ◌+◌, ℕ, Bool, true, false, ◌&&◌, List, [], ◌∷◌, ◌++◌, length, map, take, drop, refl, sym, ap, ◌∙◌, subst, arith, zero, suc, get_or, IsTrue, nat_cmp, below_all, is_sorted, set, slice_get, state_passes, Option, Some, None, Result, Ok, filter, has_key, is_some, option_map, Map, get, each, append-nil, take_all, length-map, none-some, same_Some}
 use Rattle.std.specs.Ordering.{is_lt}
 use Rattle.zl_objects.specs.Objects.{Objects}
 use Rattle.zl_calls.specs.World.{process_entry, state_value}
 use Rattle.zl_calls.specs.declared.process.Process.{Process}
-use Rattle.zl_calls.specs.calls.Task.{ClosesAllEnded, ClosesEnded, TaskKillDoes, ended_if, ended_within, lab, none_left, one_more}
+use Rattle.zl_calls.specs.calls.Task.{ClosesAllEnded, ClosesEnded, IsCallerStill, TaskKillDoes, ended_if, ended_within, is_over, lab, lives_on, none_left, one_more}
 use Rattle.zl_calls.proofs.Keeping.{drop_here, none_behind}
-use Rattle.std.proofs.lemmas.Option.{get_or_from_slice_get}
+use Rattle.std.proofs.lemmas.Option.{get_or_from_slice_get, slice_get-map}
 use Rattle.zl_rights.proofs.MapLaws.{get-each}
 use Rattle.zl_rights.specs.LookUp.{looked_up}
 use Rattle.zl_rights.specs.Numbers.{DESTROY}
@@ -151,6 +151,23 @@ as_many_closed : (ps ps2 : List Process) (r r2 : Objects) → ClosesAllEnded ps 
 as_many_closed _ _ _ _ (none_left r) = refl
 as_many_closed _ _ _ _ (one_more p p2 ps ps2 r mid r2 first rest) = ap suc (as_many_closed ps ps2 mid r2 rest)
 
+still_one : (p p2 : Process) (r r2 : Objects) → ClosesEnded p r p2 r2 → p2.cpu ≡ p.cpu
+still_one _ _ _ _ (lives_on p r lives) = refl
+still_one _ _ _ _ (is_over p p2 r r2 over same none no_last drains) = ap (λ (q : Process). q.cpu) same
+
+still_closed : (ps ps2 : List Process) (r r2 : Objects) → ClosesAllEnded ps r ps2 r2 → (i : ℕ) (p : Process) → slice_get ps i ≡ Some p → IsCallerStill p (slice_get ps2 i)
+still_closed _ _ _ _ (none_left r) i p at = absurd (none-some p at)
+still_closed _ _ _ _ (one_more q q2 ps ps2 r mid r2 first rest) zero p at = still_one q q2 r mid first ∙ ap (λ (x : Process). x.cpu) (same_Some q p at)
+still_closed _ _ _ _ (one_more q q2 ps ps2 r mid r2 first rest) (suc i) p at = still_closed ps ps2 mid r2 rest i p at
+
+same_cpu : (killed : Bool) (p : Process) → (ended_if killed p).cpu ≡ p.cpu
+same_cpu true p = refl
+same_cpu false p = refl
+
+still_too : (p q : Process) → p.cpu ≡ q.cpu → (o : Option Process) → IsCallerStill p o → IsCallerStill q o
+still_too p q same None still = absurd still
+still_too p q same (Some x) still = still ∙ same
+
 module _ (n : ℕ) (ps d e d1 d2 ps2 : List Process) (r : Objects) (koid : ℕ) (long : n ≡ length ps) (same : d ≡ ps) (ended : e ≡ map (ended_within r koid) d)
     (same1 : d1 ≡ take n (e ++ drop (length e) ps)) (same2 : d2 ≡ take n (e ++ drop (length e) ps)) where
   all_ended : take n (e ++ drop (length e) ps) ≡ map (ended_within r koid) ps
@@ -173,6 +190,14 @@ module _ (n : ℕ) (ps d e d1 d2 ps2 : List Process) (r : Objects) (koid : ℕ) 
 
     pub still_as_many : length (take n (ps2 ++ drop (length ps2) (take n (e ++ drop (length e) ps)))) ≡ length ps
     still_as_many = ap (λ (qs : List Process). length qs) written ∙ as_many
+
+    pub still_back : (place : ℕ) (caller : Process) → slice_get ps place ≡ Some caller
+        → IsCallerStill caller (slice_get (take n (ps2 ++ drop (length ps2) (take n (e ++ drop (length e) ps)))) place)
+    still_back place caller at =
+        subst (λ (qs : List Process). IsCallerStill caller (slice_get qs place)) (sym written)
+        (still_too (ended_within r koid caller) caller (same_cpu _ caller) (slice_get ps2 place)
+        (still_closed (map (ended_within r koid) ps) ps2 between r2 closes_all place (ended_within r koid caller)
+        (slice_get-map (ended_within r koid) ps place ∙ ap (λ (o : Option Process). option_map (ended_within r koid) o) at)))
 
     pub killed_back : (blocked blocked2 : List ℕ) (place task : ℕ) (p : Process) → p ≡ get_or ps place p → (named : Entry) → named.koid ≡ koid
         → ◌≡◌ {A = Result Entry Status} (Ok named) (looked_up p.table.entries task (kind.Process ∷ kind.Job ∷ []) DESTROY)

@@ -1,5 +1,7 @@
 pub mod Common
 pub mod Plain
+pub mod Numbered
+pub mod Creating
 pub mod Departed
 pub mod Mapping
 pub mod Slots
@@ -49,13 +51,14 @@ pub mod WriteCalls
 pub mod ReadCalls
 pub mod WaitCalls
 pub mod ProcessCalls
-pub mod JobCallsDue
+pub mod JobCalls
 pub mod Repacked
 pub mod PortCalls
 pub mod BlockedLists
 pub mod Sleeping
 pub mod Among
 pub mod AsyncCalls
+pub mod StartCalls
 pub mod CancelCalls
 pub mod Cancelled
 pub mod Performed
@@ -65,7 +68,9 @@ pub mod WakeLoop
 pub mod Policies
 pub mod Freedom
 pub mod Idle
-pub mod CallStepsDue
+pub mod ReachDue
+pub mod ReachSteps
+pub mod CreateCalls
 pub mod CallSteps
 pub mod Calling
 pub mod StepItems

@@ -23,7 +23,7 @@ use Rattle.zl_calls.specs.declared.process.State.TheVariants as state
 use Rattle.zl_calls.specs.declared.tasks.Started.{Started}
 use Rattle.zl_calls.specs.declared.process.Process.{Process}
 use Rattle.zl_table.specs.Table.{Handles, Inserts}
-use Rattle.zl_calls.specs.calls.Task.{AreBare, Enters, IsCreatedAt, IsFound, ProcessStartDoes, child_refusal, lab, process_at, start_refusal}
+use Rattle.zl_calls.specs.calls.Task.{AreBare, Enters, IsCallerStill, IsCreatedAt, IsFound, ProcessStartDoes, child_refusal, lab, process_at, start_refusal}
 
 -- ---- the process that is found
 
@@ -160,7 +160,7 @@ module _ (lib : Library) (ps ps1 : List Process) (place process h : ℕ) (starte
   it_enters : (caller : Process) × Enters lib ps caller process h started ps1
   it_enters = let there : (x : Process) × (slice_get ps place ≡ Some x) = stands_at ps place within in (there.0, enters there.0 there.1)
 
-  as_many : length ps1 ≡ length ps
+  pub as_many : length ps1 ≡ length ps
   as_many = ap (λ (xs : List Process). length xs) it_enters.1.entered ∙ length-set ps started.place it_enters.1.child
 
   pub caller_inside : place < length ps1
@@ -168,6 +168,9 @@ module _ (lib : Library) (ps ps1 : List Process) (place process h : ℕ) (starte
 
   pub started_inside : started.place < length ps1
   started_inside = omega (arith, as_many, slice_get_within ps started.place it_enters.1.found.at.child it_enters.1.found.at.is_there)
+
+  pub written_twice : (i j : ℕ) (x y : Process) → length (slice_set (slice_set ps1 i x) j y) ≡ length ps
+  written_twice i j x y = length-set (slice_set ps1 i x) j y ∙ (length-set ps1 i x ∙ as_many)
 
 -- ---- a ready process starts another one
 
@@ -231,6 +234,12 @@ module _ (lib : Library) (ps : List Process) (r : Objects) (blocked : List ℕ) 
             ap (λ (xs : List Process). slice_set xs started.place q2) (first ∙ set_apart ps started.place place enters.child after apart)
             ∙ set_twice (slice_set ps place after) started.place enters.child q2
 
+        pub caller_still : IsCallerStill caller (slice_get (slice_set ps2 started.place q2) place)
+        caller_still =
+            subst (λ (o : Option Process). IsCallerStill caller o)
+            (sym (get_apart ps2 started.place place q2 apart ∙ get_set ps1 place caller (record p { table = t }) caller_stays))
+            (ap (λ (x : Process). x.cpu) is_it)
+
         pub starts_so : (r2 : Objects) → r2 ≡ starting r q.pid → ProcessStartDoes lib place process h word caller (lab ps r blocked) (Ok tt) (lab (slice_set ps2 started.place q2) r2 blocked)
         starts_so r2 begun = record {
           ok = record {
@@ -261,6 +270,12 @@ module _ (lib : Library) (ps : List Process) (r : Objects) (blocked : List ℕ) 
 
   -- the start was refused, and the handle closes
   module _ (refused : Status) (ps1 : List Process) (same : ps1 ≡ ps) (refuses : IsRefusedBy true (start_refusal lib ps caller.table.entries process h) refused) (p : Process) (read : p ≡ get_or ps1 place p) (t : Handles) (r2 : Objects) (closes : ClosesEach (h ∷ []) p.table r t r2) where
+    pub refused_still : IsCallerStill caller (slice_get (slice_set ps1 place (record p { table = t })) place)
+    refused_still =
+        subst (λ (o : Option Process). IsCallerStill caller o)
+        (sym (get_set ps1 place caller (record p { table = t }) (ap (λ (xs : List Process). slice_get xs place) same ∙ is_caller)))
+        (ap (λ (x : Process). x.cpu) (read ∙ (ap (λ (xs : List Process). get_or xs place p) same ∙ get_or_from_slice_get ps place caller p is_caller)))
+
     pub refused_so : ProcessStartDoes lib place process h word caller (lab ps r blocked) (Err refused) (lab (slice_set ps1 place (record p { table = t })) r2 blocked)
     refused_so =
         let is_it : p ≡ caller = read ∙ (ap (λ (xs : List Process). get_or xs place p) same ∙ get_or_from_slice_get ps place caller p is_caller) in

@@ -12,11 +12,12 @@ ghost use Rattle.zl_code.specs.Request.{site_of};
 ghost use Rattle.zl_code.specs.Sound.{is_blocked};
 ghost use Rattle.zl_calls.specs.Reaching.{Reaches, is_reaching};
 ghost use Rattle.zl_calls.specs.Registered.{KeepsListed};
-ghost use Rattle.zl_calls.specs.calls.Answer.{IsRefusedBy};
+ghost use Rattle.zl_calls.specs.Cpu.{register_set};
+ghost use Rattle.zl_calls.specs.calls.Answer.{IsRefusedBy, answered_in, no_value, status_of};
 ghost use Rattle.zl_calls.specs.World.{process_entry, state_value};
 ghost use Rattle.zl_code.specs.Starting.{cpu_given};
 ghost use Rattle.zl_objects.specs.Objects.{starting};
-ghost use Rattle.zl_calls.specs.calls.Task.{AreBare, ClosesAllEnded, ClosesEnded, Enters, IsCreatedAt, IsFound, IsReachedBy, ProcessCreateDoes, ProcessStartDoes, TaskKillDoes, child_refusal, ended_within, lab, process_at, start_refusal};
+ghost use Rattle.zl_calls.specs.calls.Task.{AreBare, ClosesAllEnded, ClosesEnded, EndsOrAnswers, Enters, IsCallerStill, IsCreatedAt, IsFound, IsReachedBy, ProcessCreateDoes, ProcessStartDoes, TaskKillDoes, child_refusal, ended_within, lab, process_at, start_refusal};
 
 use crate::calls::handle::{close_each, take_out};
 use crate::calls::process::{close_all, find_job, make_process, misfits};
@@ -26,7 +27,7 @@ use crate::process::{Process, State};
 use crate::program::Library;
 use crate::stepping::place_of;
 use std::alloc::{AllocError, Global};
-use zl_code::{CallInstr, Outcome};
+use zl_code::{CallInstr, Outcome, Register};
 use zl_objects::Objects;
 use zl_rights::{Entry, HValue, Kind, Koid, Pid, Rights, Status};
 use zl_table::Table;
@@ -90,18 +91,51 @@ pub fn reach(
             let (process, word) = (cpu.register(*process), cpu.register(*word));
             let value = cpu.register(*handle);
             let answer = process_start(library, processes, objects, place, process, value, word);
-            processes[place].cpu.set(*handle, 0);
-            Some(processes[place].answer(*status, answer))
+            Some(answer_taking(
+                &mut processes[place],
+                *status,
+                *handle,
+                answer,
+            ))
         }
         CallInstr::TaskKill { status, task } => {
             let task = processes[place].cpu.register(*task);
             let answer = task_kill(alloc, processes, objects, blocked, place, task);
-            match processes[place].state {
-                State::Ended(code) => Some(Outcome::Ended(code)),
-                _ => Some(processes[place].answer(*status, answer)),
-            }
+            Some(answer_unless_over(&mut processes[place], *status, answer))
         }
         _ => None,
+    }
+}
+
+/// The call that takes a handle is answered: the register of the handle becomes 0 before.
+fn answer_taking(
+    caller: &mut Process,
+    status: Register,
+    handle: Register,
+    answer: Result<(), Status>,
+) -> Outcome
+    requires { caller.old.cpu.counter < 2 ^ 32 }
+    ensures ends { result ≡ Outcome.Answered (status_of answer) }
+    ensures process { caller.new ≡ answered_in
+        (record caller.old { cpu = register_set caller.old.cpu handle 0 })
+        (status ∷ []) no_value answer }
+{
+    caller.cpu.set(handle, 0);
+    caller.answer(status, answer)
+}
+
+/// The call is answered, unless it has ended its caller.
+fn answer_unless_over(
+    caller: &mut Process,
+    status: Register,
+    answer: Result<(), Status>,
+) -> Outcome
+    requires { caller.old.cpu.counter < 2 ^ 32 }
+    ensures { EndsOrAnswers status answer caller.old result caller.new }
+{
+    match caller.state {
+        State::Ended(code) => Outcome::Ended(code),
+        _ => caller.answer(status, answer),
     }
 }
 
@@ -125,6 +159,7 @@ fn process_create(
     program: u64,
 ) -> Result<HValue, Status>
     requires place { place < length processes.old.items }
+    requires few { length blocked.old.items ≤ length processes.old.items }
     ensures does { (caller : Process) → slice_get processes.old.items place ≡ Some caller
         → ProcessCreateDoes library.now place job program caller
         (lab processes.old.items objects.old blocked.old.items) result
@@ -140,15 +175,19 @@ fn process_create(
         return Err(Status::NoMemory);
     };
     let pid = objects.end_of_koids();
-    let made = make_process(&mut processes[place].table, objects, job)?;
-    processes.push_reserved(Process {
-        pid,
-        program: program as usize,
-        state: State::Created,
-        cpu,
-        table: Table::new(alloc),
-    });
-    Ok(made)
+    match make_process(&mut processes[place].table, objects, job) {
+        Ok(made) => {
+            processes.push_reserved(Process {
+                pid,
+                program: program as usize,
+                state: State::Created,
+                cpu,
+                table: Table::new(alloc),
+            });
+            Ok(made)
+        }
+        Err(refused) => Err(refused),
+    }
 }
 
 /// Makes room for one process more, and for each process in the list of the blocked.
@@ -189,11 +228,14 @@ fn process_start(
     requires bare { AreBare processes.old.items }
     requires ready { (caller : Process) → slice_get processes.old.items place ≡ Some caller
         → is_ready (state_value caller.state) ≡ true }
-    ensures { (blocked : List ℕ) (caller : Process)
+    ensures does { (blocked : List ℕ) (caller : Process)
         → slice_get processes.old.items place ≡ Some caller
         → ProcessStartDoes library.now place process handle word caller
         (lab processes.old.items objects.old blocked) result
         (lab processes.new.items objects.new blocked) }
+    ensures caller { (caller : Process) → slice_get processes.old.items place ≡ Some caller
+        → IsCallerStill caller (slice_get processes.new.items place) }
+    ensures count { length processes.new.items ≡ length processes.old.items }
 {
     match enter(library, processes, place, process, handle) {
         Ok(started) => {
@@ -322,6 +364,8 @@ fn task_kill(
     ensures does { (caller : Process) → slice_get processes.old.items place ≡ Some caller
         → TaskKillDoes task caller (lab processes.old.items objects.old blocked.old.items) result
         (lab processes.new.items objects.new blocked.new.items) }
+    ensures caller { (caller : Process) → slice_get processes.old.items place ≡ Some caller
+        → IsCallerStill caller (slice_get processes.new.items place) }
     ensures count { length processes.new.items ≡ length processes.old.items }
     ensures capacity { vec_capacity blocked.new ≡ vec_capacity blocked.old }
 {

@@ -10,6 +10,8 @@ use Rattle.zl_code.specs.Image.{Program}
 use Rattle.zl_code.specs.Jobs.{is_allowing, misfits}
 use Rattle.zl_code.specs.Sound.{is_blocked}
 use Rattle.zl_code.specs.Starting.{cpu_given, created_process, is_created}
+use Rattle.zl_code.specs.declared.history.Outcome.{Outcome}
+use Rattle.zl_code.specs.declared.history.Outcome.TheVariants as outcome
 use Rattle.zl_rights.specs.LookUp.{looked_up}
 use Rattle.zl_rights.specs.Numbers.{DESTROY, KILLED, MANAGE_PROCESS, TRANSFER, WRITE}
 use Rattle.zl_rights.specs.Signals.{lives, state_passes}
@@ -27,9 +29,10 @@ use Rattle.zl_objects.specs.declared.object.Body.TheVariants as body
 use Rattle.zl_objects.specs.declared.object.Life.TheVariants as life
 use Rattle.zl_calls.specs.Registered.{KeepsListed}
 use Rattle.zl_calls.specs.World.{process_entry, process_value, state_value}
-use Rattle.zl_calls.specs.calls.Answer.{ClosesEach, IsRefusedBy, has_room_in, without_handle}
+use Rattle.zl_calls.specs.calls.Answer.{ClosesEach, IsRefusedBy, answered_in, has_room_in, no_value, status_of, without_handle}
 use Rattle.zl_calls.specs.calls.Process.{Drained}
 use Rattle.zl_calls.specs.declared.process.Process.{Process}
+use Rattle.zl_calls.specs.declared.process.State.{State}
 use Rattle.zl_calls.specs.declared.process.State.TheVariants as state
 use Rattle.zl_calls.specs.declared.tasks.Started.{Started}
 
@@ -58,6 +61,26 @@ with_caller processes place p = slice_set processes place p
 pub record IsCaller (l : Lab) (place : ℕ) (caller after : Process) : Type 0 where
   pub is_there : slice_get l.processes place ≡ Some caller
   pub same : after ≡ record caller { table = after.table }
+
+-- the caller is there still, at the same place with the same Cpu
+abbrev pub IsCallerStill : Process → Option Process → Type 0
+IsCallerStill caller None = ⊥
+IsCallerStill caller (Some p) = p.cpu ≡ caller.cpu
+
+-- how the call of a process in this state ends: with the end of the caller, or with the answer
+abbrev pub ending_of : Status → State → Outcome
+ending_of answer (state.Ended code) = outcome.Ended code
+ending_of answer s = outcome.Answered answer
+
+-- the registers after it; those of a process that has ended stay
+abbrev pub told_unless_over : ℕ → Result ⊤ Status → State → Process → Process
+told_unless_over status answer (state.Ended code) p = p
+told_unless_over status answer s p = answered_in p (status ∷ []) no_value answer
+
+-- the caller has ended, or is answered
+pub record EndsOrAnswers (status : ℕ) (answer : Result ⊤ Status) (p : Process) (o : Outcome) (p2 : Process) : Type 0 where
+  pub ends : o ≡ ending_of (status_of answer) p.state
+  pub told : p2 ≡ told_unless_over status answer p.state p
 
 -- such a call was done, or else it was refused
 pub record Tries {A : Type 0} (Done : A → Lab → Type 0) (Refuses : Lab → Type 0) (wants : Bool) (refusal : Option Status) (answer : Result A Status) (l2 : Lab) : Type 0 where

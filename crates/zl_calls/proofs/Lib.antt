@@ -29,6 +29,9 @@ pub mod Counting
 pub mod Counted
 pub mod SameBodies
 pub mod Settled
+pub mod Keeping
+pub mod StartParts
+pub mod KillParts
 pub mod Labs
 pub mod Active
 pub mod Written
@@ -55,6 +58,7 @@ pub mod BlockedLists
 pub mod Sleeping
 pub mod Among
 pub mod AsyncCalls
+pub mod StartCalls
 pub mod CancelCalls
 pub mod Cancelled
 pub mod Performed
@@ -63,9 +67,12 @@ pub mod Woken
 pub mod WakeLoop
 pub mod Policies
 pub mod Freedom
-pub mod CallStepsDue
+pub mod Idle
+pub mod ReachDue
+pub mod ReachSteps
 pub mod CreateCalls
 pub mod CallSteps
+pub mod Calling
 pub mod StepItems
 pub mod BootGiving
 pub mod BootFaults
@@ -78,3 +85,5 @@ pub mod BootBlocked
 pub mod Examining
 pub mod Verdicts
 pub mod Denials
+pub mod Policing
+pub mod PolicedSteps

@@ -1,5 +1,4 @@
 use Rattle.zl_calls.proofs.Common.{site_of}
-use Rattle.zl_calls.proofs.Denials.{killed_calls}
 use Rattle.zl_calls.proofs.Verdicts.{denied_so}
 use Rattle.zl_calls.proofs.policy.by_policy.Goals as goal
 

@@ -2,7 +2,6 @@
 use Rattle.zl_calls.proofs.Common.{rules, ◌≡◌, [], call_parts, handle_operands, row_of, site_of, ◌∙◌, refl}
 use Rattle.std.specs.Result.{result_err}
 use Rattle.zl_calls.proofs.Examining.{closed, if_there, last_fault, list_examined}
-use Rattle.zl_calls.proofs.Policies.{refused_by}
 use Rattle.zl_calls.specs.Policed.{operands_fault}
 use Rattle.zl_calls.proofs.policy.examine.Goals as goal
 

@@ -92,7 +92,7 @@ module _ (before : List Process) (r : Objects) (lab : IsConsistent before r) (p 
   handles = table_of old_world p
 
   -- what a handle of the process names
-  abbrev AllNamed : Type 0
+  abbrev pub AllNamed : Type 0
   AllNamed = (h : ℕ) (e : Entry) → get handles h ≡ Some e → IsNamed r.objects e
 
   -- a living child stands below the job where the objects say so

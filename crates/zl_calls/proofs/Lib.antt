@@ -78,6 +78,7 @@ pub mod BootGiving
 pub mod BootFaults
 pub mod BootMaking
 pub mod BootObjects
+pub mod BootJobs
 pub mod BootLab
 pub mod BootRun
 pub mod BootBlocked

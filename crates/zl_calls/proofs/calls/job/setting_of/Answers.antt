@@ -1,5 +1,3 @@
-use Rattle.zl_calls.proofs.CreateCalls.{created_calls, created_keeps, created_blocked}
-use Rattle.zl_calls.proofs.JobCalls.{job_create_done, job_set_policy_done}
 use Rattle.zl_calls.proofs.Numbered.{no_action, no_condition, no_mode, all_known}
 use Rattle.zl_calls.proofs.calls.job.setting_of.Goals as goal
 

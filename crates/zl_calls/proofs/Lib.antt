@@ -59,6 +59,7 @@ pub mod Sleeping
 pub mod Among
 pub mod AsyncCalls
 pub mod StartCalls
+pub mod ReachParts
 pub mod CancelCalls
 pub mod Cancelled
 pub mod Performed

@@ -33,7 +33,6 @@ use Rattle.zl_calls.proofs.Counting.{queues_grown}
 use Rattle.zl_calls.proofs.Grown.{found_grown, grown_in_order, grown_named, grown_seen, growing_none, job_grown, still_in_job, still_kept, there_grown, unnamed}
 use Rattle.zl_calls.proofs.JobCalls.{AllNamed, IsJobAt, body_seen, is_of_kind, job_found, job_named}
 use Rattle.zl_calls.proofs.BlockedLists.{still_blocked}
-use Rattle.zl_calls.proofs.Performing.{there}
 use Rattle.zl_calls.proofs.Refused.{answers, fault_answers, may_create}
 use Rattle.zl_calls.proofs.SameBodies.{kept_each, still_agrees, still_named}
 use Rattle.zl_calls.proofs.Tables.{found_inserted, inserted_table}

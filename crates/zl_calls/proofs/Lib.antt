@@ -58,6 +58,7 @@ pub mod Among
 pub mod AsyncCalls
 pub mod StartCalls
 pub mod ReachParts
+pub mod StartSteps
 pub mod CancelCalls
 pub mod Cancelled
 pub mod Performed

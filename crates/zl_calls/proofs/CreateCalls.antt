@@ -542,14 +542,3 @@ module _ (lib : Library) (ps : List Process) (r : Objects) (whole : IsConsistent
 
   pub create_so : (o : Outcome) → IsAnsweredIn (told_by one_value) (ProcessCreateDoes lib place job program p) s place (lab ps r blocked) o l2 → Left o
   create_so o does = subst Left (sym does.ends) (by_answer does.answer does.between does.does does.is_told)
-
--- the same at any site whose request it is
-module _ (lib : Library) (ps : List Process) (r : Objects) (whole : IsConsistent ps r) (blocked : List ℕ) (are : AreBlocked ps blocked) (sound : IsSoundWorld (world_blocked ps r blocked)) (pid place : ℕ) (p : Process)
-    (found : Some place ≡ position (λ q. q.pid == pid) ps) (read : p ≡ get_or ps place p) (is_ready_there : is_ready (state_value p.state) ≡ true)
-    (name : CallName) (s : Site) (next : next_for lib (process_value p) ≡ AtCall name s) (free : IsFree lib (world_value ps r) p.pid name) where
-  pub created_so : (job program : ℕ) → s.request ≡ process_create job program → (o : Outcome) (l2 : Lab) → IsAnsweredIn (told_by one_value) (ProcessCreateDoes lib place job program p) s place (lab ps r blocked) o l2
-      → HasLeft lib ps l2.processes r l2.objects blocked l2.blocked pid (item.Call pid name o)
-  created_so job program is o l2 does =
-      let same : s ≡ site (process_create job program) s.consumed s.destinations = λ i. record s { request = is i } in
-      create_so lib ps r whole blocked are sound pid place p found read is_ready_there name free job program s.consumed s.destinations (next ∙ ap (λ (t : Site). AtCall name t) same) l2 o
-      (subst (λ (t : Site). IsAnsweredIn (told_by one_value) (ProcessCreateDoes lib place job program p) t place (lab ps r blocked) o l2) same does)

@@ -80,10 +80,10 @@ module _ (lib : Library) (before after : List Process) (r r2 : Objects) (p p2 : 
     koids = koids_left p.table.entries n creates.unrefused
 
     growing : IsGrowing before ((made.0, first) ∷ []) with_first
-    growing = grown_one before [] r (growing_none before r lab) first_end (λ j. refl) (λ not. not runs) refl refl (omega (arith, koids)) refl (made.0, first) refl
+    growing = grown_one before [] r (growing_none before r lab) first_end (λ not. not runs) refl refl (omega (arith, koids)) refl (made.0, first) refl
 
     growing_both : IsGrowing before ((made.1, second) ∷ (made.0, first) ∷ []) with_both
-    growing_both = grown_one before ((made.0, first) ∷ []) with_first growing second_end (λ j. refl) (λ not. not runs) refl refl (omega (arith, koids)) apart (made.1, second) refl
+    growing_both = grown_one before ((made.0, first) ∷ []) with_first growing second_end (λ not. not runs) refl refl (omega (arith, koids)) apart (made.1, second) refl
       where
         other : (n == n + 1) ≡ false
         other = ne_eqb n (n + 1) (omega arith)

@@ -1,6 +1,5 @@
--- What a verdict makes of a call for the definitions: it is answered, or its caller ends; and that without one the call is as where no policy has a say.
-use Rattle.zl_code.proofs.Common.{◌≡◌, ℕ, Bool, true, false, List, [], ◌∷◌, refl, sym, ap, ◌∙◌, Option, Some, None, none-some, true≢false, get, World, Library, Request, Site, chan_create, chan_read_etc, event_create, examined, handle_operands, listed, row_of, refusal, gives_refused, remove_all, taken_handles, replied, ended, Calls, Refused}
-use Rattle.std.specs.Option.{option_map, option_or}
+-- What a verdict makes of a call for the definitions: it is answered, or its caller ends.
+use Rattle.zl_code.proofs.Common.{◌≡◌, ℕ, Bool, true, false, [], refl, sym, ap, ◌∙◌, Option, Some, None, none-some, true≢false, get, World, Library, Request, Site, chan_create, chan_read_etc, event_create, handle_operands, row_of, refusal, gives_refused, remove_all, taken_handles, replied, ended, Calls, Refused}
 use Rattle.zl_rights.specs.Common.{Map}
 use Rattle.zl_rights.specs.Numbers.{BY_POLICY}
 use Rattle.zl_rights.specs.declared.entry.Entry.{Entry}
@@ -11,35 +10,15 @@ use Rattle.zl_rights.specs.declared.policy.Condition.TheVariants as condition
 use Rattle.zl_rights.specs.declared.status.Status.{Status}
 use Rattle.zl_rights.specs.declared.status.Status.TheVariants as status
 use Rattle.zl_code.specs.CallTable.{port_create, process_create, wait_poll}
-use Rattle.zl_code.specs.First.{first_some}
 use Rattle.zl_code.specs.Refusals.{condition_of}
-use Rattle.zl_code.specs.Tests.{by_policy, table_of}
-use Rattle.zl_code.specs.declared.history.Outcome.{Outcome}
 use Rattle.zl_code.specs.declared.history.Outcome.TheVariants as outcome
 use Rattle.zl_objects.specs.Jobs.{action_of, job_at}
 use Rattle.zl_objects.specs.Objects.{job_in}
 use Rattle.zl_objects.specs.declared.object.Object.{Object}
-use Rattle.zl_calls.specs.Policed.{on_fault_by, on_making, operands_fault, verdict_by, verdict_in, verdict_on}
+use Rattle.zl_calls.specs.Policed.{on_fault_by, operands_fault, verdict_by, verdict_in, verdict_on}
 use Rattle.zl_calls.specs.declared.policy.Verdict.{Verdict}
 use Rattle.zl_calls.specs.declared.policy.Verdict.TheVariants as verdict
-use Rattle.zl_calls.proofs.Plain.{bare, refusal as bare_refusal}
-use Rattle.zl_calls.proofs.Policies.{IsSeen, answers, by_fault, by_making, by_verdict, decides, ending, examined_fault, plain_refusal, policy_making, unpoliced, verdict_allowed}
-
--- ---- no verdict
-
-module _ (lib : Library) (w : World) (p : ℕ) (request : Request) where
-  -- a world without objects has no policy, and so its faults are plain ones
-  bare_is_plain : bare_refusal lib w p request ≡ plain_refusal lib w p request
-  unfolding bare_refusal plain_refusal get
-  bare_is_plain =
-      let fault : Option Status = operands_fault (table_of w p) [] (handle_operands request) in
-      (λ i. first_some (examined_fault (bare w) p [] (handle_operands request) i ∷ policy_making (bare w) p (condition_of request) i ∷ listed lib w p request))
-      ∙ (by_verdict (decides (bare w) p) fault (condition_of request) (listed lib w p request)
-      ∙ ap (λ v. option_or (option_map ending v) (first_some (answers fault ∷ listed lib w p request))) (verdict_allowed fault (condition_of request)))
-
-  -- where no policy has a verdict, the call is refused as where none has a say
-  pub free_of_policy : (entries : Map Entry) (objects : Map Object) → IsSeen w p entries objects → verdict_on entries objects p request ≡ None → refusal lib w p request ≡ bare_refusal lib w p request
-  free_of_policy entries objects seen none = unpoliced lib w p entries objects seen request none ∙ sym bare_is_plain
+use Rattle.zl_calls.proofs.Policies.{ending}
 
 -- ---- a verdict
 

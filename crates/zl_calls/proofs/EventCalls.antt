@@ -162,7 +162,7 @@ module _ (lib : Library) (before after : List Process) (r r2 : Objects) (p p2 : 
       create_counts j = omega (arith, inserted_counts before after p p2 write entry made creates.inserts grown grown j refl, sum_by-cons (λ (h : ℕ × Entry). cond (h.1.koid == j) 1 0) (made, entry) [])
 
       growing : IsGrowing before ((made, entry) ∷ []) grown
-      growing = grown_one before [] r (growing_none before r lab) body.Event (λ j. refl) (λ not. not runs) refl refl creates.koid refl (made, entry) refl
+      growing = grown_one before [] r (growing_none before r lab) body.Event (λ not. not runs) refl refl creates.koid refl (made, entry) refl
 
       create_next : IsNext before after r grown
       create_next = entered_next before after ((made, entry) ∷ []) r grown growing (omega arith) (grown_named before [] r (growing_none before r lab) body.Event) create_counts

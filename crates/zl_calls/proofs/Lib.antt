@@ -1,5 +1,7 @@
 pub mod Common
 pub mod Plain
+pub mod Numbered
+pub mod Creating
 pub mod Departed
 pub mod Mapping
 pub mod Slots
@@ -49,7 +51,7 @@ pub mod WriteCalls
 pub mod ReadCalls
 pub mod WaitCalls
 pub mod ProcessCalls
-pub mod JobCallsDue
+pub mod JobCalls
 pub mod Repacked
 pub mod PortCalls
 pub mod BlockedLists
@@ -69,13 +71,17 @@ pub mod WakeLoop
 pub mod Policies
 pub mod Freedom
 pub mod Idle
-pub mod CallStepsDue
+pub mod ReachDue
+pub mod ReachSteps
+pub mod CreateCalls
 pub mod CallSteps
+pub mod Calling
 pub mod StepItems
 pub mod BootGiving
 pub mod BootFaults
 pub mod BootMaking
 pub mod BootObjects
+pub mod BootJobs
 pub mod BootLab
 pub mod BootRun
 pub mod BootBlocked

@@ -1,12 +1,12 @@
--- A call in the midst of all processes, as the policy of its process's job has it: ended, where there is a verdict, and else free of policies.
-use Rattle.zl_calls.proofs.Common.{◌≡◌, ℕ, true, false, ◌==◌, List, map, get_or, set, refl, sym, ap, ◌∙◌, subst, Option, Some, None, same_Some, position, get, is_ready, Ready, Library, Request, Site, AtCall, next_for, Objects, object_entry, process_entry, process_value, state_value, world_blocked, AreBlocked, IsConsistent, World}
-use Rattle.zl_code.proofs.Common.{Next, Process as ProcessValue, is_blocked}
+-- A call in the midst of all processes that the policy of its process's job ends.
+use Rattle.zl_calls.proofs.Common.{◌≡◌, ℕ, true, false, ◌==◌, List, get_or, set, refl, sym, ap, subst, Some, position, is_ready, Ready, Library, Site, AtCall, next_for, Objects, process_value, state_value, world_blocked, AreBlocked, IsConsistent}
+use Rattle.zl_code.proofs.Common.{is_blocked}
 use Rattle.zl_code.specs.Sound.{IsSound as IsSoundWorld}
 use Rattle.zl_code.specs.declared.history.CallName.{CallName}
 use Rattle.zl_code.specs.declared.history.Outcome.{Outcome}
 use Rattle.zl_code.specs.declared.history.TraceItem.TheVariants as item
 use Rattle.zl_code.proofs.Waiters.{is_blocking}
-use Rattle.zl_calls.specs.Policed.{EndsBy, Policed, verdict_on}
+use Rattle.zl_calls.specs.Policed.{EndsBy, Policed}
 use Rattle.zl_calls.specs.Reaching.{IsAlone}
 use Rattle.zl_calls.specs.calls.Task.{Lab, lab}
 use Rattle.zl_calls.specs.declared.policy.Verdict.{Verdict}
@@ -14,11 +14,9 @@ use Rattle.zl_calls.specs.declared.policy.Verdict.TheVariants as verdict
 use Rattle.zl_calls.specs.declared.process.Process.{Process}
 use Rattle.zl_calls.proofs.Answered.{IsWrite}
 use Rattle.zl_calls.proofs.BlockedLists.{same_list, still_blocked}
-use Rattle.zl_calls.proofs.Denials.{free_of_policy}
-use Rattle.zl_calls.proofs.Departed.{left_all, left_blocked, left_keeps}
-use Rattle.zl_calls.proofs.Labs.{IsFree}
+use Rattle.zl_calls.proofs.Departed.{left_blocked, left_keeps}
 use Rattle.zl_calls.proofs.Performing.{HasLeft, key, ready_state, write_of}
-use Rattle.zl_calls.proofs.Policing.{no_job, none_at_zero, policed_acts, policed_goes, policed_keeps, policed_unblocked}
+use Rattle.zl_calls.proofs.Policing.{policed_acts, policed_goes, policed_keeps, policed_unblocked}
 
 -- a call that a policy ends leaves its process its pid
 same_pid : (s : Site) (p p2 : Process) (r r2 : Objects) (o : Outcome) → Policed s p r o p2 r2 → p2.pid ≡ p.pid
@@ -27,11 +25,6 @@ same_pid s p p2 r r2 o judged = by_verdict judged.verdict judged.ends
     by_verdict : (v : Verdict) → EndsBy v s p r o p2 r2 → p2.pid ≡ p.pid
     by_verdict verdict.Denied ends = ap (λ (q : Process). q.pid) ends.replied
     by_verdict verdict.Killed ends = ap (λ (q : Process). q.pid) ends.over.process
-
--- the site of a call that stands next
-abbrev site_or : Site → Next → Site
-site_or s (AtCall call at) = at
-site_or s _ = s
 
 -- the process p stands at the place, under the pid, and is at the call
 module _ (lib : Library) (ps : List Process) (r : Objects) (whole : IsConsistent ps r) (blocked : List ℕ) (are : AreBlocked ps blocked) (sound : IsSoundWorld (world_blocked ps r blocked)) (pid place : ℕ) (p : Process)
@@ -45,9 +38,6 @@ module _ (lib : Library) (ps : List Process) (r : Objects) (whole : IsConsistent
 
   write : (p2 : Process) → p2.pid ≡ p.pid → IsWrite ps (set ps place p2) p p2
   write p2 same = write_of lib ps r whole blocked are sound pid place p found read p2 same
-
-  there : get (map process_entry ps) p.pid ≡ Some (process_value p)
-  there = (write p refl).there
 
   ended_by : (o : Outcome) (p2 : Process) (r2 : Objects) → Policed s p r o p2 r2 → HasLeft lib ps (set ps place p2) r r2 blocked blocked pid (item.Call pid name o)
   ended_by o p2 r2 judged =
@@ -68,17 +58,3 @@ module _ (lib : Library) (ps : List Process) (r : Objects) (whole : IsConsistent
   policed_so o p2 l2 alone judged =
       subst (λ (b : List ℕ). HasLeft lib ps l2.processes r l2.objects blocked b pid (item.Call pid name o)) (sym alone.blocked)
       (subst (λ (qs : List Process). HasLeft lib ps qs r l2.objects blocked blocked pid (item.Call pid name o)) (sym alone.processes) (ended_by o p2 l2.objects judged))
-
-  -- where there is no verdict no policy has a say, whatever waits
-  pub is_free : verdict_on p.table.entries r.objects p.pid s.request ≡ None → (w : World) → w.processes ≡ map process_entry ps → w.objects ≡ map object_entry r.objects → IsFree lib w p.pid name
-  is_free none w processes objects q at q_there q_next =
-      let is : q ≡ process_value p = same_Some q (process_value p) (sym q_there ∙ (ap (λ m. get m p.pid) processes ∙ there)) in
-      let site_is : at ≡ s = ap (site_or s) (sym q_next ∙ (ap (next_for lib) is ∙ next)) in
-      free_of_policy lib w p.pid at.request p.table.entries r.objects
-      (record {
-        objects_are = objects;
-        table_is = rw (ap (λ m. get m p.pid) processes ∙ there) refl;
-        no_job = no_job ps r whole p there ready;
-        none_at_zero = none_at_zero ps r whole p there ready;
-      })
-      (ap (λ (x : Site). verdict_on p.table.entries r.objects p.pid x.request) site_is ∙ none)

@@ -12,12 +12,12 @@ use Rattle.zl_rights.specs.declared.policy.Condition.{Condition}
 use Rattle.zl_rights.specs.declared.policy.Condition.TheVariants as condition
 use Rattle.zl_rights.specs.declared.status.Status.{Status}
 use Rattle.zl_rights.specs.declared.status.Status.TheVariants as status
-use Rattle.zl_code.proofs.Common.{get, refusal, examined, operand, handle_operands, listed, ap, refl, sym, ◌∙◌, false≢true, true≢false}
+use Rattle.zl_code.proofs.Common.{get, refusal, examined, operand, handle_operands, listed, ap, refl, ◌∙◌, true≢false}
 use Rattle.zl_code.specs.CallTable.{Request}
 use Rattle.zl_code.specs.First.{first_some}
 use Rattle.zl_code.specs.Image.{Library}
 use Rattle.zl_code.specs.Refusals.{condition_of}
-use Rattle.zl_code.specs.Tests.{Operand, action_of, body_in, body_of, by_look_up, by_policy, contains, creates, ends_if_kill, entry_at, operand_after, parent_in, parent_of, policy_in, seen_after, table_of, unless_allowed}
+use Rattle.zl_code.specs.Tests.{Operand, action_of, body_in, by_look_up, by_policy, contains, creates, ends_if_kill, entry_at, operand_after, parent_in, parent_of, policy_in, seen_after, table_of, unless_allowed}
 use Rattle.zl_code.specs.declared.history.Outcome.{Outcome}
 use Rattle.zl_code.specs.declared.history.Outcome.TheVariants as outcome
 use Rattle.zl_objects.proofs.Law.{get_seen}
@@ -27,7 +27,7 @@ use Rattle.zl_objects.specs.Seen.{body_value, object_entry, object_value}
 use Rattle.zl_objects.specs.declared.object.Body.{Body}
 use Rattle.zl_objects.specs.declared.object.Body.TheVariants as body
 use Rattle.zl_objects.specs.declared.object.Object.{Object}
-use Rattle.zl_calls.specs.Policed.{fault_after, on_fault, on_fault_by, on_making, operands_fault, verdict_by, verdict_in, verdict_on}
+use Rattle.zl_calls.specs.Policed.{fault_after, on_fault_by, on_making, operands_fault, verdict_by, verdict_in, verdict_on}
 use Rattle.zl_calls.specs.declared.policy.Verdict.{Verdict}
 use Rattle.zl_calls.specs.declared.policy.Verdict.TheVariants as verdict
 

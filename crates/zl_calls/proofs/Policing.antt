@@ -1,9 +1,9 @@
 -- A call that the policy of its process's job ends: it is a step up to where processes wake, and the invariant holds afterwards.
-use Rattle.zl_calls.proofs.Common.{◌≡◌, ◌==◌, ℕ, true, false, not, List, [], map, refl, sym, ap, ◌∙◌, subst, Option, Some, None, IsTrue, arith, get, is_process, runs, Ready, Library, Site, Request, AtCall, next_for, Agrees, Objects, AreBlocked, process_entry, process_value, state_value, world_blocked, world_value, IsConsistent, IsActed, World}
+use Rattle.zl_calls.proofs.Common.{◌≡◌, ◌==◌, ℕ, false, not, List, [], refl, sym, ap, ◌∙◌, subst, Some, is_ready, Ready, Library, Site, AtCall, next_for, Objects, AreBlocked, process_value, state_value, world_blocked, world_value, IsConsistent, IsActed, World}
 use Rattle.std.specs.List.{filter}
 use Rattle.zl_rights.specs.Numbers.{BY_POLICY}
 use Rattle.zl_rights.specs.declared.status.Status.TheVariants as status
-use Rattle.zl_code.proofs.Common.{IsSound as IsSoundWorld, is_blocked, true≢false, ended, replied}
+use Rattle.zl_code.proofs.Common.{IsSound as IsSoundWorld, is_blocked, ended, replied}
 use Rattle.zl_code.specs.Calls.{Calls}
 use Rattle.zl_code.specs.Refusals.{refusal as policed_refusal}
 use Rattle.zl_code.proofs.StepsBeside.{ActsAndSettles}
@@ -11,12 +11,7 @@ use Rattle.zl_code.proofs.StepsWaiting.{settles_waiting, is_left as is_left_at_p
 use Rattle.zl_code.proofs.Waiters.{ended_among, is_blocking, replied_among, with_waiters}
 use Rattle.zl_code.specs.declared.history.CallName.{CallName}
 use Rattle.zl_code.specs.declared.history.Outcome.{Outcome}
-use Rattle.zl_code.specs.declared.history.Outcome.TheVariants as outcome
 use Rattle.zl_code.specs.declared.history.TraceItem.TheVariants as item
-use Rattle.zl_objects.specs.Objects.{is_job_body, is_job_in}
-use Rattle.zl_objects.specs.declared.object.Body.{Body}
-use Rattle.zl_objects.specs.declared.object.Body.TheVariants as body
-use Rattle.zl_objects.specs.declared.object.Object.{Object}
 use Rattle.zl_calls.specs.Acted.{Exits}
 use Rattle.zl_calls.specs.Policed.{EndsBy, IsDenied, Policed, verdict_on}
 use Rattle.zl_calls.specs.Registered.{world_left}
@@ -25,50 +20,14 @@ use Rattle.zl_calls.specs.declared.policy.Verdict.TheVariants as verdict
 use Rattle.zl_calls.specs.declared.process.Process.{Process}
 use Rattle.zl_calls.proofs.Answered.{IsWrite, same_world}
 use Rattle.zl_calls.proofs.BlockedLists.{none_filtered}
-use Rattle.zl_calls.proofs.Denials.{denied_calls, denied_object, free_of_policy, killed_calls}
+use Rattle.zl_calls.proofs.Denials.{denied_calls, denied_object, killed_calls}
 use Rattle.zl_calls.proofs.Departed.{left_all, settled_world}
 use Rattle.zl_calls.proofs.LeftWaits.{left_by}
-use Rattle.zl_calls.proofs.Plain.{refusal as bare_refusal}
-use Rattle.zl_calls.proofs.Policies.{IsSeen, ending, policed}
+use Rattle.zl_calls.proofs.Freedom.{is_seen}
+use Rattle.zl_calls.proofs.Policies.{ending, policed}
 use Rattle.zl_calls.proofs.ProcessCalls.{ended_is, ends_keeps, settles}
 use Rattle.zl_calls.proofs.Settled.{still_settles}
 use Rattle.zl_calls.proofs.Written.{refusal_keeps}
-
--- ---- what is seen of a ready process of a lab
-
-module _ (before : List Process) (r : Objects) (lab : IsConsistent before r) (p : Process) (there : get (map process_entry before) p.pid ≡ Some (process_value p)) (ready : state_value p.state ≡ Ready) where
-  runs_there : is_process (world_value before r) runs p.pid ≡ true
-  unfolding is_process
-  runs_there = rw (there, ready) refl
-
-  pub no_job : is_job_in (get r.objects p.pid) ≡ false
-  no_job = by_object (get r.objects p.pid) refl
-    where
-      by_body : (b : Body) → Agrees (world_value before r) p.pid b → is_job_body b ≡ false
-      by_body (body.Job job) agrees = absurd (true≢false (sym runs_there ∙ agrees))
-      by_body _ agrees = refl
-
-      by_object : (o : Option Object) → get r.objects p.pid ≡ o → is_job_in o ≡ false
-      by_object None is = refl
-      by_object (Some o) is = by_body o.body (lab.agrees p.pid o is)
-
-  pub none_at_zero : get r.objects 0 ≡ None
-  none_at_zero = by_object (get r.objects 0) refl
-    where
-      by_object : (o : Option Object) → get r.objects 0 ≡ o → get r.objects 0 ≡ None
-      by_object None is = is
-      by_object (Some o) is = absurd (omega (arith, lab.no_zero 0 (rw is refl)))
-
-  -- whichever processes block
-  pub seen_lab : (blocked : List ℕ) → IsSeen (world_blocked before r blocked) p.pid p.table.entries r.objects
-  seen_lab blocked = record { objects_are = refl; table_is = rw there refl; no_job = no_job; none_at_zero = none_at_zero }
-
-  pub seen_world : IsSeen (world_value before r) p.pid p.table.entries r.objects
-  seen_world = record { objects_are = refl; table_is = rw there refl; no_job = no_job; none_at_zero = none_at_zero }
-
-  -- where there is no verdict, no policy has a say
-  pub freed : (lib : Library) (request : Request) → verdict_on p.table.entries r.objects p.pid request ≡ None → policed_refusal lib (world_value before r) p.pid request ≡ bare_refusal lib (world_value before r) p.pid request
-  freed lib request none = free_of_policy lib (world_value before r) p.pid request p.table.entries r.objects seen_world none
 
 -- ---- the step
 
@@ -112,7 +71,7 @@ module _ (lib : Library) (before after : List Process) (r r2 : Objects) (p p2 : 
     Acts = IsActed lib W p.pid (item.Call p.pid call o) (world_left (left_all after r2) r2 blocked)
 
     refused : (v : Verdict) → Judged v → policed_refusal lib W p.pid s.request ≡ Some (ending v)
-    refused v is = policed lib W p.pid p.table.entries r.objects (seen_lab before r lab p write.there ready blocked) s.request v is
+    refused v is = policed lib W p.pid p.table.entries r.objects (is_seen lib before r lab blocked sound p write.there (ap is_ready ready) W refl refl) s.request v is
 
     denied_acts : IsDenied s p r o p2 r2 → Judged verdict.Denied → Acts
     denied_acts denied is =

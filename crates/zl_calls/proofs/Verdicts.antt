@@ -1,5 +1,5 @@
 -- What the code finds of a policy's verdict: none where nothing is set, and what an answer of the code says of it.
-use Rattle.zl_calls.proofs.Common.{◌≡◌, ℕ, true, false, not, ◌∷◌, [], refl, sym, ap, ◌∙◌, Option, Some, None, Map, Request, Site, get, is_empty, Objects}
+use Rattle.zl_calls.proofs.Common.{◌≡◌, ℕ, false, not, ◌∷◌, [], sym, ap, ◌∙◌, Option, Some, None, Map, Request, Site, get, is_empty, Objects}
 use Rattle.std.specs.Prelude.{IfSome}
 use Rattle.zl_code.proofs.Common.{true≢false}
 use Rattle.zl_code.specs.declared.history.Outcome.{Outcome}
@@ -14,7 +14,6 @@ use Rattle.zl_objects.specs.Jobs.{action_of, has_actions, job_at}
 use Rattle.zl_objects.specs.Objects.{job_in}
 use Rattle.zl_objects.specs.declared.object.Object.{Object}
 use Rattle.zl_calls.specs.Policed.{IsDenied, Policed, operands_fault, verdict_by, verdict_in, verdict_on}
-use Rattle.zl_calls.specs.declared.policy.Verdict.{Verdict}
 use Rattle.zl_calls.specs.declared.policy.Verdict.TheVariants as verdict
 use Rattle.zl_calls.specs.declared.process.Process.{Process}
 use Rattle.zl_calls.proofs.Policies.{verdict_allowed}

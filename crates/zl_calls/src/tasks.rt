@@ -160,6 +160,7 @@ fn process_create(
     program: u64,
 ) -> Result<HValue, Status>
     requires place { place < length processes.old.items }
+    requires few { length blocked.old.items ≤ length processes.old.items }
     ensures does { (caller : Process) → slice_get processes.old.items place ≡ Some caller
         → ProcessCreateDoes library.now place job program caller
         (lab processes.old.items objects.old blocked.old.items) result
@@ -175,15 +176,19 @@ fn process_create(
         return Err(Status::NoMemory);
     };
     let pid = objects.end_of_koids();
-    let made = make_process(&mut processes[place].table, objects, job)?;
-    processes.push_reserved(Process {
-        pid,
-        program: program as usize,
-        state: State::Created,
-        cpu,
-        table: Table::new(alloc),
-    });
-    Ok(made)
+    match make_process(&mut processes[place].table, objects, job) {
+        Ok(made) => {
+            processes.push_reserved(Process {
+                pid,
+                program: program as usize,
+                state: State::Created,
+                cpu,
+                table: Table::new(alloc),
+            });
+            Ok(made)
+        }
+        Err(refused) => Err(refused),
+    }
 }
 
 /// Makes room for one process more, and for each process in the list of the blocked.

@@ -63,6 +63,8 @@ pub mod Among
 pub mod AsyncCalls
 pub mod StartCalls
 pub mod ReachParts
+pub mod StartSteps
+pub mod KillSeen
 pub mod CancelCalls
 pub mod Cancelled
 pub mod Performed

@@ -174,7 +174,7 @@ module _ (lib : Library) (ps ps1 : List Process) (place process h : ℕ) (starte
 
 -- ---- a ready process starts another one
 
-not_both : (s : State) → is_created (state_value s) ≡ true → is_ready (state_value s) ≡ true → ⊥
+pub not_both : (s : State) → is_created (state_value s) ≡ true → is_ready (state_value s) ≡ true → ⊥
 not_both state.Created created ready = false≢true ready
 not_both state.Gone created ready = false≢true created
 not_both state.Ready created ready = false≢true created
@@ -254,6 +254,7 @@ module _ (lib : Library) (ps : List Process) (r : Objects) (blocked : List ℕ) 
             started = q2;
             at_place = started.place;
             is_child = child_at;
+            is_created = enters.found.at.is_created;
             named = enters.found.named;
             is_named = enters.found.is_named;
             pid = enters.found.at.is_pid;

@@ -196,6 +196,7 @@ pub record StartsProcess (lib : Library) (l : Lab) (place process h word : ℕ) 
   pub started : Process
   pub at_place : ℕ
   pub is_child : slice_get l.processes at_place ≡ Some child
+  pub is_created : is_created (state_value child.state) ≡ true
   pub named : Entry
   pub is_named : looked_up caller.table.entries process (kind.Process ∷ []) WRITE ≡ Ok named
   pub pid : child.pid ≡ named.koid

@@ -21,6 +21,7 @@ pub mod KeptLists
 pub mod KillWorlds
 pub mod KillSound
 pub mod KillCalls
+pub mod KillSteps
 pub mod LeftWaits
 pub mod ListsKept
 pub mod Refused

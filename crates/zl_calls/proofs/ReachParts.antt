@@ -75,6 +75,11 @@ module _ {A : Type 0} (values : A → List ℕ) (Does : Lab → Result A Status 
 
 -- ---- each of them
 
+-- over, with a code
+has_ended : State → Bool
+has_ended (state.Ended code) = true
+has_ended s = false
+
 module _ (lib : Library) (ps ps1 : List Process) (r r1 : Objects) (blocked blocked1 : List ℕ) (place : ℕ) (caller : Process) (is_caller : slice_get ps place ≡ Some caller) (p : Process) (read : p ≡ get_or ps1 place p) (still : IsCallerStill caller (slice_get ps1 place)) where
   there : slice_get ps1 place ≡ Some p
   there = read_at ps1 place p (still_within ps1 place caller still) read
@@ -98,9 +103,11 @@ module _ (lib : Library) (ps ps1 : List Process) (r r1 : Objects) (blocked block
     kill_site = site (task_kill task) [] (status_in ∷ [])
 
     kill_answered : (answer : Result ⊤ Status) → TaskKillDoes task caller (lab ps r blocked) answer (lab ps1 r1 blocked1) → (o : Outcome) → o ≡ outcome.Answered (status_of answer) → (p2 : Process) → p2 ≡ answered_in p (status_in ∷ []) no_value answer
-        → Reaches lib place caller kill_site (lab ps r blocked) o (lab (slice_set ps1 place p2) r1 blocked1)
-    kill_answered answer does o ends p2 told =
+        → has_ended p.state ≡ false → Reaches lib place caller kill_site (lab ps r blocked) o (lab (slice_set ps1 place p2) r1 blocked1)
+    unfolding has_ended
+    kill_answered answer does o ends p2 told alive =
         kills task refl (answered_so no_value (TaskKillDoes task caller) kill_site place (lab ps r blocked) (lab ps1 r1 blocked1) answer does p there o ends p2 told)
+        (λ code over. false≢true (sym alive ∙ ap has_ended over))
 
     -- a caller that ended wasn't refused
     kill_ended : (answer : Result ⊤ Status) → TaskKillDoes task caller (lab ps r blocked) answer (lab ps1 r1 blocked1) → (code : ℤ) → p.state ≡ state.Ended code → (o : Outcome) → o ≡ outcome.Ended code → (p2 : Process) → p2 ≡ p
@@ -115,15 +122,16 @@ module _ (lib : Library) (ps ps1 : List Process) (r r1 : Objects) (blocked block
 
     pub kill_reaches : (answer : Result ⊤ Status) → TaskKillDoes task caller (lab ps r blocked) answer (lab ps1 r1 blocked1) → (o : Outcome) (p2 : Process) → EndsOrAnswers status_in answer p o p2
         → Reaches lib place caller kill_site (lab ps r blocked) o (lab (slice_set ps1 place p2) r1 blocked1)
+    unfolding has_ended
     kill_reaches answer does o p2 how = by_state p.state refl how.ends how.told
       where
         by_state : (x : State) → p.state ≡ x → o ≡ ending_of (status_of answer) x → p2 ≡ told_unless_over status_in answer x p → Reaches lib place caller kill_site (lab ps r blocked) o (lab (slice_set ps1 place p2) r1 blocked1)
-        by_state state.Created is ends told = kill_answered answer does o ends p2 told
-        by_state state.Ready is ends told = kill_answered answer does o ends p2 told
-        by_state (state.AwaitsSignal koid mask to) is ends told = kill_answered answer does o ends p2 told
-        by_state (state.AwaitsPacket port to) is ends told = kill_answered answer does o ends p2 told
+        by_state state.Created is ends told = kill_answered answer does o ends p2 told (ap has_ended is)
+        by_state state.Ready is ends told = kill_answered answer does o ends p2 told (ap has_ended is)
+        by_state (state.AwaitsSignal koid mask to) is ends told = kill_answered answer does o ends p2 told (ap has_ended is)
+        by_state (state.AwaitsPacket port to) is ends told = kill_answered answer does o ends p2 told (ap has_ended is)
         by_state (state.Ended code) is ends told = kill_ended answer does code is o ends p2 told
-        by_state state.Gone is ends told = kill_answered answer does o ends p2 told
+        by_state state.Gone is ends told = kill_answered answer does o ends p2 told (ap has_ended is)
 
   -- ---- by their registers
 

@@ -1,5 +1,5 @@
 -- The calls on jobs, job_create and job_set_policy, each from its table and objects to a step.
-use Rattle.zl_calls.proofs.Common.{◌≡◌, ◌+◌, ◌==◌, ◌^◌, ◌&&◌, ◌||◌, ℕ, Bool, true, false, not, List, [], ◌∷◌, map, refl, sym, ap, ◌∙◌, subst, cond, Option, Some, None, Result, Ok, Err, inl, inr, ⊤, IsTrue, nat_le, if◌then◌else◌, arith, count_by, sum_by-cons, cases_Bool, false≢true, then_some, first_some, option_map, option_or, is_some, Map, get, update, has_key, Ready, Library, Site, site, examined, has_room, has_koids, handles_to, table_of, answer_if, row_of, refusal, handle_operands, listed, may_choose, new_handles, insert_all, remove_all, taken_handles, effect, with_effect, with_object, gives_ok, gives_refused, AtCall, next_for, Values, replied, taken, All, All-nil, bits, within, kind_of, body_of, body_in, operand_of, by_look_up, operand, new_entry, on_object, on_process, process_with, runs, Objects, new_object, with_new, IsAnswered, told_by, one_value, no_value, Replies, has_room_in, process_entry, process_value, object_entry, object_value, body_value, queued_to, state_value, world_value, is_child, stays_alone, is_job_body, is_in_job, Agrees, AreNamed, IsConsistent, IsNamed, koid_in, cpu_answered, World}
+use Rattle.zl_calls.proofs.Common.{◌≡◌, ◌+◌, ◌==◌, ◌^◌, ◌&&◌, ◌||◌, ℕ, Bool, true, false, not, List, [], ◌∷◌, map, refl, sym, ap, ◌∙◌, subst, cond, Option, Some, None, Result, Ok, Err, inl, inr, ⊤, IsTrue, nat_le, if◌then◌else◌, arith, count_by, sum_by-cons, cases_Bool, false≢true, then_some, first_some, option_or, is_some, Map, get, update, Ready, Library, Site, site, examined, has_room, has_koids, handles_to, table_of, answer_if, row_of, refusal, handle_operands, listed, may_choose, new_handles, insert_all, remove_all, taken_handles, effect, with_effect, with_object, gives_ok, gives_refused, AtCall, next_for, Values, replied, taken, All, All-nil, bits, within, kind_of, body_of, operand_of, by_look_up, operand, new_entry, on_object, on_process, process_with, runs, Objects, new_object, with_new, IsAnswered, told_by, one_value, no_value, Replies, has_room_in, process_entry, process_value, object_entry, object_value, body_value, queued_to, state_value, world_value, is_child, stays_alone, is_job_body, is_in_job, Agrees, AreNamed, IsConsistent, IsNamed, koid_in, World}
 use Rattle.zl_code.proofs.Common.{Object as ObjectValue, Body as BodyValue, JobBody}
 use Rattle.std.specs.Result.{result_err}
 use Rattle.zl_rights.specs.declared.kind.Kind.{Kind}
@@ -14,7 +14,7 @@ use Rattle.zl_rights.specs.LookUp.{granted, looked_up}
 use Rattle.zl_rights.specs.Numbers.{MANAGE_JOB, SET_POLICY, takes}
 use Rattle.zl_rights.specs.Policies.{Setting, conflicts, is_absolute, policy_set, setting_of}
 use Rattle.zl_rights.specs.World.{Message}
-use Rattle.zl_jobs.specs.Jobs.{Job, is_deepest as is_deepest_job, job_within, with_policy}
+use Rattle.zl_jobs.specs.Jobs.{Job, is_deepest as is_deepest_job, job_within}
 use Rattle.zl_jobs.specs.declared.job.JobFault.{JobFault}
 use Rattle.zl_jobs.specs.declared.job.JobFault.TheVariants as fault
 use Rattle.zl_code.specs.declared.history.CallName.{CallName}
@@ -26,7 +26,7 @@ use Rattle.zl_code.specs.Tests.{object_at, policy_in}
 use Rattle.zl_objects.specs.declared.object.Body.{Body}
 use Rattle.zl_objects.specs.declared.object.Body.TheVariants as body
 use Rattle.zl_objects.specs.declared.object.Object.{Object}
-use Rattle.zl_objects.specs.Jobs.{is_dead, job_at, new_in, policy_answer, setting_policy, with_policy_body, with_policy_set}
+use Rattle.zl_objects.specs.Jobs.{job_at, new_in, setting_policy, with_policy_body, with_policy_set}
 use Rattle.zl_objects.specs.Objects.{is_job_at, keeper_of, queue_of}
 use Rattle.zl_objects.specs.Seen.{is_above}
 use Rattle.zl_objects.proofs.Law.{get_seen}

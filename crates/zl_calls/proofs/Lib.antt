@@ -74,6 +74,7 @@ pub mod Idle
 pub mod ReachDue
 pub mod ReachSteps
 pub mod CreateCalls
+pub mod CreateSteps
 pub mod CallSteps
 pub mod Calling
 pub mod StepItems

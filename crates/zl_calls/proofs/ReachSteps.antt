@@ -13,7 +13,7 @@ use Rattle.zl_calls.specs.declared.process.Process.{Process}
 use Rattle.zl_calls.proofs.Freedom.{is_free}
 use Rattle.zl_calls.proofs.Labs.{IsFree}
 use Rattle.zl_calls.proofs.Performing.{HasLeft, write_of}
-use Rattle.zl_calls.proofs.CreateCalls.{create_so}
+use Rattle.zl_calls.proofs.CreateSteps.{create_so}
 use Rattle.zl_calls.proofs.ReachDue.{kill_itself_so, kill_so, start_so}
 
 -- the process p stands at the place, under the pid, and is at the call

@@ -65,6 +65,8 @@ pub mod AsyncCalls
 pub mod StartCalls
 pub mod ReachParts
 pub mod StartSteps
+pub mod StartSound
+pub mod StartWorlds
 pub mod KillSeen
 pub mod CancelCalls
 pub mod Cancelled

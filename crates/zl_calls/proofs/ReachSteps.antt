@@ -14,7 +14,8 @@ use Rattle.zl_calls.proofs.Freedom.{is_free}
 use Rattle.zl_calls.proofs.Labs.{IsFree}
 use Rattle.zl_calls.proofs.Performing.{HasLeft, write_of}
 use Rattle.zl_calls.proofs.CreateSteps.{create_so}
-use Rattle.zl_calls.proofs.ReachDue.{kill_itself_so, kill_so, start_so}
+use Rattle.zl_calls.proofs.StartWorlds.{start_so}
+use Rattle.zl_calls.proofs.ReachDue.{kill_itself_so, kill_so}
 
 -- the process p stands at the place, under the pid, and is at the call
 module _ (lib : Library) (ps : List Process) (r : Objects) (whole : IsConsistent ps r) (blocked : List ℕ) (are : AreBlocked ps blocked) (sound : IsSoundWorld (world_blocked ps r blocked)) (pid place : ℕ) (p : Process)

@@ -77,7 +77,6 @@ pub mod WakeLoop
 pub mod Policies
 pub mod Freedom
 pub mod Idle
-pub mod ReachDue
 pub mod ReachSteps
 pub mod CreateCalls
 pub mod CreateSteps

@@ -1,5 +1,5 @@
 -- A call that reaches other processes: from what it did among them to a step, up to where processes wake.
-use Rattle.zl_calls.proofs.Common.{◌≡◌, ℕ, true, ◌==◌, List, get_or, refl, ap, ◌∙◌, subst, Option, Some, None, Result, Ok, position, is_ready, Library, Request, Site, site, AtCall, next_for, Objects, process_value, state_value, world_blocked, world_value, AreBlocked, IsConsistent}
+use Rattle.zl_calls.proofs.Common.{◌≡◌, ℕ, ℤ, true, ◌==◌, List, get_or, refl, sym, ap, ◌∙◌, subst, Option, Some, None, Result, Ok, position, is_ready, Library, Request, Site, site, AtCall, next_for, Objects, process_value, state_value, world_blocked, world_value, AreBlocked, IsConsistent}
 use Rattle.zl_code.specs.CallTable.{process_create, process_start, task_kill}
 use Rattle.zl_code.specs.Sound.{IsSound as IsSoundWorld}
 use Rattle.zl_code.specs.declared.history.CallName.{CallName}
@@ -10,12 +10,13 @@ use Rattle.zl_calls.specs.Reaching.{EndsCaller, IsAnsweredIn, Reaches, creates, 
 use Rattle.zl_calls.specs.calls.Answer.{no_value, one_value, told_by}
 use Rattle.zl_calls.specs.calls.Task.{Lab, ProcessCreateDoes, ProcessStartDoes, TaskKillDoes, lab}
 use Rattle.zl_calls.specs.declared.process.Process.{Process}
+use Rattle.zl_calls.specs.declared.process.State.TheVariants as state
 use Rattle.zl_calls.proofs.Freedom.{is_free}
 use Rattle.zl_calls.proofs.Labs.{IsFree}
 use Rattle.zl_calls.proofs.Performing.{HasLeft, write_of}
 use Rattle.zl_calls.proofs.CreateSteps.{create_so}
 use Rattle.zl_calls.proofs.StartWorlds.{start_so}
-use Rattle.zl_calls.proofs.ReachDue.{kill_itself_so, kill_so}
+use Rattle.zl_calls.proofs.KillSteps.{kill_itself_so, kill_so}
 
 -- the process p stands at the place, under the pid, and is at the call
 module _ (lib : Library) (ps : List Process) (r : Objects) (whole : IsConsistent ps r) (blocked : List ℕ) (are : AreBlocked ps blocked) (sound : IsSoundWorld (world_blocked ps r blocked)) (pid place : ℕ) (p : Process)
@@ -40,10 +41,10 @@ module _ (lib : Library) (ps : List Process) (r : Objects) (whole : IsConsistent
       start_so lib ps r whole blocked are sound pid place p found read is_ready_there name free process h word s.consumed s.destinations
       (next ∙ ap (AtCall name) (site_is (process_start process h word) is)) l2 o
       (subst (λ (x : Site). IsAnsweredIn (told_by no_value) (ProcessStartDoes lib place process h word p) x place (lab ps r blocked) o l2) (site_is (process_start process h word) is) does)
-  reaches_so o l2 (kills task is does) =
-      kill_so lib ps r whole blocked are sound pid place p found read is_ready_there name free_beside task s.consumed s.destinations
-      (next ∙ ap (AtCall name) (site_is (task_kill task) is)) l2 o
-      (subst (λ (x : Site). IsAnsweredIn (told_by no_value) (TaskKillDoes task p) x place (lab ps r blocked) o l2) (site_is (task_kill task) is) does)
+  reaches_so o l2 (kills task is does alive) =
+      subst (λ (x : Site). (a : IsAnsweredIn (told_by no_value) (TaskKillDoes task p) x place (lab ps r blocked) o l2) → ((code : ℤ) → a.is_told.caller.state ≡ state.Ended code → ⊥) → HasLeft lib ps l2.processes r l2.objects blocked l2.blocked pid (item.Call pid name o)) (sym (site_is (task_kill task) is))
+      (kill_so lib ps r whole blocked are sound pid place p found read is_ready_there name free free_beside task s.consumed s.destinations
+      (next ∙ ap (AtCall name) (site_is (task_kill task) is)) l2 o) does alive
   reaches_so o l2 (kills_itself task is does) =
-      kill_itself_so lib ps r whole blocked are sound pid place p found read is_ready_there name free_beside task s.consumed s.destinations
+      kill_itself_so lib ps r whole blocked are sound pid place p found read is_ready_there name free free_beside task s.consumed s.destinations
       (next ∙ ap (AtCall name) (site_is (task_kill task) is)) l2 o does

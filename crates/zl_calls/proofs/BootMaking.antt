@@ -16,6 +16,7 @@ use Rattle.zl_objects.specs.declared.object.Object.{Object}
 use Rattle.zl_calls.specs.declared.process.Process.{Process}
 use Rattle.zl_calls.specs.declared.process.State.{State as OwnState}
 use Rattle.zl_calls.specs.declared.process.State.TheVariants as state
+use Rattle.zl_calls.specs.Making.{is_killed}
 use Rattle.zl_calls.specs.declared.booting.Made.{Made}
 use Rattle.zl_calls.proofs.BootFaults.{job_seen}
 use Rattle.zl_rights.specs.Signals.{has_ended}
@@ -147,6 +148,8 @@ module _ (ps : List Process) (p : Process) (r : Objects) (making : IsMaking ps p
       alive (state.AwaitsSignal koid mask to) h = refl
       alive (state.AwaitsPacket port to) h = refl
       alive (state.Ended code) h = absurd (false≢true h)
+      alive state.Created h = absurd (false≢true h)
+      alive state.Gone h = absurd (false≢true h)
 
   going_on : is_process (world_value after grown) has_ended n ≡ false
   unfolding is_process
@@ -157,6 +160,8 @@ module _ (ps : List Process) (p : Process) (r : Objects) (making : IsMaking ps p
       not_over (state.AwaitsSignal koid mask to) h = refl
       not_over (state.AwaitsPacket port to) h = refl
       not_over (state.Ended code) h = absurd (false≢true h)
+      not_over state.Created h = absurd (false≢true h)
+      not_over state.Gone h = absurd (false≢true h)
 
   others_as_before : (j : ℕ) → (n == j) ≡ false → (test : StateValue → Bool) → is_process (world_value after grown) test j ≡ is_process (world_value ps r) test j
   unfolding is_process
@@ -202,6 +207,7 @@ module _ (ps : List Process) (p : Process) (r : Objects) (making : IsMaking ps p
         let one_more : length after ≡ length ps + 1 = length-append ps (p ∷ []) in
         omega (arith, own, table.few, making.few k, counts k, one_more);
     unwatched = record { none = making.unwatched.none; none_made = making.unwatched.none_made };
+    alive = λ j q at. found_object (is_killed q.body ≡ false) j q at (λ here is. subst (λ (x : Object). is_killed x.body ≡ false) is refl) (λ apart old. making.alive j q old);
   }
 
   -- the world is that of the definitions
@@ -326,6 +332,7 @@ starts_making = record {
   };
   few = λ k. omega arith;
   unwatched = record { none = refl; none_made = refl };
+  alive = λ k o at. found (λ j x. is_killed x.body ≡ false) refl k o at;
 }
   where
     found : (P : ℕ → Object → Type 0) → P 1 root_job → (k : ℕ) (o : Object) → get root_alone.objects k ≡ Some o → P k o

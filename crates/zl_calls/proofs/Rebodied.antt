@@ -41,7 +41,7 @@ module _ (g : Body → Body) (same : KeepsKind g) where
         by_object None = refl
         by_object (Some o) = same.job o.body
 
-    in_job_too : (b : Body) → is_in_job after_it b ≡ is_in_job m b
+    pub in_job_too : (b : Body) → is_in_job after_it b ≡ is_in_job m b
     in_job_too b = same_in_job m after_it job_too b
 
     pub named_rebodied : (e : Entry) → IsNamed m e → IsNamed after_it e

@@ -22,7 +22,6 @@ use Rattle.zl_calls.specs.declared.process.Process.{Process}
 use Rattle.zl_calls.specs.calls.Port.{refused_by}
 use Rattle.zl_calls.proofs.Answered.{IsWrite, replied_with}
 use Rattle.zl_calls.proofs.Counting.{queues}
-use Rattle.zl_calls.proofs.Labs.{no_policy}
 use Rattle.zl_calls.proofs.Rebodied.{KeepsKind, named_rebodied, rebodied_next}
 use Rattle.zl_calls.proofs.Refused.{answers, fault_answers}
 use Rattle.zl_calls.proofs.SameBodies.{still_named}
@@ -54,7 +53,7 @@ module _ (before : List Process) (r : Objects) (lab : IsConsistent before r) (p 
   -- the refusal of a call that looks a port up and refuses packets that pass the test
   pub port_refused : (test : List Packet → Bool) (s : Status) (rights : ℕ) (o : Option Entry)
       → with_port test s (operand_of old_world p (kind.Port ∷ []) rights o) (koid_in o) ≡ answers (refused_by r.objects test s (granted o (kind.Port ∷ []) rights))
-  port_refused test s rights None = ap (λ (x : Option Outcome). with_port test s x 0) (fault_answers old_world (no_policy before r lab) p condition.BadHandle status.BadHandle)
+  port_refused test s rights None = ap (λ (x : Option Outcome). with_port test s x 0) (fault_answers old_world p condition.BadHandle status.BadHandle)
   port_refused test s rights (Some e) = by_tests (takes (kind.Port ∷ []) e.kind) (within rights (bits e.rights))
     where
       by_test : (b : Bool) → first_some (None ∷ None ∷ answer_if b s ∷ []) ≡ answers (then_some b s)
@@ -65,7 +64,7 @@ module _ (before : List Process) (r : Objects) (lab : IsConsistent before r) (p 
           ≡ answers (refused_by r.objects test s (if a then (if b then Ok e else Err status.AccessDenied) else Err status.WrongType))
       by_tests true true = rw (packets_there r.objects e.koid) (by_test (test (packets_in (get r.objects e.koid))))
       by_tests true false = refl
-      by_tests false b = ap (λ (x : Option Outcome). with_port test s x e.koid) (fault_answers old_world (no_policy before r lab) p condition.WrongObject status.WrongType)
+      by_tests false b = ap (λ (x : Option Outcome). with_port test s x e.koid) (fault_answers old_world p condition.WrongObject status.WrongType)
 
 -- ---- a port changes
 

@@ -75,6 +75,8 @@ lives_on (state.AwaitsSignal koid mask to) h = (refl, refl, refl)
 lives_on (state.AwaitsPacket port to) h = (refl, refl, refl)
 lives_on state.Ready h = absurd (false≢true h)
 lives_on (state.Ended code) h = absurd (false≢true h)
+lives_on state.Created h = absurd (false≢true h)
+lives_on state.Gone h = absurd (false≢true h)
 
 -- the process p stands at the place, under the pid
 module _ (ps : List Process) (r : Objects) (lab : IsConsistent ps r) (pid place : ℕ) (p : Process)
@@ -219,6 +221,8 @@ module _ (ps : List Process) (r : Objects) (lab : IsConsistent ps r) (pid place 
     by_state : (s : State) → p.state ≡ s → p2 ≡ awake (given_awake s r) p → r2 ≡ without_taken s r → WakesOne pid (is_some (given_awake s r)) ps r (set ps place p2) r2
     by_state state.Ready in_state is objects = stays_asleep p2 r2 (ap (λ (q : Process). q.pid) is) is objects (λ blocked. woken_is blocked ∙ rw in_state refl)
     by_state (state.Ended code) in_state is objects = stays_asleep p2 r2 (ap (λ (q : Process). q.pid) is) is objects (λ blocked. woken_is blocked ∙ rw in_state refl)
+    by_state state.Created in_state is objects = stays_asleep p2 r2 (ap (λ (q : Process). q.pid) is) is objects (λ blocked. woken_is blocked ∙ rw in_state refl)
+    by_state state.Gone in_state is objects = stays_asleep p2 r2 (ap (λ (q : Process). q.pid) is) is objects (λ blocked. woken_is blocked ∙ rw in_state refl)
     by_state (state.AwaitsSignal koid mask to) in_state is objects = by_signal koid mask to in_state (meets (signals_at r.objects koid) mask) refl is objects
     by_state (state.AwaitsPacket port to) in_state is objects =
         by_packet port to in_state (get r.objects port) refl (packets_in (get r.objects port)) refl is objects

@@ -47,8 +47,10 @@ pub data Reaches (lib : Library) (place : ℕ) (caller : Process) (s : Site) (l 
       → IsAnsweredIn (told_by one_value) (ProcessCreateDoes lib place job program caller) s place l o l2 → Reaches lib place caller s l o l2
   starts : (process h word : ℕ) → s.request ≡ process_start process h word
       → IsAnsweredIn (told_by no_value) (ProcessStartDoes lib place process h word caller) s place l o l2 → Reaches lib place caller s l o l2
+  -- the caller isn't among those that it ended
   kills : (task : ℕ) → s.request ≡ task_kill task
-      → IsAnsweredIn (told_by no_value) (TaskKillDoes task caller) s place l o l2 → Reaches lib place caller s l o l2
+      → (a : IsAnsweredIn (told_by no_value) (TaskKillDoes task caller) s place l o l2)
+      → ((code : ℤ) → a.is_told.caller.state ≡ state.Ended code → ⊥) → Reaches lib place caller s l o l2
   kills_itself : (task : ℕ) → s.request ≡ task_kill task
       → EndsCaller (λ a b. TaskKillDoes task caller a (Ok tt) b) place l o l2 → Reaches lib place caller s l o l2
 

@@ -1,9 +1,7 @@
 -- What the definitions see of the world of this crate.
 use Rattle.std.specs.Prelude.{ℕ, ◌≡◌, ◌<◌, Bool, length, slice_get, List, [], ◌∷◌, map, Option, Some, None, if◌then◌else◌}
 use Rattle.std.specs.Option.{option_map}
-use Rattle.zl_rights.specs.Map.{each}
-use Rattle.zl_rights.specs.Settle.{process_settled}
-use Rattle.zl_code.specs.Common.{Map, get, has_key, World as WorldValue, Process as ProcessValue, State as StateValue, Created, Ready, Blocked, Ended, Gone, is_ready, is_process, Library, local_effect, name_of, site_of, Next, AtCall, Moves, IsStuck, calls_at, next_for}
+use Rattle.zl_code.specs.Common.{Map, get, World as WorldValue, Process as ProcessValue, State as StateValue, Created, Ready, Blocked, Ended, Gone, is_ready, is_process, Library, local_effect, name_of, site_of, Next, AtCall, Moves, IsStuck, calls_at, next_for}
 use Rattle.zl_code.specs.declared.history.CallName.{CallName}
 use Rattle.zl_code.specs.declared.history.ProcState.{ProcState}
 use Rattle.zl_code.specs.declared.history.ProcState.TheVariants as seen
@@ -14,7 +12,6 @@ use Rattle.zl_rights.specs.World.{SignalOf, PacketAt}
 use Rattle.zl_calls.specs.declared.process.State.{State}
 use Rattle.zl_calls.specs.declared.process.State.TheVariants as state
 use Rattle.zl_calls.specs.declared.process.Process.{Process}
-use Rattle.zl_objects.specs.declared.object.Object.{Object}
 use Rattle.zl_objects.specs.Objects.{Objects}
 use Rattle.zl_objects.specs.Seen.{object_entry}
 
@@ -25,9 +22,10 @@ pub record World : Type 0 where
 
 -- ---- views
 
--- the state of a process; of one that is created, before it is asked whether its object is there
+-- the state of a process
 abbrev pub state_value : State → StateValue
 state_value state.Created = Created
+state_value state.Gone = Gone
 state_value state.Ready = Ready
 state_value (state.AwaitsSignal koid mask to) = Blocked (SignalOf koid mask) (to.status ∷ to.observed ∷ [])
 state_value (state.AwaitsPacket port to) =
@@ -48,14 +46,10 @@ process_value p = record {
 abbrev pub process_entry : Process → ℕ × ProcessValue
 process_entry p = (p.pid, process_value p)
 
--- the processes under their koids, where these objects are there: one that was never started is gone without its own
-abbrev pub processes_beside : Map Object → List Process → Map ProcessValue
-processes_beside objects processes = each (process_settled (has_key objects)) (map process_entry processes)
-
 -- the world of these processes and objects, where nothing blocks or waits
 abbrev pub world_value : List Process → Objects → WorldValue
 world_value processes objects = record {
-  processes = processes_beside objects.objects processes;
+  processes = map process_entry processes;
   objects = map object_entry objects.objects;
   waits = [];
   blocked = [];

@@ -14,6 +14,7 @@ ghost use Rattle.zl_calls.specs.Gives.{allowed, rights_if, IsBare, Gives};
 
 use crate::calls::job::has_children;
 use crate::cpu::Cpu;
+use crate::leaving::leave;
 use crate::process::{Process, State};
 use crate::program::Library;
 use bitflags::Flags;
@@ -360,6 +361,7 @@ impl Made {
         for koid in (0..self.objects.end_of_koids()).rev() {
             self.objects.remove_unheld(koid);
         }
+        leave(&mut self.processes, &self.objects);
     }
 }
 

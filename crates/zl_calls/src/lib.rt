@@ -10,6 +10,7 @@ mod blocking;
 mod booting;
 mod calls;
 mod cpu;
+mod leaving;
 mod packets;
 mod policy;
 mod process;

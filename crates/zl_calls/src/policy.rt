@@ -76,7 +76,7 @@ fn judge(process: &Process, objects: &Objects, call: &CallInstr) -> Option<Verdi
         // So it is in most jobs, and spares the examination.
         return None;
     }
-    match examine(&process.table, &process.cpu, call) {
+    match examine(&process.table, &process.cpu, *call) {
         Ok(()) => on_making(objects.action(job, made_by(call)?)),
         Err(fault) => on_fault(objects, job, fault),
     }
@@ -157,81 +157,81 @@ fn deny(process: &mut Process, call: &CallInstr) -> Option<Outcome>
 
 /// Examines the handle operands of the call from left to right, and gives the fault of the first that
 /// has one. A handle that stands in a list twice isn't live any more at the second place.
-#[tactic(auto, unfolding(zl_code::specs::Request::site_of, zl_code::specs::Instructions::row_of, zl_code::specs::Spells::call_parts))]
-fn examine(table: &Table, cpu: &Cpu, call: &CallInstr) -> Result<(), Status>
-    ensures { IfSome (site_of call.now cpu.now) (λ s. result_err result
+#[tactic(auto, unfolding(zl_code::specs::Request::site_of, zl_code::specs::Instructions::row_of, zl_code::specs::Spells::call_parts, zl_code::specs::Refusals::handle_operands, crate::specs::Policed::operands_fault))]
+fn examine(table: &Table, cpu: &Cpu, call: CallInstr) -> Result<(), Status>
+    ensures { IfSome (site_of call cpu.now) (λ s. result_err result
         ≡ operands_fault table.now.entries [] (handle_operands s.request)) }
 {
     match call {
-        CallInstr::ChanCreate { .. }
-        | CallInstr::EventCreate { .. }
-        | CallInstr::PortCreate { .. }
-        | CallInstr::ProcessExit { .. } => Ok(()),
+        CallInstr::ChanCreate { .. } => Ok(()),
+        CallInstr::EventCreate { .. } => Ok(()),
+        CallInstr::PortCreate { .. } => Ok(()),
+        CallInstr::ProcessExit { .. } => Ok(()),
         CallInstr::Close { handle, .. } => {
             // A value of 0 names nothing, and may be closed.
-            if cpu.register(*handle) == 0 {
+            if cpu.register(handle) == 0 {
                 return Ok(());
             }
-            find(table, cpu, *handle, &[], Rights::empty())
+            find(table, cpu, handle, &[], Rights::empty())
         }
-        CallInstr::Dup { handle, .. } => find(table, cpu, *handle, &[], Rights::DUPLICATE),
-        CallInstr::Replace { handle, .. } => find(table, cpu, *handle, &[], Rights::empty()),
+        CallInstr::Dup { handle, .. } => find(table, cpu, handle, &[], Rights::DUPLICATE),
+        CallInstr::Replace { handle, .. } => find(table, cpu, handle, &[], Rights::empty()),
         CallInstr::ChanWrite {
             channel,
             handles,
             ..
         } => {
-            find(table, cpu, *channel, &[Kind::Channel], Rights::WRITE)?;
-            let (values, count) = cpu.listed(handles);
+            find(table, cpu, channel, &[Kind::Channel], Rights::WRITE)?;
+            let (values, count) = cpu.listed(&handles);
             examine_list(table, &values[..count])
         }
         CallInstr::ChanReadEtc { channel, .. } => {
-            find(table, cpu, *channel, &[Kind::Channel], Rights::READ)
+            find(table, cpu, channel, &[Kind::Channel], Rights::READ)
         }
-        CallInstr::Signal { handle, .. } => find(table, cpu, *handle, &[], Rights::SIGNAL),
+        CallInstr::Signal { handle, .. } => find(table, cpu, handle, &[], Rights::SIGNAL),
         CallInstr::SignalPeer { handle, .. } => {
-            find(table, cpu, *handle, &[Kind::Channel], Rights::SIGNAL_PEER)
+            find(table, cpu, handle, &[Kind::Channel], Rights::SIGNAL_PEER)
         }
-        CallInstr::WaitOne { handle, .. } => find(table, cpu, *handle, &[], Rights::WAIT),
-        CallInstr::WaitPoll { handle, .. } => find(table, cpu, *handle, &[], Rights::WAIT),
+        CallInstr::WaitOne { handle, .. } => find(table, cpu, handle, &[], Rights::WAIT),
+        CallInstr::WaitPoll { handle, .. } => find(table, cpu, handle, &[], Rights::WAIT),
         CallInstr::WaitAsync { handle, port, .. } => {
-            find(table, cpu, *handle, &[], Rights::WAIT)?;
-            find(table, cpu, *port, &[Kind::Port], Rights::WRITE)
+            find(table, cpu, handle, &[], Rights::WAIT)?;
+            find(table, cpu, port, &[Kind::Port], Rights::WRITE)
         }
         CallInstr::PortQueue { port, .. } => {
-            find(table, cpu, *port, &[Kind::Port], Rights::WRITE)
+            find(table, cpu, port, &[Kind::Port], Rights::WRITE)
         }
-        CallInstr::PortWait { port, .. } => find(table, cpu, *port, &[Kind::Port], Rights::READ),
-        CallInstr::PortPoll { port, .. } => find(table, cpu, *port, &[Kind::Port], Rights::READ),
+        CallInstr::PortWait { port, .. } => find(table, cpu, port, &[Kind::Port], Rights::READ),
+        CallInstr::PortPoll { port, .. } => find(table, cpu, port, &[Kind::Port], Rights::READ),
         CallInstr::PortCancel { port, source, .. } => {
-            find(table, cpu, *port, &[Kind::Port], Rights::WRITE)?;
-            find(table, cpu, *source, &[], Rights::empty())
+            find(table, cpu, port, &[Kind::Port], Rights::WRITE)?;
+            find(table, cpu, source, &[], Rights::empty())
         }
         CallInstr::ProcessCreate { job, .. } => {
-            find(table, cpu, *job, &[Kind::Job], Rights::MANAGE_PROCESS)
+            find(table, cpu, job, &[Kind::Job], Rights::MANAGE_PROCESS)
         }
         CallInstr::ProcessStart {
             process,
             handle,
             ..
         } => {
-            find(table, cpu, *process, &[Kind::Process], Rights::WRITE)?;
-            find(table, cpu, *handle, &[], Rights::TRANSFER)
+            find(table, cpu, process, &[Kind::Process], Rights::WRITE)?;
+            find(table, cpu, handle, &[], Rights::TRANSFER)
         }
         CallInstr::TaskKill { task, .. } => {
             find(
                 table,
                 cpu,
-                *task,
+                task,
                 &[Kind::Process, Kind::Job],
                 Rights::DESTROY,
             )
         }
         CallInstr::JobCreate { job, .. } => {
-            find(table, cpu, *job, &[Kind::Job], Rights::MANAGE_JOB)
+            find(table, cpu, job, &[Kind::Job], Rights::MANAGE_JOB)
         }
         CallInstr::JobSetPolicy { job, .. } => {
-            find(table, cpu, *job, &[Kind::Job], Rights::SET_POLICY)
+            find(table, cpu, job, &[Kind::Job], Rights::SET_POLICY)
         }
     }
 }

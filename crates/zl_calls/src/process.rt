@@ -1,6 +1,5 @@
 ghost use Rattle.std.specs.Prelude.{◌≡◌, ◌<◌, ◌^◌, [], ◌∷◌, None};
 ghost use Rattle.zl_rights.specs.Signals.{is_ready, lives};
-ghost use Rattle.zl_rights.specs.Settle.{state_without};
 ghost use Rattle.zl_code.specs.Sound.{is_blocked};
 ghost use Rattle.zl_code.specs.Starting.{is_created};
 ghost use Rattle.zl_calls.specs.World.{state_value, seen_in};
@@ -30,7 +29,7 @@ pub struct SignalRegisters {
 /// A blocked one is still at its wait, and has the registers of its answer here.
 #[derive(Clone, Copy)]
 pub enum State {
-    /// Made by a call, and not started yet. It is gone once its object is.
+    /// Made by a call, and not started yet.
     Created,
     Ready,
     /// Blocked until a signal of the mask is active at the object.
@@ -45,6 +44,8 @@ pub enum State {
         to: PacketRegisters,
     },
     Ended(i32),
+    /// Never started, and its object is gone.
+    Gone,
 }
 
 /// A process that was ever made.
@@ -58,22 +59,17 @@ pub struct Process {
 }
 
 impl Process {
-    /// What a trace tells of the process, by whether its object is there.
-    pub fn state(&self, is_there: bool) -> ProcState
-        ensures { result ≡ seen_in (state_without is_there (state_value self.now.state)) }
+    /// What a trace tells of the process.
+    pub fn state(&self) -> ProcState
+        ensures { result ≡ seen_in (state_value self.now.state) }
     {
         match self.state {
-            State::Created => {
-                if is_there {
-                    ProcState::Created
-                } else {
-                    ProcState::Gone
-                }
-            }
+            State::Created => ProcState::Created,
             State::Ready => ProcState::Ready,
             State::AwaitsSignal { .. } => ProcState::Blocked,
             State::AwaitsPacket { .. } => ProcState::Blocked,
             State::Ended(code) => ProcState::Ended(code),
+            State::Gone => ProcState::Gone,
         }
     }
 
@@ -84,11 +80,11 @@ impl Process {
         matches!(self.state, State::Ready)
     }
 
-    /// Whether it was made and isn't over. Of one that was never started, its object may be gone.
+    /// Whether it was made and isn't over.
     pub fn lives(&self) -> bool
         ensures { result ≡ lives (state_value self.now.state) }
     {
-        !matches!(self.state, State::Ended(_))
+        !matches!(self.state, State::Ended(_) | State::Gone)
     }
 
     /// Whether it was made and not started.

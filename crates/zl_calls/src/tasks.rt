@@ -1,20 +1,23 @@
 //! The calls that reach other processes than their caller: one that makes a process, one that starts
 //! it, and one that kills.
 
-ghost use Rattle.std.specs.Prelude.{ℕ, ◌≡◌, ◌+◌, ◌<◌, ◌≤◌, false, List, length, map, vec_capacity, Some, slice_get, IsTrue, IfSome, IfNone, IfOk, OnOk, IfErr, OnErr};
+ghost use Rattle.std.specs.Prelude.{ℕ, ◌≡◌, ◌+◌, ◌<◌, ◌≤◌, ◌^◌, true, false, List, [], ◌∷◌, length, map, vec_capacity, Some, slice_get, IsTrue, IfSome, IfNone, IfOk, OnOk, IfErr, OnErr};
 ghost use Rattle.std.specs.List.{filter};
 ghost use Rattle.std.specs.Result.{result_err};
 ghost use Rattle.std.specs.Ordering.{nat_cmp};
 ghost use Rattle.std.specs.FinMap.Entries.{is_sorted};
 ghost use Rattle.zl_rights.specs.Map.{get};
-ghost use Rattle.zl_rights.specs.Signals.{state_passes};
+ghost use Rattle.zl_rights.specs.Signals.{is_ready, state_passes};
 ghost use Rattle.zl_code.specs.Request.{site_of};
 ghost use Rattle.zl_code.specs.Sound.{is_blocked};
 ghost use Rattle.zl_calls.specs.Reaching.{Reaches, is_reaching};
 ghost use Rattle.zl_calls.specs.Registered.{KeepsListed};
-ghost use Rattle.zl_calls.specs.calls.Answer.{IsRefusedBy};
-ghost use Rattle.zl_calls.specs.World.{process_entry};
-ghost use Rattle.zl_calls.specs.calls.Task.{ClosesAllEnded, Enters, IsFound, IsReachedBy, ProcessCreateDoes, ProcessStartDoes, TaskKillDoes, ended_within, lab, start_refusal};
+ghost use Rattle.zl_calls.specs.Cpu.{register_set};
+ghost use Rattle.zl_calls.specs.calls.Answer.{IsRefusedBy, answered_in, no_value, status_of};
+ghost use Rattle.zl_calls.specs.World.{process_entry, state_value};
+ghost use Rattle.zl_code.specs.Starting.{cpu_given};
+ghost use Rattle.zl_objects.specs.Objects.{starting};
+ghost use Rattle.zl_calls.specs.calls.Task.{AreBare, ClosesAllEnded, ClosesEnded, EndsOrAnswers, Enters, IsCallerStill, IsCreatedAt, IsFound, IsReachedBy, ProcessCreateDoes, ProcessStartDoes, TaskKillDoes, child_refusal, ended_within, lab, process_at, start_refusal};
 
 use crate::calls::handle::{close_each, take_out};
 use crate::calls::process::{close_all, find_job, make_process, misfits};
@@ -24,7 +27,7 @@ use crate::process::{Process, State};
 use crate::program::Library;
 use crate::stepping::place_of;
 use std::alloc::{AllocError, Global};
-use zl_code::{CallInstr, Outcome};
+use zl_code::{CallInstr, Outcome, Register};
 use zl_objects::Objects;
 use zl_rights::{Entry, HValue, Kind, Koid, Pid, Rights, Status};
 use zl_table::Table;
@@ -33,6 +36,7 @@ use zl_table::Table;
 const KILLED: i32 = -1024;
 
 /// Does the call of the process at this place, if it is one that reaches other processes.
+#[tactic(auto, unfolding(zl_code::specs::Request::site_of, zl_code::specs::Instructions::row_of, zl_code::specs::Spells::call_parts))]
 pub fn reach(
     alloc: Global,
     library: &Library,
@@ -43,6 +47,13 @@ pub fn reach(
     call: &CallInstr,
 ) -> Option<Outcome>
     requires place { place < length processes.old.items }
+    requires in_order { IsTrue (is_sorted nat_cmp (map process_entry processes.old.items)) }
+    requires bare { AreBare processes.old.items }
+    requires ready { (caller : Process) → slice_get processes.old.items place ≡ Some caller
+        → is_ready (state_value caller.state) ≡ true }
+    requires counter { (caller : Process) → slice_get processes.old.items place ≡ Some caller
+        → caller.cpu.counter < 2 ^ 32 }
+    requires few { length blocked.old.items ≤ length processes.old.items }
     ensures reached { IfSome result (λ o. (caller : Process)
         → slice_get processes.old.items place ≡ Some caller
         → IsReachedBy (site_of call.now caller.cpu) (λ s. Reaches library.now place caller s
@@ -51,6 +62,8 @@ pub fn reach(
     ensures missing { IfNone result ((caller : Process)
         → slice_get processes.old.items place ≡ Some caller
         → IfSome (site_of call.now caller.cpu) (λ s. is_reaching s.request ≡ false)) }
+    ensures room { length processes.old.items ≤ vec_capacity blocked.old
+        → length processes.new.items ≤ vec_capacity blocked.new }
     ensures same_processes { IfNone result (processes.new.items ≡ processes.old.items) }
     ensures same_objects { IfNone result (objects.new ≡ objects.old) }
     ensures same_blocked { IfNone result (blocked.new.items ≡ blocked.old.items) }
@@ -79,18 +92,51 @@ pub fn reach(
             let (process, word) = (cpu.register(*process), cpu.register(*word));
             let value = cpu.register(*handle);
             let answer = process_start(library, processes, objects, place, process, value, word);
-            processes[place].cpu.set(*handle, 0);
-            Some(processes[place].answer(*status, answer))
+            Some(answer_taking(
+                &mut processes[place],
+                *status,
+                *handle,
+                answer,
+            ))
         }
         CallInstr::TaskKill { status, task } => {
             let task = processes[place].cpu.register(*task);
             let answer = task_kill(alloc, processes, objects, blocked, place, task);
-            match processes[place].state {
-                State::Ended(code) => Some(Outcome::Ended(code)),
-                _ => Some(processes[place].answer(*status, answer)),
-            }
+            Some(answer_unless_over(&mut processes[place], *status, answer))
         }
         _ => None,
+    }
+}
+
+/// The call that takes a handle is answered: the register of the handle becomes 0 before.
+fn answer_taking(
+    caller: &mut Process,
+    status: Register,
+    handle: Register,
+    answer: Result<(), Status>,
+) -> Outcome
+    requires { caller.old.cpu.counter < 2 ^ 32 }
+    ensures ends { result ≡ Outcome.Answered (status_of answer) }
+    ensures process { caller.new ≡ answered_in
+        (record caller.old { cpu = register_set caller.old.cpu handle 0 })
+        (status ∷ []) no_value answer }
+{
+    caller.cpu.set(handle, 0);
+    caller.answer(status, answer)
+}
+
+/// The call is answered, unless it has ended its caller.
+fn answer_unless_over(
+    caller: &mut Process,
+    status: Register,
+    answer: Result<(), Status>,
+) -> Outcome
+    requires { caller.old.cpu.counter < 2 ^ 32 }
+    ensures { EndsOrAnswers status answer caller.old result caller.new }
+{
+    match caller.state {
+        State::Ended(code) => Outcome::Ended(code),
+        _ => caller.answer(status, answer),
     }
 }
 
@@ -114,6 +160,7 @@ fn process_create(
     program: u64,
 ) -> Result<HValue, Status>
     requires place { place < length processes.old.items }
+    requires few { length blocked.old.items ≤ length processes.old.items }
     ensures does { (caller : Process) → slice_get processes.old.items place ≡ Some caller
         → ProcessCreateDoes library.now place job program caller
         (lab processes.old.items objects.old blocked.old.items) result
@@ -129,15 +176,19 @@ fn process_create(
         return Err(Status::NoMemory);
     };
     let pid = objects.end_of_koids();
-    let made = make_process(&mut processes[place].table, objects, job)?;
-    processes.push_reserved(Process {
-        pid,
-        program: program as usize,
-        state: State::Created,
-        cpu,
-        table: Table::new(alloc),
-    });
-    Ok(made)
+    match make_process(&mut processes[place].table, objects, job) {
+        Ok(made) => {
+            processes.push_reserved(Process {
+                pid,
+                program: program as usize,
+                state: State::Created,
+                cpu,
+                table: Table::new(alloc),
+            });
+            Ok(made)
+        }
+        Err(refused) => Err(refused),
+    }
 }
 
 /// Makes room for one process more, and for each process in the list of the blocked.
@@ -174,19 +225,23 @@ fn process_start(
     word: u64,
 ) -> Result<(), Status>
     requires place { place < length processes.old.items }
-    ensures { (blocked : List ℕ) (caller : Process)
+    requires in_order { IsTrue (is_sorted nat_cmp (map process_entry processes.old.items)) }
+    requires bare { AreBare processes.old.items }
+    requires ready { (caller : Process) → slice_get processes.old.items place ≡ Some caller
+        → is_ready (state_value caller.state) ≡ true }
+    ensures does { (blocked : List ℕ) (caller : Process)
         → slice_get processes.old.items place ≡ Some caller
         → ProcessStartDoes library.now place process handle word caller
         (lab processes.old.items objects.old blocked) result
         (lab processes.new.items objects.new blocked) }
+    ensures caller { (caller : Process) → slice_get processes.old.items place ≡ Some caller
+        → IsCallerStill caller (slice_get processes.new.items place) }
+    ensures count { length processes.new.items ≡ length processes.old.items }
 {
     match enter(library, processes, place, process, handle) {
         Ok(started) => {
             take_out(&mut processes[place].table, handle);
-            let child = &mut processes[started.place];
-            child.state = State::Ready;
-            child.cpu.start(started.handle, word);
-            objects.start(child.pid);
+            begin(&mut processes[started.place], objects, started.handle, word);
             Ok(())
         }
         Err(refused) => {
@@ -194,6 +249,17 @@ fn process_start(
             Err(refused)
         }
     }
+}
+
+/// The process is ready, and finds the handle and the word in its registers.
+fn begin(process: &mut Process, objects: &mut Objects, handle: HValue, word: u64)
+    ensures process { process.new ≡ record process.old {
+        state = State.Ready; cpu = cpu_given (handle ∷ []) word process.old.cpu } }
+    ensures objects { objects.new ≡ starting objects.old process.old.pid }
+{
+    process.state = State::Ready;
+    process.cpu.start(handle, word);
+    objects.start(process.pid);
 }
 
 /// A process that starts: its place, and the value at which its handle is in its table.
@@ -213,6 +279,7 @@ fn enter(
 ) -> Result<Started, Status>
     requires place { place < length processes.old.items }
     requires in_order { IsTrue (is_sorted nat_cmp (map process_entry processes.old.items)) }
+    requires bare { AreBare processes.old.items }
     ensures entered { IfOk result (λ started. (caller : Process)
         → slice_get processes.old.items place ≡ Some caller
         → Enters library.now processes.old.items caller process handle started
@@ -251,16 +318,32 @@ fn find_child(
     let table = &processes[place].table;
     let child = look_up(table, process, &[Kind::Process], Rights::WRITE)?;
     let entry = look_up(table, handle, &[], Rights::TRANSFER)?;
-    let Some(child) = place_of(processes, child.koid) else {
+    let child = created_at(library, processes, child.koid, &entry)?;
+    Ok((child, entry))
+}
+
+/// The place of the process, if it was made and not started, and can start with the handle.
+fn created_at(
+    library: &Library,
+    processes: &[Process],
+    pid: Pid,
+    entry: &Entry,
+) -> Result<usize, Status>
+    requires in_order { IsTrue (is_sorted nat_cmp (map process_entry processes.now)) }
+    ensures refusal { result_err result
+        ≡ child_refusal library.now (process_at processes.now pid) entry.now }
+    ensures found { IfOk result (IsCreatedAt processes.now pid) }
+{
+    let Some(place) = place_of(processes, pid) else {
         return Err(Status::BadState);
     };
-    if !processes[child].is_created() {
+    if !processes[place].is_created() {
         return Err(Status::BadState);
     }
-    if misfits(library, processes[child].program, &entry) {
+    if misfits(library, processes[place].program, entry) {
         return Err(Status::InvalidArgs);
     }
-    Ok((child, entry))
+    Ok(place)
 }
 
 /// Kills the process or the job of the handle, and whatever stands below it. Where that is dead
@@ -282,6 +365,8 @@ fn task_kill(
     ensures does { (caller : Process) → slice_get processes.old.items place ≡ Some caller
         → TaskKillDoes task caller (lab processes.old.items objects.old blocked.old.items) result
         (lab processes.new.items objects.new blocked.new.items) }
+    ensures caller { (caller : Process) → slice_get processes.old.items place ≡ Some caller
+        → IsCallerStill caller (slice_get processes.new.items place) }
     ensures count { length processes.new.items ≡ length processes.old.items }
     ensures capacity { vec_capacity blocked.new ≡ vec_capacity blocked.old }
 {
@@ -300,14 +385,20 @@ fn task_kill(
 
 /// Each process ends that lives and is the task or stands below it. Its handles are left for now, as
 /// what keeps it in its place may be a handle of its own.
-fn end_within(processes: &mut Vec<Process>, objects: &Objects, task: Koid)
-    ensures { processes.new.items ≡ map (ended_within objects.now task) processes.old.items }
+fn end_within(processes: &mut [Process], objects: &Objects, task: Koid)
+    ensures { processes.new ≡ map (ended_within objects.now task) processes.old }
 {
-    for place in 0..processes.len() {
-        let process = &mut processes[place];
-        if process.lives() && objects.is_within(task, process.pid) {
-            process.state = State::Ended(KILLED);
-        }
+    for process in processes.iter_mut() {
+        end_if_within(process, objects, task);
+    }
+}
+
+/// One process.
+fn end_if_within(process: &mut Process, objects: &Objects, task: Koid)
+    ensures { process.new ≡ ended_within objects.now task process.old }
+{
+    if process.lives() && objects.is_within(task, process.pid) {
+        process.state = State::Ended(KILLED);
     }
 }
 
@@ -341,16 +432,23 @@ fn is_blocked(processes: &[Process], pid: Pid) -> bool
 }
 
 /// The handles close of each process that is over.
-fn close_ended(alloc: Global, processes: &mut Vec<Process>, objects: &mut Objects)
-    ensures closes { ClosesAllEnded
-        processes.old.items objects.old processes.new.items objects.new }
+fn close_ended(alloc: Global, processes: &mut [Process], objects: &mut Objects)
+    ensures closes { ClosesAllEnded processes.old objects.old processes.new objects.new }
     ensures listed { KeepsListed objects.old objects.new }
 {
-    for place in 0..processes.len() {
-        let process = &mut processes[place];
-        if !process.lives() {
-            let table = std::mem::replace(&mut process.table, Table::new(alloc));
-            close_all(objects, table);
-        }
+    for process in processes.iter_mut() {
+        close_if_ended(alloc, process, objects);
     }
+}
+
+/// The handles close of the process, if it is over.
+fn close_if_ended(alloc: Global, process: &mut Process, objects: &mut Objects)
+    ensures closes { ClosesEnded process.old objects.old process.new objects.new }
+    ensures listed { KeepsListed objects.old objects.new }
+{
+    if process.lives() {
+        return;
+    }
+    let table = std::mem::replace(&mut process.table, Table::new(alloc));
+    close_all(objects, table);
 }

@@ -72,6 +72,7 @@ fn wake_process(process: &mut Process, objects: &mut Objects) -> bool
         State::Created => false,
         State::Ready => false,
         State::Ended(_) => false,
+        State::Gone => false,
     }
 }
 

@@ -125,10 +125,7 @@ impl World {
         ensures { result ≡ state_in self.now pid }
     {
         match place_of(&self.processes, pid) {
-            Some(place) => {
-                let process = &self.processes[place];
-                process.state(self.objects.kind_of(pid).is_some())
-            }
+            Some(place) => self.processes[place].state(),
             None => ProcState::Gone,
         }
     }

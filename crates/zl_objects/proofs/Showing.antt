@@ -19,7 +19,8 @@ same_tests false true f g = g refl
 same_tests false false f g = refl
 
 module _ (w : World) (m : Map Object) (shows : ShowStates w m) (k : ℕ) where
-  job_shown : has_child_job (with_objects w m) k ≡ has_job_below m k
+  -- a living job stands below the job k where the objects say so
+  pub job_shown : has_child_job (with_objects w m) k ≡ has_job_below m k
   unfolding has_child_job has_job_below
   job_shown = any_seen (λ e. is_job_of k e.1.body) m ∙ each_same m
     where
@@ -34,7 +35,8 @@ module _ (w : World) (m : Map Object) (shows : ShowStates w m) (k : ℕ) where
       each_same [] = refl
       each_same (e ∷ n) = λ i. by_body e.1.body i || each_same n i
 
-  process_shown : has_child_process (with_objects w m) k ≡ has_process_below m k
+  -- the same of a living process
+  pub process_shown : has_child_process (with_objects w m) k ≡ has_process_below m k
   unfolding has_child_process has_process_below is_process
   process_shown = any_seen (λ e. is_process_of k e.1.body && is_process w lives e.0) m ∙ same_tests (list_any seen m) (list_any below m) there back
     where

@@ -4,14 +4,17 @@ use Rattle.std.specs.Bool.{then_some}
 use Rattle.std.specs.List.{find, filter, list_any}
 use Rattle.std.specs.Option.{option_or}
 use Rattle.std.specs.Result.{result_err}
-use Rattle.zl_code.specs.Common.{Library, Map, Site, created_process}
+use Rattle.zl_code.specs.Common.{Library, Map, Site, get}
 use Rattle.zl_code.specs.Effects.{new_entry}
 use Rattle.zl_code.specs.Image.{Program}
 use Rattle.zl_code.specs.Jobs.{is_allowing, misfits}
-use Rattle.zl_code.specs.Starting.{cpu_given, is_created}
+use Rattle.zl_code.specs.Sound.{is_blocked}
+use Rattle.zl_code.specs.Starting.{cpu_given, created_process, is_created}
+use Rattle.zl_code.specs.declared.history.Outcome.{Outcome}
+use Rattle.zl_code.specs.declared.history.Outcome.TheVariants as outcome
 use Rattle.zl_rights.specs.LookUp.{looked_up}
 use Rattle.zl_rights.specs.Numbers.{DESTROY, KILLED, MANAGE_PROCESS, TRANSFER, WRITE}
-use Rattle.zl_rights.specs.Signals.{lives}
+use Rattle.zl_rights.specs.Signals.{lives, state_passes}
 use Rattle.zl_rights.specs.declared.entry.Entry.{Entry}
 use Rattle.zl_rights.specs.declared.kind.Kind.TheVariants as kind
 use Rattle.zl_rights.specs.declared.policy.Action.{Action}
@@ -25,10 +28,11 @@ use Rattle.zl_objects.specs.Release.{Releases, all_koids}
 use Rattle.zl_objects.specs.declared.object.Body.TheVariants as body
 use Rattle.zl_objects.specs.declared.object.Life.TheVariants as life
 use Rattle.zl_calls.specs.Registered.{KeepsListed}
-use Rattle.zl_calls.specs.World.{process_value, state_value}
-use Rattle.zl_calls.specs.calls.Answer.{ClosesEach, IsRefusedBy, has_room_in, without_handle}
+use Rattle.zl_calls.specs.World.{process_entry, process_value, state_value}
+use Rattle.zl_calls.specs.calls.Answer.{ClosesEach, IsRefusedBy, answered_in, has_room_in, no_value, status_of, without_handle}
 use Rattle.zl_calls.specs.calls.Process.{Drained}
 use Rattle.zl_calls.specs.declared.process.Process.{Process}
+use Rattle.zl_calls.specs.declared.process.State.{State}
 use Rattle.zl_calls.specs.declared.process.State.TheVariants as state
 use Rattle.zl_calls.specs.declared.tasks.Started.{Started}
 
@@ -57,6 +61,26 @@ with_caller processes place p = slice_set processes place p
 pub record IsCaller (l : Lab) (place : ℕ) (caller after : Process) : Type 0 where
   pub is_there : slice_get l.processes place ≡ Some caller
   pub same : after ≡ record caller { table = after.table }
+
+-- the caller is there still, at the same place with the same Cpu
+abbrev pub IsCallerStill : Process → Option Process → Type 0
+IsCallerStill caller None = ⊥
+IsCallerStill caller (Some p) = p.cpu ≡ caller.cpu
+
+-- how the call of a process in this state ends: with the end of the caller, or with the answer
+abbrev pub ending_of : Status → State → Outcome
+ending_of answer (state.Ended code) = outcome.Ended code
+ending_of answer s = outcome.Answered answer
+
+-- the registers after it; those of a process that has ended stay
+abbrev pub told_unless_over : ℕ → Result ⊤ Status → State → Process → Process
+told_unless_over status answer (state.Ended code) p = p
+told_unless_over status answer s p = answered_in p (status ∷ []) no_value answer
+
+-- the caller has ended, or is answered
+pub record EndsOrAnswers (status : ℕ) (answer : Result ⊤ Status) (p : Process) (o : Outcome) (p2 : Process) : Type 0 where
+  pub ends : o ≡ ending_of (status_of answer) p.state
+  pub told : p2 ≡ told_unless_over status answer p.state p
 
 -- such a call was done, or else it was refused
 pub record Tries {A : Type 0} (Done : A → Lab → Type 0) (Refuses : Lab → Type 0) (wants : Bool) (refusal : Option Status) (answer : Result A Status) (l2 : Lab) : Type 0 where
@@ -112,6 +136,10 @@ ProcessCreateDoes lib place job program caller l =
 abbrev pub process_at : List Process → ℕ → Option Process
 process_at processes pid = find (λ q. q.pid == pid) processes
 
+-- none that was made and not started has a handle
+abbrev pub AreBare : List Process → Type 0
+AreBare processes = (at_place : ℕ) (q : Process) → slice_get processes at_place ≡ Some q → is_created (state_value q.state) ≡ true → q.table.entries ≡ []
+
 -- why the process that was found can't start with the handle
 abbrev pub child_refusal : Library → Option Process → Entry → Option Status
 child_refusal lib None e = Some status.BadState
@@ -130,14 +158,18 @@ abbrev pub start_refusal : Library → List Process → Map Entry → (process h
 start_refusal lib processes entries process h =
     start_refusal_of lib processes (looked_up entries process (kind.Process ∷ []) WRITE) (looked_up entries h [] TRANSFER)
 
+-- the process with this koid stands at the place, and was made and not started
+pub record IsCreatedAt (processes : List Process) (pid at_place : ℕ) : Type 0 where
+  pub child : Process
+  pub is_there : slice_get processes at_place ≡ Some child
+  pub is_pid : child.pid ≡ pid
+  pub is_created : is_created (state_value child.state) ≡ true
+
 -- the handles name the process at this place, and the object of the entry
 pub record IsFound (processes : List Process) (caller : Process) (process h at_place : ℕ) (e : Entry) : Type 0 where
   pub named : Entry
   pub is_named : looked_up caller.table.entries process (kind.Process ∷ []) WRITE ≡ Ok named
-  pub child : Process
-  pub is_there : slice_get processes at_place ≡ Some child
-  pub pid : child.pid ≡ named.koid
-  pub is_created : is_created (state_value child.state) ≡ true
+  pub at : IsCreatedAt processes named.koid at_place
   pub is_given : looked_up caller.table.entries h [] TRANSFER ≡ Ok e
 
 -- nothing refuses the start, and the handle has entered the table of the process that is to start
@@ -146,9 +178,9 @@ pub record Enters (lib : Library) (processes : List Process) (caller : Process) 
   pub e : Entry
   pub found : IsFound processes caller process h started.place e
   pub child : Process
-  pub same : child ≡ record found.child { table = child.table }
-  pub inserts : Inserts found.child.table e started.handle child.table
-  pub processes : processes2 ≡ with_caller processes started.place child
+  pub same : child ≡ record found.at.child { table = child.table }
+  pub inserts : Inserts found.at.child.table e started.handle child.table
+  pub entered : processes2 ≡ with_caller processes started.place child
 
 -- the process of the first handle is ready, with the second handle in its table, at a value that it finds in register 0, and with the word in register 1
 pub record StartsProcess (lib : Library) (l : Lab) (place process h word : ℕ) (l2 : Lab) : Type 0 where
@@ -164,6 +196,7 @@ pub record StartsProcess (lib : Library) (l : Lab) (place process h word : ℕ) 
   pub started : Process
   pub at_place : ℕ
   pub is_child : slice_get l.processes at_place ≡ Some child
+  pub is_created : is_created (state_value child.state) ≡ true
   pub named : Entry
   pub is_named : looked_up caller.table.entries process (kind.Process ∷ []) WRITE ≡ Ok named
   pub pid : child.pid ≡ named.koid
@@ -221,7 +254,8 @@ pub record KillsTask (l : Lab) (task : ℕ) (l2 : Lab) : Type 0 where
   pub between : Objects
   pub marks : Releases [] (all_koids l.objects.objects) (killing l.objects task) between
   pub closes : ClosesAllEnded (map (ended_within l.objects task) l.processes) between l2.processes l2.objects
-  pub blocked : l2.blocked ≡ filter (λ k. not (is_within l.objects.objects task k)) l.blocked
+  -- those are left that are still blocked
+  pub blocked : l2.blocked ≡ filter (λ k. state_passes is_blocked (get (map process_entry (map (ended_within l.objects task) l.processes)) k)) l.blocked
   pub listed : KeepsListed l.objects l2.objects
 
 -- the task that the handle names was killed so

@@ -97,9 +97,18 @@ pub fn has_children(objects: &Objects, job: Koid) -> bool
 fn setting_of(mode: u64, condition: u64, action: u64) -> Option<Setting>
     ensures { option_map setting_value result ≡ setting_of mode condition action }
 {
+    let Some(mode) = Mode::from_number(mode) else {
+        return None;
+    };
+    let Some(condition) = Condition::from_number(condition) else {
+        return None;
+    };
+    let Some(action) = Action::from_number(action) else {
+        return None;
+    };
     Some(Setting {
-        mode: Mode::from_number(mode)?,
-        condition: Condition::from_number(condition)?,
-        action: Action::from_number(action)?,
+        mode,
+        condition,
+        action,
     })
 }

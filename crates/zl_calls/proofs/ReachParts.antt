@@ -104,7 +104,7 @@ module _ (lib : Library) (ps ps1 : List Process) (r r1 : Objects) (blocked block
 
     kill_answered : (answer : Result ⊤ Status) → TaskKillDoes task caller (lab ps r blocked) answer (lab ps1 r1 blocked1) → (o : Outcome) → o ≡ outcome.Answered (status_of answer) → (p2 : Process) → p2 ≡ answered_in p (status_in ∷ []) no_value answer
         → has_ended p.state ≡ false → Reaches lib place caller kill_site (lab ps r blocked) o (lab (slice_set ps1 place p2) r1 blocked1)
-    unfolding has_ended
+    unfolding has_ended answered_so
     kill_answered answer does o ends p2 told alive =
         kills task refl (answered_so no_value (TaskKillDoes task caller) kill_site place (lab ps r blocked) (lab ps1 r1 blocked1) answer does p there o ends p2 told)
         (λ code over. false≢true (sym alive ∙ ap has_ended over))

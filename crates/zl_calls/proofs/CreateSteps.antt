@@ -217,7 +217,7 @@ module _ (lib : Library) (ps : List Process) (r : Objects) (whole : IsConsistent
   by_answer (Ok made) between does is_told =
       let done : CreatesProcess lib (lab ps r blocked) place job program made between = does.ok in
       let same : is_told.caller ≡ done.after =
-          sym (same_Some done.after is_told.caller (sym (get_again ps (done.new ∷ []) place done.after done.caller done.is_caller.is_there) ∙ (ap (λ (qs : List Process). slice_get qs place) (sym done.processes) ∙ is_told.is_there))) in
+      sym (same_Some done.after is_told.caller (sym (get_again ps (done.new ∷ []) place done.after done.caller done.is_caller.is_there) ∙ (ap (λ (qs : List Process). slice_get qs place) (sym done.processes) ∙ is_told.is_there))) in
       left_as (outcome.Answered status.Ok) (set ps place (record (done.after) { cpu = cpu_answered s status.Ok (made ∷ []) done.after.cpu }) ++ done.new ∷ []) (with_new r (body.Process done.above.koid life.Created) 1)
       (is_told.processes
       ∙ ((λ i. slice_set (done.processes i) place (record (same i) { cpu = cpu_answered s status.Ok (made ∷ []) (same i).cpu }))

@@ -92,5 +92,5 @@ module _ (lib : Library) (ps : List Process) (r : Objects) (lab : IsConsistent p
         let same : process_value p ≡ q = same_Some (process_value p) q (sym there ∙ (ap (λ (m : Map ProcessValue). get m p.pid) (sym processes) ∙ at)) in
         let is_site : s ≡ t = ap (λ n. site_in n s) (sym next ∙ (ap (next_for lib) same ∙ stands)) in
         let free : policed_refusal lib w p.pid s.request ≡ refusal lib w p.pid s.request =
-            unpoliced lib w p.pid p.table.entries r.objects (is_seen w processes objects) s.request none ∙ sym (plain_is lib w p.pid s.request) in
+        unpoliced lib w p.pid p.table.entries r.objects (is_seen w processes objects) s.request none ∙ sym (plain_is lib w p.pid s.request) in
         subst (λ (x : Site). policed_refusal lib w p.pid x.request ≡ refusal lib w p.pid x.request) is_site free

@@ -199,11 +199,11 @@ times_kept : (test : ℕ → Bool) (k : ℕ) (xs : List ℕ) → times k (filter
 times_kept test k [] = elim (cases_Bool (test k)) as (λ _. times k (filter test []) ≡ (if test k then times k [] else 0)) [ inl passes ↦ rw passes refl | inr fails ↦ rw fails refl ]
 times_kept test k (x ∷ xs) = elim (cases_Bool (x == k)) as (λ _. times k (filter test (x ∷ xs)) ≡ (if test k then times k (x ∷ xs) else 0)) [
   | inl here ↦
-    let is : x ≡ k = eqb-true x k here in
-    elim (cases_Bool (test k)) as (λ _. times k (filter test (x ∷ xs)) ≡ (if test k then times k (x ∷ xs) else 0)) [
-    | inl passes ↦ rw (ap test is ∙ passes, here, passes) (ap suc (times_kept test k xs ∙ rw passes refl))
-    | inr fails ↦ rw (ap test is ∙ fails, fails) (times_kept test k xs ∙ rw fails refl)
-    ]
+      let is : x ≡ k = eqb-true x k here in
+      elim (cases_Bool (test k)) as (λ _. times k (filter test (x ∷ xs)) ≡ (if test k then times k (x ∷ xs) else 0)) [
+        | inl passes ↦ rw (ap test is ∙ passes, here, passes) (ap suc (times_kept test k xs ∙ rw passes refl))
+        | inr fails ↦ rw (ap test is ∙ fails, fails) (times_kept test k xs ∙ rw fails refl)
+      ]
   | inr apart ↦ elim (cases_Bool (test x)) as (λ _. times k (filter test (x ∷ xs)) ≡ (if test k then times k (x ∷ xs) else 0)) [
     | inl passes ↦ rw (passes, apart) (times_kept test k xs)
     | inr fails ↦ rw (fails, apart) (times_kept test k xs)
@@ -287,8 +287,8 @@ module _ (lib : Library) (ps : List Process) (r : Objects) (whole : IsConsistent
         by_state k None at = rw (got_killed ps r whole blocked sound t l2 kills k, at) refl
         by_state k (Some q) at = elim (cases_Bool (is_blocked (process_killed (is_within r.objects t k) q).state)) as (λ _. (if state_passes is_blocked (get (map process_entry l2.processes) k) then times k blocked else 0) ≡ (if state_passes is_blocked (get (map process_entry l2.processes) k) then 1 else 0)) [
           | inl waits ↦
-            let still : is_blocked q.state ≡ true = ap (λ (x : ProcessValue). is_blocked x.state) (sym (was_blocked (is_within r.objects t k) q waits)) ∙ waits in
-            rw (got_killed ps r whole blocked sound t l2 kills k, at, waits) (are.once k ∙ rw (at, still) refl)
+              let still : is_blocked q.state ≡ true = ap (λ (x : ProcessValue). is_blocked x.state) (sym (was_blocked (is_within r.objects t k) q waits)) ∙ waits in
+              rw (got_killed ps r whole blocked sound t l2 kills k, at, waits) (are.once k ∙ rw (at, still) refl)
           | inr goes ↦ rw (got_killed ps r whole blocked sound t l2 kills k, at, goes) refl
         ]
 
@@ -359,11 +359,11 @@ module _ (lib : Library) (ps : List Process) (r : Objects) (whole : IsConsistent
     unfolding is_ended code_in
     dies_so c code at over = elim (cases_Bool dies) as (λ _. HasLeft lib ps l2.processes r l2.objects blocked l2.blocked p.pid (item.Call p.pid name (outcome.Ended code))) [
       | inl among ↦
-        let is : code ≡ KILLED = the_code among in
-        subst (λ (x : ℤ). HasLeft lib ps l2.processes r l2.objects blocked l2.blocked p.pid (item.Call p.pid name (outcome.Ended x))) (sym is)
-        (leaves_so lib ps r blocked sound p there ready name kill_site next l2.processes (killing r t) l2.objects l2.blocked (outcome.Ended KILLED) refl
-        (ends_settled ps r whole blocked sound t l2 kills l2.processes (λ k q. q.cpu) (λ k. killed_got (λ j q. q.cpu) k (λ q there_too. refl)) (λ k. refl) (still_sorted ps r whole blocked sound t l2 kills))
-        blocked_after (killed_calls among) lists)
+          let is : code ≡ KILLED = the_code among in
+          subst (λ (x : ℤ). HasLeft lib ps l2.processes r l2.objects blocked l2.blocked p.pid (item.Call p.pid name (outcome.Ended x))) (sym is)
+          (leaves_so lib ps r blocked sound p there ready name kill_site next l2.processes (killing r t) l2.objects l2.blocked (outcome.Ended KILLED) refl
+          (ends_settled ps r whole blocked sound t l2 kills l2.processes (λ k q. q.cpu) (λ k. killed_got (λ j q. q.cpu) k (λ q there_too. refl)) (λ k. refl) (still_sorted ps r whole blocked sound t l2 kills))
+          blocked_after (killed_calls among) lists)
       | inr apart ↦ absurd (not_over apart)
     ]
       where
@@ -416,7 +416,7 @@ module _ (lib : Library) (ps : List Process) (r : Objects) (whole : IsConsistent
       after_tables k =
           let n : ℕ × ProcessValue → ℕ = λ q. count_by (λ (h : ℕ × Entry). h.1.koid == k) q.1.handles in
           let kept : sum_by n (update (map process_entry l2.processes) p.pid with_answer) ≡ sum_by n (map process_entry l2.processes) + 0 =
-            sum_update n (map process_entry l2.processes) p.pid 0 (process_killed dies (process_value p)) with_answer stands (omega arith) in
+          sum_update n (map process_entry l2.processes) p.pid 0 (process_killed dies (process_value p)) with_answer stands (omega arith) in
           ap (sum_by n) written ∙ omega (arith, kept)
 
       after_sorted : IsTrue (is_sorted nat_cmp (map process_entry after))

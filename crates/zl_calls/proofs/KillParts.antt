@@ -67,8 +67,8 @@ module _ (first : List Process) (start : Objects) where
           let behind : drop (i + 1) (set ps i p2) ≡ drop (suc i) ps = (λ j. drop (one j) (set ps i p2)) ∙ drop_set ps i in
           let stands : drop i ps ≡ p ∷ drop (suc i) ps = drop_here ps i d within ∙ ap (λ (x : Process). x ∷ drop (suc i) ps) at in
           let all : ClosesAllEnded (drop i ps) r (p2 ∷ qs) r3 =
-              subst (λ (xs : List Process). ClosesAllEnded xs r (p2 ∷ qs) r3) (sym stands)
-              (one_more p p2 (drop (suc i) ps) qs r r2 r3 closes (subst (λ (xs : List Process). ClosesAllEnded xs r2 qs r3) behind rest)) in
+          subst (λ (xs : List Process). ClosesAllEnded xs r (p2 ∷ qs) r3) (sym stands)
+          (one_more p p2 (drop (suc i) ps) qs r r2 r3 closes (subst (λ (xs : List Process). ClosesAllEnded xs r2 qs r3) behind rest)) in
           subst (λ (xs : List Process). ClosesAllEnded first start xs r3) (sym (front ps i qs within one)) (so_far.closes (p2 ∷ qs) r3 all);
     }
       where

@@ -253,8 +253,13 @@ queues_killed : (f : ℕ → Bool) (m : Map Object) (j : ℕ) → queues (each (
 unfolding each
 queues_killed f [] j = refl
 queues_killed f (e ∷ m) j =
-    omega (arith, sum_by-cons (λ (o : ℕ × _). queued_to j o.1.body) (object_entry (e.0, killed_if (f e.0) e.1)) (map object_entry (each (λ k. killed_if (f k)) m)),
-    sum_by-cons (λ (o : ℕ × _). queued_to j o.1.body) (object_entry e) (map object_entry m), queues_killed f m j, killed_queues j (f e.0) e.1)
+    omega (
+      arith,
+      sum_by-cons (λ (o : ℕ × _). queued_to j o.1.body) (object_entry (e.0, killed_if (f e.0) e.1)) (map object_entry (each (λ k. killed_if (f k)) m)),
+      sum_by-cons (λ (o : ℕ × _). queued_to j o.1.body) (object_entry e) (map object_entry m),
+      queues_killed f m j,
+      killed_queues j (f e.0) e.1,
+    )
 
 pub queues_all_killed : (m : Map Object) (t j : ℕ) → queues (all_killed m t) j ≡ queues m j
 unfolding all_killed

@@ -67,7 +67,6 @@ pub mod ReachParts
 pub mod StartSteps
 pub mod StartSound
 pub mod StartWorlds
-pub mod KillSeen
 pub mod CancelCalls
 pub mod Cancelled
 pub mod Performed

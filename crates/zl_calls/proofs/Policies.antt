@@ -201,9 +201,9 @@ module _ (lib : Library) (w : World) (p : ℕ) (entries : Map Entry) (objects : 
   refused_by =
       let fault : Option Status = operands_fault (table_of w p) [] (handle_operands request) in
       let same : verdict_by (decides w p) fault (condition_of request) ≡ verdict_on entries objects p request =
-          (λ i. verdict_by (λ c. decided w p entries objects seen c i) fault (condition_of request))
-          ∙ (verdict_decided objects (job_in (get objects p)) fault (condition_of request)
-          ∙ ap (λ t. verdict_in objects (job_in (get objects p)) (operands_fault t [] (handle_operands request)) (condition_of request)) seen.table_is) in
+      (λ i. verdict_by (λ c. decided w p entries objects seen c i) fault (condition_of request))
+      ∙ (verdict_decided objects (job_in (get objects p)) fault (condition_of request)
+      ∙ ap (λ t. verdict_in objects (job_in (get objects p)) (operands_fault t [] (handle_operands request)) (condition_of request)) seen.table_is) in
       (λ i. first_some (examined_fault w p [] (handle_operands request) i ∷ policy_making w p (condition_of request) i ∷ listed lib w p request))
       ∙ (by_verdict (decides w p) fault (condition_of request) (listed lib w p request)
       ∙ ap (λ v. option_or (option_map ending v) (first_some (answers fault ∷ listed lib w p request))) same)

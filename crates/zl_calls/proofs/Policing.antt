@@ -78,15 +78,19 @@ module _ (lib : Library) (before after : List Process) (r r2 : Objects) (p p2 : 
         let making = denied_object p.table.entries r.objects p.pid s.request is in
         let answered : world_value after r2 ≡ replied (world_value before r) p.pid s status.AccessDenied [] = same_world before after p p2 write r r2 s status.AccessDenied [] denied.table denied.objects denied.replied in
         let acted : with_waiters (world_value after r2) r.waits r.waits_made blocked ≡ replied W p.pid s status.AccessDenied [] =
-            ap (λ (w : World). with_waiters w r.waits r.waits_made blocked) answered ∙ sym (replied_among p.pid r.waits r.waits_made blocked (world_value before r) s status.AccessDenied []) in
+        ap (λ (w : World). with_waiters w r.waits r.waits_made blocked) answered ∙ sym (replied_among p.pid r.waits r.waits_made blocked (world_value before r) s status.AccessDenied []) in
         left_by lib before (left_all after r2) r r2 p.pid (item.Call p.pid call o) blocked sound r.waits r.waits_made blocked
         (record {
           process = process_value p;
           is_there = write.there;
           is_ready = ready;
           acted = with_waiters (world_value after r2) r.waits r.waits_made blocked;
-          acts = rw next (o, refl, subst (λ (x : Outcome). Calls lib W p.pid s x (with_waiters (world_value after r2) r.waits r.waits_made blocked)) (sym denied.ends)
-              (denied_calls lib W p.pid s (with_waiters (world_value after r2) r.waits r.waits_made blocked) making.0 making.1 (refused verdict.Denied is) acted));
+          acts = rw next (
+            o,
+            refl,
+            subst (λ (x : Outcome). Calls lib W p.pid s x (with_waiters (world_value after r2) r.waits r.waits_made blocked)) (sym denied.ends)
+                (denied_calls lib W p.pid s (with_waiters (world_value after r2) r.waits r.waits_made blocked) making.0 making.1 (refused verdict.Denied is) acted),
+          );
           settles = settles_waiting (world_value after r2) (settled_world after r2) (still_settles after r2 (keeps_by verdict.Denied denied)) r.waits r.waits_made blocked;
         })
         (record { waits = λ test there. ap (λ (x : Objects). filter test x.waits) denied.objects; made = ap (λ (x : Objects). x.waits_made) denied.objects })
@@ -95,8 +99,8 @@ module _ (lib : Library) (before after : List Process) (r r2 : Objects) (p p2 : 
     killed_acts exits is =
         let others : List ℕ = filter (λ q. not (q == p.pid)) blocked in
         let acted : with_waiters (world_value after r) r.waits r.waits_made others ≡ ended W p.pid BY_POLICY =
-            ap (λ (w : World). with_waiters w r.waits r.waits_made others) (ended_is lib before after r r2 p p2 lab write BY_POLICY exits.over ready)
-            ∙ sym (ended_among p.pid r.waits r.waits_made blocked (world_value before r) BY_POLICY) in
+        ap (λ (w : World). with_waiters w r.waits r.waits_made others) (ended_is lib before after r r2 p p2 lab write BY_POLICY exits.over ready)
+        ∙ sym (ended_among p.pid r.waits r.waits_made blocked (world_value before r) BY_POLICY) in
         left_by lib before (left_all after r2) r r2 p.pid (item.Call p.pid call o) blocked sound r.waits r.waits_made blocked
         (subst (λ (b : List ℕ). ActsAndSettles lib W p.pid (item.Call p.pid call o) (with_waiters (settled_world after r2) (filter (is_left_at_port (settled_world after r2)) r.waits) r.waits_made b))
         (none_filtered p.pid blocked (are.once p.pid ∙ rw (write.there, unblocked) refl))
@@ -105,8 +109,12 @@ module _ (lib : Library) (before after : List Process) (r r2 : Objects) (p p2 : 
           is_there = write.there;
           is_ready = ready;
           acted = with_waiters (world_value after r) r.waits r.waits_made others;
-          acts = rw next (o, refl, subst (λ (x : Outcome). Calls lib W p.pid s x (with_waiters (world_value after r) r.waits r.waits_made others)) (sym exits.ends)
-              (killed_calls lib W p.pid s (with_waiters (world_value after r) r.waits r.waits_made others) (refused verdict.Killed is) acted));
+          acts = rw next (
+            o,
+            refl,
+            subst (λ (x : Outcome). Calls lib W p.pid s x (with_waiters (world_value after r) r.waits r.waits_made others)) (sym exits.ends)
+                (killed_calls lib W p.pid s (with_waiters (world_value after r) r.waits r.waits_made others) (refused verdict.Killed is) acted),
+          );
           settles = settles_waiting (world_value after r) (settled_world after r2) (settles lib before after r r2 p p2 lab write BY_POLICY exits.over ready) r.waits r.waits_made others;
         }))
         exits.over.listed.listed

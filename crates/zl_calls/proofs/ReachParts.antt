@@ -43,7 +43,7 @@ created_still lib place job program caller l l2 (Ok made) at does =
     let it : CreatesProcess lib l place job program made l2 = does.ok in
     let same : it.caller ≡ caller = same_Some it.caller caller (sym it.is_caller.is_there ∙ at) in
     let there : slice_get l2.processes place ≡ Some it.after =
-        ap (λ (ps : List Process). slice_get ps place) it.processes ∙ front (slice_set l.processes place it.after) (it.new ∷ []) place it.after (get_set l.processes place it.caller it.after it.is_caller.is_there) in
+    ap (λ (ps : List Process). slice_get ps place) it.processes ∙ front (slice_set l.processes place it.after) (it.new ∷ []) place it.after (get_set l.processes place it.caller it.after it.is_caller.is_there) in
     subst (λ (o : Option Process). IsCallerStill caller o) (sym there) (ap (λ (p : Process). p.cpu) it.is_caller.same ∙ ap (λ (p : Process). p.cpu) same)
 created_still lib place job program caller l l2 (Err refused) at does =
     subst (λ (o : Option Process). IsCallerStill caller o) (sym (ap (λ (x : Lab). slice_get x.processes place) does.refused ∙ at)) refl

@@ -78,13 +78,13 @@ unfolding update
 update_apart [] j k f g apart = refl
 update_apart {X} (e ∷ m) j k f g apart = elim (cases_Bool (e.0 == j)) as (λ _. update (update (e ∷ m) j f) k g ≡ update (update (e ∷ m) k g) j f) [
   | inl at_j ↦
-    let not_k : (e.0 == k) ≡ false = subst (λ (n : ℕ). (n == k) ≡ false) (sym (eqb-true e.0 j at_j)) apart in
-    let same : (j == j) ≡ true = eq-eqb j j refl in
-    rw (at_j, not_k, apart, at_j) refl
+      let not_k : (e.0 == k) ≡ false = subst (λ (n : ℕ). (n == k) ≡ false) (sym (eqb-true e.0 j at_j)) apart in
+      let same : (j == j) ≡ true = eq-eqb j j refl in
+      rw (at_j, not_k, apart, at_j) refl
   | inr not_j ↦ elim (cases_Bool (e.0 == k)) as (λ _. update (update (e ∷ m) j f) k g ≡ update (update (e ∷ m) k g) j f) [
     | inl at_k ↦
-      let other : (k == j) ≡ false = subst (λ (n : ℕ). (n == j) ≡ false) (eqb-true e.0 k at_k) not_j in
-      rw (not_j, at_k, other) refl
+        let other : (k == j) ≡ false = subst (λ (n : ℕ). (n == j) ≡ false) (eqb-true e.0 k at_k) not_j in
+        rw (not_j, at_k, other) refl
     | inr not_k ↦ rw (not_j, not_k, not_j) (ap (λ (rest : Map X). e ∷ rest) (update_apart m j k f g apart))
   ]
 ]

@@ -70,9 +70,9 @@ module _ (lib : Library) (ps : List Process) (r : Objects) (blocked : List ℕ) 
   other_pid : (p.pid == does.named.koid) ≡ false
   other_pid = elim (cases_Bool (p.pid == does.named.koid)) as (λ _. (p.pid == does.named.koid) ≡ false) [
     | inl here ↦
-      let same : does.child.pid ≡ p.pid = does.pid ∙ sym (eqb-true p.pid does.named.koid here) in
-      let one : process_value does.child ≡ process_value p = same_Some (process_value does.child) (process_value p) (sym child_write.there ∙ (ap (λ (k : ℕ). get (map process_entry ps) k) same ∙ caller_held)) in
-      absurd (not_both p.state (subst (λ (x : StateValue). is_created x ≡ true) (ap (λ (q : ProcessValue). q.state) one) does.is_created) ready)
+        let same : does.child.pid ≡ p.pid = does.pid ∙ sym (eqb-true p.pid does.named.koid here) in
+        let one : process_value does.child ≡ process_value p = same_Some (process_value does.child) (process_value p) (sym child_write.there ∙ (ap (λ (k : ℕ). get (map process_entry ps) k) same ∙ caller_held)) in
+        absurd (not_both p.state (subst (λ (x : StateValue). is_created x ≡ true) (ap (λ (q : ProcessValue). q.state) one) does.is_created) ready)
     | inr apart ↦ apart
   ]
 

@@ -92,12 +92,7 @@ pub fn reach(
             let (process, word) = (cpu.register(*process), cpu.register(*word));
             let value = cpu.register(*handle);
             let answer = process_start(library, processes, objects, place, process, value, word);
-            Some(answer_taking(
-                &mut processes[place],
-                *status,
-                *handle,
-                answer,
-            ))
+            Some(answer_taking(&mut processes[place], *status, *handle, answer))
         }
         CallInstr::TaskKill { status, task } => {
             let task = processes[place].cpu.register(*task);
@@ -126,11 +121,7 @@ fn answer_taking(
 }
 
 /// The call is answered, unless it has ended its caller.
-fn answer_unless_over(
-    caller: &mut Process,
-    status: Register,
-    answer: Result<(), Status>,
-) -> Outcome
+fn answer_unless_over(caller: &mut Process, status: Register, answer: Result<(), Status>) -> Outcome
     requires { caller.old.cpu.counter < 2 ^ 32 }
     ensures { EndsOrAnswers status answer caller.old result caller.new }
 {
@@ -254,7 +245,9 @@ fn process_start(
 /// The process is ready, and finds the handle and the word in its registers.
 fn begin(process: &mut Process, objects: &mut Objects, handle: HValue, word: u64)
     ensures process { process.new ≡ record process.old {
-        state = State.Ready; cpu = cpu_given (handle ∷ []) word process.old.cpu } }
+      state = State.Ready;
+      cpu = cpu_given (handle ∷ []) word process.old.cpu;
+    } }
     ensures objects { objects.new ≡ starting objects.old process.old.pid }
 {
     process.state = State::Ready;

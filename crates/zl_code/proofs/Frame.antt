@@ -408,7 +408,6 @@ policy_same start after k x y sound busy (message_goes is) = ap (λ (o : Object)
     by_body2 : (b : Body) → policy_of (body_after_read b) ≡ policy_of b
     by_body2 (ChannelEnd peer queue) = refl
     by_body2 _ = refl
-
 policy_same start after k x y sound busy (policy_changes s is may) = absurd (true≢false (sym (is_busy start k sound busy) ∙ may sound))
 policy_same start after k x y sound busy (dies is may) = ap (λ (o : Object). policy_of o.body) is ∙ by_body2 x.body
   where

@@ -44,13 +44,7 @@ impl Body {
                     Some(job.parent())
                 }
             }
-            Body::Process { job, life } => {
-                if life.is_alive() {
-                    Some(*job)
-                } else {
-                    None
-                }
-            }
+            Body::Process { job, life } => { if life.is_alive() { Some(*job) } else { None } }
             _ => None,
         }
     }

@@ -9,9 +9,9 @@ ghost use Rattle.zl_objects.specs.Seen.{LeavesLargest};
 ghost use Rattle.zl_objects.specs.Listed.{LeavesListed};
 ghost use Rattle.zl_objects.specs.Waits.{waits_in, LeavesWaits};
 
+use crate::killing::kill_all;
 use crate::listing::keep_there;
 use crate::object::{Body, Object};
-use crate::killing::kill_all;
 use crate::releasing::{let_go, remove_dying, remove_unkept, sweep};
 use crate::wait::Wait;
 use std::alloc::{AllocError, Global};

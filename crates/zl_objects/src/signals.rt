@@ -4,9 +4,9 @@ ghost use Rattle.std.specs.Prelude.{◌≡◌};
 ghost use Rattle.zl_rights.specs.Signals.{signal_if};
 ghost use Rattle.zl_objects.specs.Signals.{implied, signals_at, AreActive};
 
+use crate::jobs::{has_job_below, has_process_below};
 use crate::object::Body;
 use crate::objects::Objects;
-use crate::jobs::{has_job_below, has_process_below};
 use bitflags::Flags;
 use zl_rights::{Koid, Signals};
 

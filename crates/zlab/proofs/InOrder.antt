@@ -136,12 +136,12 @@ statement_placed n said (name ∷ []) next h e = alone _ e
         next_line n Statements next read.0 refl (object_below n said read.0 _ h read.1) read.2
 statement_placed n said (name ∷ most ∷ []) next h e =
     either_placed n (is_word name (codes "limit")) (is_word name (codes "job")) (limit_said said (number_of most)) (job_said n said (number_of most)) next
-        (λ new. limit_below n said new _ h) (λ new. job_below n said new _ h) e
+    (λ new. limit_below n said new _ h) (λ new. job_below n said new _ h) e
 statement_placed n said (name ∷ mark ∷ form ∷ []) next h e = opened_placed n said (body_named name mark form) next h e
 statement_placed n said (name ∷ job ∷ program ∷ word ∷ handles) next h e =
     either_placed n (is_word name (codes "policy") && is_empty handles) (is_word name (codes "process")) (policy_said n said (number_of job) (condition_named program) (action_named word))
-        (process_said n said (number_of job) (number_of program) (number_of word) (handles_of handles)) next
-        (λ new. policy_below n said new _ _ _ h) (λ new. process_below n said new _ _ _ _ h) e
+    (process_said n said (number_of job) (number_of program) (number_of word) (handles_of handles)) next
+    (λ new. policy_below n said new _ _ _ h) (λ new. process_below n said new _ _ _ _ h) e
 
 program_below : (is_refused : Refusals) (n : ℕ) (said new : Scenario) (checked : Bool) (bytes : Result (List ℕ) Cause) → IsBelow n said → program_said is_refused said checked bytes ≡ Ok new → IsBelow n new
 unfolding program_said

@@ -5,13 +5,13 @@ use Rattle.zl_calls.proofs.tasks.process_start.Goals as goal
 pub index_mut-requires : goal.index_mut-requires
 index_mut-requires c =
     let within : c.args.place < length c.enter.new.processes.items =
-        caller_inside c.args.library.now c.args.processes.now.items c.enter.new.processes.items c.args.place c.args.process c.args.handle c.in-Ok.started c.requires.place c.in-Ok.ensures.entered in
+    caller_inside c.args.library.now c.args.processes.now.items c.enter.new.processes.items c.args.place c.args.process c.args.handle c.in-Ok.started c.requires.place c.in-Ok.ensures.entered in
     omega (arith, within, c.enter.new.processes.ok.0)
 
 pub index_mut-requires-in-Ok : goal.index_mut-requires-in-Ok
 index_mut-requires-in-Ok c =
     let within : c.in-Ok.started.place < length c.enter.new.processes.items =
-        started_inside c.args.library.now c.args.processes.now.items c.enter.new.processes.items c.args.place c.args.process c.args.handle c.in-Ok.started c.requires.place c.in-Ok.ensures.entered in
+    started_inside c.args.library.now c.args.processes.now.items c.enter.new.processes.items c.args.place c.args.process c.args.handle c.in-Ok.started c.requires.place c.in-Ok.ensures.entered in
     omega (arith, within, c.enter.new.processes.ok.0)
 
 pub returns-in-Ok-clause-does : goal.returns-in-Ok-clause-does

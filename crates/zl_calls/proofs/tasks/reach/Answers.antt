@@ -10,8 +10,8 @@ pub index_mut-requires : goal.index_mut-requires
 index_mut-requires c =
     let there : (x : Process) × (slice_get c.args.processes.now.items c.args.place ≡ Some x) = stands_at c.args.processes.now.items c.args.place c.requires.place in
     let still : IsCallerStill there.0 (slice_get c.process_create-made.new.processes.items c.args.place) =
-        created_still c.args.library.now c.args.place _ _ there.0 (lab c.args.processes.now.items c.args.objects.now c.args.blocked.now.items)
-        (lab c.process_create-made.new.processes.items c.process_create-made.new.objects c.process_create-made.new.blocked.items) c.process_create-made.result there.1 (c.process_create-made.ensures.does there.0 there.1) in
+    created_still c.args.library.now c.args.place _ _ there.0 (lab c.args.processes.now.items c.args.objects.now c.args.blocked.now.items)
+    (lab c.process_create-made.new.processes.items c.process_create-made.new.objects c.process_create-made.new.blocked.items) c.process_create-made.result there.1 (c.process_create-made.ensures.does there.0 there.1) in
     omega (arith, still_within c.process_create-made.new.processes.items c.args.place there.0 still, c.process_create-made.new.processes.ok.0)
 
 pub answer_made-requires : goal.answer_made-requires

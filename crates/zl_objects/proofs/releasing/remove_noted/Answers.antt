@@ -44,8 +44,13 @@ returns-in-ChannelEnd-clause-less c =
     let ended : c.end_waits.new.by_koid.entries ≡ ending_waits c.args.koid c.in-Some.gone (without c.args.by_koid.now.entries c.args.koid) = c.end_waits.ensures ∙ ended_by c.args.by_koid.now.entries c.take_unkept.new.by_koid.entries c.args.koid c.in-Some.gone c.has_reserved-reserved.result was.there (c.take_unkept.ensures.left ∙ was.left) c.has_reserved-reserved.ensures in
     let noted : c.note_keeper.new.dying.items ≡ c.args.dying.now.items ++ option_to_list (keeper_of c.in-Some.gone.body) = c.note_keeper.ensures.noted ∙ ap (λ (q : Option ℕ). c.args.dying.now.items ++ option_to_list q) (c.keeper_at-keeper.ensures ∙ ap keeper_in was.there) in
     let went : LetsGo (named_in c.in-ChannelEnd.queue) (ending_waits c.args.koid c.in-Some.gone (without c.args.by_koid.now.entries c.args.koid)) (c.args.dying.now.items ++ option_to_list (keeper_of c.in-Some.gone.body)) c.let_go_queue.new.by_koid.entries c.let_go_queue.new.dying.items = rw (ended, noted) at c.let_go_queue.ensures.goes in
-    omega (arith, less_ending c.args.by_koid.now.entries c.args.dying.now.items c.args.koid c.in-Some.gone, went.cheap, fewer_ending c.args.by_koid.now.entries c.args.dying.now.items c.args.koid c.in-Some.gone was.there,
-    cascaded_shorter (named_in c.in-ChannelEnd.queue) (ending_waits c.args.koid c.in-Some.gone (without c.args.by_koid.now.entries c.args.koid)) c.let_go_queue.new.by_koid.entries (cascades_of (named_in c.in-ChannelEnd.queue) (ending_waits c.args.koid c.in-Some.gone (without c.args.by_koid.now.entries c.args.koid)) c.let_go_queue.new.by_koid.entries (c.args.dying.now.items ++ option_to_list (keeper_of c.in-Some.gone.body)) c.let_go_queue.new.dying.items went))
+    omega (
+      arith,
+      less_ending c.args.by_koid.now.entries c.args.dying.now.items c.args.koid c.in-Some.gone,
+      went.cheap,
+      fewer_ending c.args.by_koid.now.entries c.args.dying.now.items c.args.koid c.in-Some.gone was.there,
+      cascaded_shorter (named_in c.in-ChannelEnd.queue) (ending_waits c.args.koid c.in-Some.gone (without c.args.by_koid.now.entries c.args.koid)) c.let_go_queue.new.by_koid.entries (cascades_of (named_in c.in-ChannelEnd.queue) (ending_waits c.args.koid c.in-Some.gone (without c.args.by_koid.now.entries c.args.koid)) c.let_go_queue.new.by_koid.entries (c.args.dying.now.items ++ option_to_list (keeper_of c.in-Some.gone.body)) c.let_go_queue.new.dying.items went),
+    )
 
 pub returns : goal.returns
 returns c =

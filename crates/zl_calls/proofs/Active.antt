@@ -1,24 +1,29 @@
 -- What is active at an object of a lab: the objects tell it, without the processes.
-use Rattle.zl_calls.proofs.Common.{◌≡◌, ℕ, List, Objects, Agrees, world_value, IsConsistent, World}
+use Rattle.zl_calls.proofs.Common.{◌≡◌, ◌<◌, ℕ, List, Some, IsTrue, nat_cmp, is_sorted, Map, get, has_key, Objects, Agrees, world_value, IsConsistent, World}
 use Rattle.zl_rights.specs.Signals.{active}
 use Rattle.zl_objects.specs.declared.object.Body.{Body}
 use Rattle.zl_objects.specs.declared.object.Body.TheVariants as body
-use Rattle.zl_objects.specs.Signals.{Shows, signals_at}
+use Rattle.zl_objects.specs.declared.object.Object.{Object}
+use Rattle.zl_objects.specs.Signals.{ShowStates, Shows, signals_at}
 use Rattle.zl_objects.proofs.Showing.{are_active}
 use Rattle.zl_calls.specs.declared.process.Process.{Process}
 
 -- an object that agrees with its process shows what that is in
 shown : (w : World) (k : ℕ) (b : Body) → Agrees w k b → Shows w k b
-shown w k body.RootJob agrees = tt
+shown w k (body.Job own) agrees = tt
 shown w k (body.Process job alive) agrees = record { living = agrees.living; over = agrees.over }
 shown w k body.Event agrees = tt
 shown w k (body.Port port) agrees = tt
 shown w k (body.ChannelEnd peer queue) agrees = tt
 
+-- objects that agree with their processes show what those are in
+pub shown_all : (w : World) (m : Map Object) → IsTrue (is_sorted nat_cmp m) → ((k : ℕ) → IsTrue (has_key m k) → 0 < k) → ((k : ℕ) (o : Object) → get m k ≡ Some o → Agrees w k o.body) → ShowStates w m
+shown_all w m in_order no_zero agrees = record { in_order = in_order; no_zero = no_zero; shown = λ j o at. shown w j o.body (agrees j o at) }
+
+-- those of a lab do
+pub states_shown : (ps : List Process) (r : Objects) → IsConsistent ps r → ShowStates (world_value ps r) r.objects
+states_shown ps r lab = shown_all (world_value ps r) r.objects lab.kept.in_order lab.no_zero lab.agrees
+
 -- the signals of the object k, by the objects alone, are those that are active there
 pub signals_active : (ps : List Process) (r : Objects) → IsConsistent ps r → (k : ℕ) → signals_at r.objects k ≡ active (world_value ps r) k
-signals_active ps r lab k = are_active r.objects k (world_value ps r) (record {
-  in_order = lab.kept.in_order;
-  no_zero = lab.no_zero;
-  shown = λ j o at. shown (world_value ps r) j o.body (lab.agrees j o at);
-})
+signals_active ps r lab k = are_active r.objects k (world_value ps r) (states_shown ps r lab)

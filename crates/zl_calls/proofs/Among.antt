@@ -14,21 +14,17 @@ use Rattle.zl_code.proofs.Waiters.{replied_among, with_waiters}
 use Rattle.zl_calls.specs.declared.process.Process.{Process}
 use Rattle.zl_calls.proofs.Answered.{IsWrite, same_world}
 use Rattle.zl_calls.proofs.Done.{IsCalledAmong}
-use Rattle.zl_calls.proofs.Refused.{NoPolicy, TellsNothing, answers, empty_policies, fault_answers, refused_calls}
+use Rattle.zl_calls.proofs.Refused.{TellsNothing, answers, fault_answers, refused_calls}
 use Rattle.zl_calls.proofs.Written.{refusal_keeps}
 
 -- ---- two look-ups
 
--- no job has a policy, whatever waits
-pub no_policy_among : (before : List Process) (r : Objects) (blocked : List ℕ) → NoPolicy (world_blocked before r blocked)
-no_policy_among before r blocked = record { empty = λ k. empty_policies r.objects k }
-
-module _ (w : World) (free : NoPolicy w) (p : ℕ) where
+module _ (w : World) (p : ℕ) where
   -- a fault of a look-up is answered, as no policy ends the caller for it
   pub look_up_answers : (x : Result Entry Status) → by_look_up w p x ≡ answers (result_err x)
   look_up_answers (Ok e) = refl
-  look_up_answers (Err status.BadHandle) = fault_answers w free p condition.BadHandle status.BadHandle
-  look_up_answers (Err status.WrongType) = fault_answers w free p condition.WrongObject status.WrongType
+  look_up_answers (Err status.BadHandle) = fault_answers w p condition.BadHandle status.BadHandle
+  look_up_answers (Err status.WrongType) = fault_answers w p condition.WrongObject status.WrongType
   look_up_answers (Err _) = refl
 
   -- the refusal of a call with two handle operands, where this is left of it when both are found

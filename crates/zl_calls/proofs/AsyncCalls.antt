@@ -17,7 +17,7 @@ use Rattle.zl_calls.specs.declared.process.Process.{Process}
 use Rattle.zl_calls.specs.calls.Async.{RegistersWait, WaitAsyncDoes, async_refusal, async_refusal_of, wait_for}
 use Rattle.zl_calls.specs.calls.Port.{port_at}
 use Rattle.zl_rights.specs.LookUp.{looked_up}
-use Rattle.zl_calls.proofs.Among.{answered_among, behind_both, both_looked_up, ends_among, no_policy_among}
+use Rattle.zl_calls.proofs.Among.{answered_among, behind_both, both_looked_up, ends_among}
 use Rattle.zl_calls.proofs.Answered.{IsWrite, same_world, table_is}
 use Rattle.zl_calls.proofs.Beside.{beside_lab, beside_world, watching_beside}
 use Rattle.zl_calls.proofs.Done.{IsCalledAmong}
@@ -42,7 +42,7 @@ module _ (lib : Library) (before after : List Process) (r r2 : Objects) (p p2 : 
     by_tests true false = refl
 
     by_both : (blocked : List ℕ) (x y : Result Entry Status)
-        → behind_both (among blocked) (no_policy_among before r blocked) p.pid x y (first_some (answer_if (not (is_mask mask)) status.InvalidArgs ∷ answer_if (not (may_register r)) status.NoResources ∷ []))
+        → behind_both (among blocked) p.pid x y (first_some (answer_if (not (is_mask mask)) status.InvalidArgs ∷ answer_if (not (may_register r)) status.NoResources ∷ []))
         ≡ answers (async_refusal_of r mask x y)
     by_both blocked (Ok e) (Ok f) = ap (λ (o : Option Outcome). first_some (o ∷ [])) (by_tests (is_mask mask) (may_register r)) ∙ alone (async_refusal_of r mask (Ok e) (Ok f))
       where
@@ -56,7 +56,7 @@ module _ (lib : Library) (before after : List Process) (r r2 : Objects) (p p2 : 
     unfolding refusal handle_operands row_of examined operand listed
     async_refused blocked =
         rw (table_is before after p p2 write r)
-        (both_looked_up (among blocked) (no_policy_among before r blocked) p.pid (get p.table.entries h) (get p.table.entries port) any (kind.Port ∷ []) WAIT WRITE
+        (both_looked_up (among blocked) p.pid (get p.table.entries h) (get p.table.entries port) any (kind.Port ∷ []) WAIT WRITE
         (answer_if (not (is_mask mask)) status.InvalidArgs ∷ answer_if (not (may_register r)) status.NoResources ∷ [])
         ∙ by_both blocked (looked_up p.table.entries h [] WAIT) (port_at p.table.entries port WRITE))
 

@@ -27,7 +27,7 @@ job_seen ps r k = rw (get_seen r.objects k) (by_object (get r.objects k))
     by_object (Some o) = by_body o.body
       where
         by_body : (b : Body) → is_job_body (Some (body_value b)) ≡ is_job_here b
-        by_body body.RootJob = refl
+        by_body (body.Job own) = refl
         by_body (body.Process job lives) = refl
         by_body body.Event = refl
         by_body (body.Port port) = refl
@@ -63,7 +63,7 @@ module _ (objects : Map Object) where
       given k = if_default (Some (record { koid = g.koid; kind = k; rights = rights_of (rights_given g.rights k) }))
 
       kind_is : (b : Body) → kind_of (body_value b) ≡ kind_in b
-      kind_is body.RootJob = refl
+      kind_is (body.Job own) = refl
       kind_is (body.Process job lives) = refl
       kind_is body.Event = refl
       kind_is (body.Port port) = refl

@@ -6,6 +6,7 @@ use Rattle.std.proofs.lemmas.List.Sums.{count_by-le-length}
 use Rattle.zl_rights.specs.declared.entry.Entry.{Entry}
 use Rattle.zl_code.specs.declared.boot.Grant.{Grant}
 use Rattle.zl_code.specs.Starting.{set_from, with_handles}
+use Rattle.zl_calls.specs.Making.{is_killed}
 use Rattle.zl_calls.specs.declared.booting.Made.{Made}
 use Rattle.zl_objects.specs.declared.object.Object.{Object}
 use Rattle.zl_calls.specs.declared.process.Process.{Process}
@@ -146,7 +147,7 @@ registers_more (x ∷ vs) v registers =
 
 -- ---- one handle after another
 
-bare_table : IsTable (record { entries = []; last = None })
+pub bare_table : IsTable (record { entries = []; last = None })
 unfolding get
 bare_table = record { sorted = refl; few = omega arith; values = λ value there. absurd (false≢true there) }
 
@@ -228,6 +229,9 @@ module _ (gs : List Grant) (old new : Made) (p p2 : Process) (so_far : Gives gs 
       sound = rw inserts.entries (holding_sound ps p2.table.entries r so_far.making.sound value e inserts.unused room);
       few = λ k. omega (arith, so_far.making.few k, same_tables ps r r3 k (queues_updated held_once_more held_body r.objects e.koid k));
       unwatched = record { none = so_far.making.unwatched.none; none_made = so_far.making.unwatched.none_made };
+      alive = λ j x at. found_updated held_once_more r.objects e.koid (is_killed x.body ≡ false) j x at
+          (λ o before here is. subst (λ (y : Object). is_killed y.body ≡ false) is (rw (held_body o) (so_far.making.alive j o before)))
+          (λ apart before. so_far.making.alive j x before);
     };
     processes = so_far.processes;
     same = ap (λ (os : Map ObjectValue). record (seen new) { objects = os }) (update_unseen object_value r.objects e.koid held_once_more held_value) ∙ so_far.same;

@@ -1,5 +1,5 @@
 -- One process more, with its handles: what was made goes on being what the definitions make.
-use Rattle.zl_calls.proofs.Common.{cases_Bool, eqb-true, eq-eqb, false≢true, ◌==◌, if◌then◌else◌, ◌≡◌, ◌<◌, ◌≤◌, ◌+◌, ◌⊎◌, ℕ, zero, suc, Bool, true, false, List, [], ◌∷◌, ◌++◌, map, refl, sym, ap, ◌∙◌, subst, Option, Some, None, Result, Ok, Err, OnOk, ⊤, inl, inr, IsTrue, arith, length, is_some, slice_get, slice_set, list_any, sum_by, count_by, sum_by-cons, map-append, none-some, same_Some, Map, get, put, ProcessBody, is_process, runs, handles_to, Image, Library, with_object, boot_fault, boot_effect, process_with, body_in, get-put, may_get_all, IsTable, sorted_put, put_key, Objects, new_object, with_new, is_job_at, is_job_in, process_entry, process_value, state_value, object_entry, object_value, world_value, IsNamed, Agrees, AreNamed, All, All-nil, lives, is_in_job, IsSound, IsMaking, root_alone, Makes, seen, IsBare, process_given, Gives, World, length-append, started_process, process_with_all, handles_given, with_process, started_cpu}
+use Rattle.zl_calls.proofs.Common.{cases_Bool, eqb-true, eq-eqb, false≢true, or_right, ◌==◌, if◌then◌else◌, ◌≡◌, ◌<◌, ◌≤◌, ◌+◌, ◌⊎◌, ℕ, zero, suc, Bool, true, false, List, [], ◌∷◌, ◌++◌, map, refl, sym, ap, ◌∙◌, subst, Option, Some, None, Result, Ok, Err, OnOk, ⊤, inl, inr, IsTrue, arith, length, is_some, slice_get, slice_set, list_any, sum_by, count_by, sum_by-cons, map-append, none-some, same_Some, Map, get, put, ProcessBody, is_process, runs, handles_to, Image, Library, with_object, boot_fault, boot_effect, process_with, body_in, get-put, may_get_all, IsTable, sorted_put, put_key, Objects, new_object, with_new, is_job_at, is_job_in, process_entry, process_value, state_value, object_entry, object_value, world_value, IsNamed, Agrees, AreNamed, All, All-nil, lives, is_in_job, IsSound, IsMaking, root_alone, Makes, seen, IsBare, process_given, Gives, World, length-append, started_process, process_with_all, handles_given, with_process, started_cpu}
 use Rattle.zl_code.proofs.Common.{Process as ProcessValue, State as StateValue, is_job_body}
 use Rattle.std.specs.Result.{is_err}
 use Rattle.std.proofs.lemmas.List.Sums.{count_by-le-length, sum_by-append}
@@ -9,16 +9,20 @@ use Rattle.zl_code.specs.declared.boot.Statement.TheVariants as statement
 use Rattle.zl_code.specs.Starting.{set_from, with_handles, cpu_given, blank_cpu, created_process, started_with}
 use Rattle.zl_code.proofs.CanStart.{CanStart, can_start, started_with_all, started_may_get}
 use Rattle.zl_objects.specs.declared.object.Body.{Body}
+use Rattle.zl_jobs.specs.Jobs.{root_job as job_value}
 use Rattle.zl_objects.specs.declared.object.Body.TheVariants as body
+use Rattle.zl_objects.specs.declared.object.Life.TheVariants as life
 use Rattle.zl_objects.specs.declared.object.Object.{Object}
 use Rattle.zl_calls.specs.declared.process.Process.{Process}
 use Rattle.zl_calls.specs.declared.process.State.{State as OwnState}
 use Rattle.zl_calls.specs.declared.process.State.TheVariants as state
+use Rattle.zl_calls.specs.Making.{is_killed}
 use Rattle.zl_calls.specs.declared.booting.Made.{Made}
 use Rattle.zl_calls.proofs.BootFaults.{job_seen}
 use Rattle.zl_rights.specs.Signals.{has_ended}
 use Rattle.zl_rights.specs.World.{Message}
 use Rattle.zl_objects.specs.Objects.{queue_of}
+use Rattle.zl_objects.proofs.Bodies.{more_in_job}
 use Rattle.zl_objects.proofs.ByKoid.{put_last}
 use Rattle.zl_objects.proofs.Found.{Found, any_found}
 use Rattle.zl_objects.proofs.Law.{has_seen}
@@ -38,10 +42,10 @@ module _ (ps : List Process) (p : Process) (r : Objects) (making : IsMaking ps p
   n = r.next_koid
 
   abbrev fresh : Object
-  fresh = new_object (body.Process job true) 0
+  fresh = new_object (body.Process job life.Running) 0
 
   abbrev grown : Objects
-  grown = with_new r (body.Process job true) 0
+  grown = with_new r (body.Process job life.Running) 0
 
   abbrev after : List Process
   after = ps ++ p ∷ []
@@ -101,12 +105,7 @@ module _ (ps : List Process) (p : Process) (r : Objects) (making : IsMaking ps p
       job_there (Some o) h = refl
 
   still_in_job : (c : Body) → IsTrue (is_in_job r.objects c) → IsTrue (is_in_job grown.objects c)
-  still_in_job body.RootJob h = refl
-  still_in_job (body.Process j false) h = refl
-  still_in_job (body.Process j true) h = job_grown j h
-  still_in_job body.Event h = refl
-  still_in_job (body.Port port) h = refl
-  still_in_job (body.ChannelEnd peer queue) h = refl
+  still_in_job = more_in_job r.objects grown.objects job_grown
 
   -- ---- counts
 
@@ -116,7 +115,7 @@ module _ (ps : List Process) (p : Process) (r : Objects) (making : IsMaking ps p
       let tables : sum_by (λ (q : ℕ × ProcessValue). count_by (λ h. h.1.koid == j) q.1.handles) (map process_entry ps ++ process_entry p ∷ []) ≡ sum_by (λ (q : ℕ × ProcessValue). count_by (λ h. h.1.koid == j) q.1.handles) (map process_entry ps) + sum_by (λ (q : ℕ × ProcessValue). count_by (λ h. h.1.koid == j) q.1.handles) (process_entry p ∷ [])
       = sum_by-append (λ q. count_by (λ h. h.1.koid == j) q.1.handles) (map process_entry ps) (process_entry p ∷ []) in
       let one = sum_by-cons (λ (q : ℕ × ProcessValue). count_by (λ h. h.1.koid == j) q.1.handles) (process_entry p) [] in
-      rw (map-append process_entry ps (p ∷ [])) (omega (arith, tables, one, queues_grown r (body.Process job true) 0 j refl))
+      rw (map-append process_entry ps (p ∷ [])) (omega (arith, tables, one, queues_grown r (body.Process job life.Running) 0 j refl))
 
   none_to_new : ◌≡◌ {A = ℕ} (handles_to (world_value after grown) n) 0
   none_to_new = omega (arith, counts n, never_named ps p.table.entries r sound n (λ there. omega (arith, sound.given_objects n there)), none_of_its_own)
@@ -149,6 +148,8 @@ module _ (ps : List Process) (p : Process) (r : Objects) (making : IsMaking ps p
       alive (state.AwaitsSignal koid mask to) h = refl
       alive (state.AwaitsPacket port to) h = refl
       alive (state.Ended code) h = absurd (false≢true h)
+      alive state.Created h = absurd (false≢true h)
+      alive state.Gone h = absurd (false≢true h)
 
   going_on : is_process (world_value after grown) has_ended n ≡ false
   unfolding is_process
@@ -159,6 +160,8 @@ module _ (ps : List Process) (p : Process) (r : Objects) (making : IsMaking ps p
       not_over (state.AwaitsSignal koid mask to) h = refl
       not_over (state.AwaitsPacket port to) h = refl
       not_over (state.Ended code) h = absurd (false≢true h)
+      not_over state.Created h = absurd (false≢true h)
+      not_over state.Gone h = absurd (false≢true h)
 
   others_as_before : (j : ℕ) → (n == j) ≡ false → (test : StateValue → Bool) → is_process (world_value after grown) test j ≡ is_process (world_value ps r) test j
   unfolding is_process
@@ -192,7 +195,7 @@ module _ (ps : List Process) (p : Process) (r : Objects) (making : IsMaking ps p
         (λ here is. subst (λ (i : ℕ). Agrees (world_value after grown) i q.body) (eqb-true n j here) (subst (λ (x : Object). Agrees (world_value after grown) n x.body) is (record { running = sym runs_new; living = sym lives_new; over = sym going_on })))
         (λ apart old. still_agrees (world_value ps r) (world_value after grown) j q.body (others_as_before j apart) (sound.agrees j q old));
     in_jobs = λ j q at. found_object (IsTrue (is_in_job grown.objects q.body)) j q at
-        (λ here is. subst (λ (x : Object). IsTrue (is_in_job grown.objects x.body)) is (job_grown job in_job))
+        (λ here is. subst (λ (x : Object). IsTrue (is_in_job grown.objects x.body)) is (or_right (job == 0) _ (job_grown job in_job)))
         (λ apart old. still_in_job q.body (sound.in_jobs j q old));
   }
 
@@ -204,6 +207,7 @@ module _ (ps : List Process) (p : Process) (r : Objects) (making : IsMaking ps p
         let one_more : length after ≡ length ps + 1 = length-append ps (p ∷ []) in
         omega (arith, own, table.few, making.few k, counts k, one_more);
     unwatched = record { none = making.unwatched.none; none_made = making.unwatched.none_made };
+    alive = λ j q at. found_object (is_killed q.body ≡ false) j q at (λ here is. subst (λ (x : Object). is_killed x.body ≡ false) is refl) (λ apart old. making.alive j q old);
   }
 
   -- the world is that of the definitions
@@ -281,7 +285,7 @@ begun_value lib p r program word image begun there = λ i. record {
 pub makes : (lib : Library) (before mid after : Made) (job program word : ℕ) (gs : List Grant) (image : Image) (p p2 : Process)
     → slice_get lib program ≡ Some (record { checked = false; image = image }) → boot_fault lib (seen before) (statement.Process job program word gs) ≡ None
     → IsBegun p before.objects program word image → Gives gs before p mid p2
-    → after.processes.items ≡ mid.processes.items ++ p2 ∷ [] → after.objects ≡ with_new mid.objects (body.Process job true) 0
+    → after.processes.items ≡ mid.processes.items ++ p2 ∷ [] → after.objects ≡ with_new mid.objects (body.Process job life.Running) 0
     → Makes lib (statement.Process job program word gs) before after
 unfolding boot_effect
 makes lib before mid after job program word gs image p p2 there fine begun gives processes objects =
@@ -306,7 +310,7 @@ makes lib before mid after job program word gs image p p2 there fine begun gives
 -- ---- the root job alone
 
 abbrev root_job : Object
-root_job = new_object body.RootJob 0
+root_job = new_object (body.Job job_value) 0
 
 pub starts_making : IsMaking [] [] root_alone
 unfolding get is_process handles_to
@@ -328,6 +332,7 @@ starts_making = record {
   };
   few = λ k. omega arith;
   unwatched = record { none = refl; none_made = refl };
+  alive = λ k o at. found (λ j x. is_killed x.body ≡ false) refl k o at;
 }
   where
     found : (P : ℕ → Object → Type 0) → P 1 root_job → (k : ℕ) (o : Object) → get root_alone.objects k ≡ Some o → P k o

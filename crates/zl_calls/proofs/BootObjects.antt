@@ -10,8 +10,10 @@ use Rattle.zl_objects.specs.declared.object.Body.TheVariants as body
 use Rattle.zl_objects.specs.declared.object.Object.{Object}
 use Rattle.zl_objects.specs.Objects.{queue_of, with_channel}
 use Rattle.zl_objects.specs.Ports.{new_port}
+use Rattle.zl_objects.proofs.Bodies.{more_in_job}
 use Rattle.zl_objects.proofs.ByKoid.{put_last}
 use Rattle.zl_calls.specs.declared.process.Process.{Process}
+use Rattle.zl_calls.specs.Making.{is_killed}
 use Rattle.zl_calls.specs.declared.booting.Made.{Made}
 use Rattle.zl_calls.proofs.Counted.{never_named}
 use Rattle.zl_calls.proofs.Counting.{queues_grown, same_tables}
@@ -63,7 +65,7 @@ module _ (ps : List Process) (r : Objects) (making : IsMaking ps [] r) (b : Body
     rights = named.rights;
   }
 
-  job_grown : (j : ℕ) → IsTrue (is_job_at r.objects j) → IsTrue (is_job_at grown.objects j)
+  pub job_grown : (j : ℕ) → IsTrue (is_job_at r.objects j) → IsTrue (is_job_at grown.objects j)
   job_grown j there = rw (stays j (sound.given_objects j (job_there (get r.objects j) there))) there
     where
       job_there : (o : Option Object) → IsTrue (is_job_in o) → IsTrue (is_some o)
@@ -71,12 +73,7 @@ module _ (ps : List Process) (r : Objects) (making : IsMaking ps [] r) (b : Body
       job_there (Some o) h = refl
 
   still_in_job : (c : Body) → IsTrue (is_in_job r.objects c) → IsTrue (is_in_job grown.objects c)
-  still_in_job body.RootJob h = refl
-  still_in_job (body.Process j false) h = refl
-  still_in_job (body.Process j true) h = job_grown j h
-  still_in_job body.Event h = refl
-  still_in_job (body.Port port) h = refl
-  still_in_job (body.ChannelEnd peer queue) h = refl
+  still_in_job = more_in_job r.objects grown.objects job_grown
 
   not_there : (test : StateValue → Bool) → is_process (world_value ps r) test n ≡ false
   unfolding is_process
@@ -89,8 +86,8 @@ module _ (ps : List Process) (r : Objects) (making : IsMaking ps [] r) (b : Body
   unnamed : ◌≡◌ {A = ℕ} (handles_to (world_value ps r) n) 0
   unnamed = never_named ps [] r sound n (λ there. omega (arith, sound.given_objects n there))
 
-  -- no message is in it, and it neither runs nor is a living child of a job
-  module _ (empty : queue_of b ≡ []) (unnaming : (j : ℕ) → ◌≡◌ {A = ℕ} (queued_to j (body_value b)) 0) (quiet : ((test : StateValue → Bool) → is_process (world_value ps r) test n ≡ false) → Agrees (world_value ps r) n b) (in_job : IsTrue (is_in_job grown.objects b)) (koid : n < 2 ^ 62) where
+  -- no message is in it, and it agrees with there being no such process
+  module _ (empty : queue_of b ≡ []) (unnaming : (j : ℕ) → ◌≡◌ {A = ℕ} (queued_to j (body_value b)) 0) (quiet : ((test : StateValue → Bool) → is_process (world_value ps r) test n ≡ false) → Agrees (world_value ps r) n b) (in_job : IsTrue (is_in_job grown.objects b)) (koid : n < 2 ^ 62) (unkilled : is_killed b ≡ false) where
     same_handles : (j : ℕ) → handles_to (world_value ps grown) j ≡ handles_to (world_value ps r) j
     same_handles j = same_tables ps r grown j (queues_grown r b 0 j (unnaming j))
 
@@ -132,22 +129,23 @@ module _ (ps : List Process) (r : Objects) (making : IsMaking ps [] r) (b : Body
           (λ old. still_in_job q.body (sound.in_jobs j q old));
     }
 
-    grown_making : IsMaking ps [] grown
+    pub grown_making : IsMaking ps [] grown
     grown_making = record {
       sound = grown_sound;
       few = λ k. omega (arith, making.few k, same_handles k);
       unwatched = record { none = making.unwatched.none; none_made = making.unwatched.none_made };
+      alive = λ j q at. found (is_killed q.body ≡ false) j q at (λ here is. subst (λ (x : Object). is_killed x.body ≡ false) is unkilled) (λ old. making.alive j q old);
     }
 
   -- the world is that of the definitions
-  grown_world : world_value ps grown ≡ with_object (world_value ps r) (body_value b)
+  pub grown_world : world_value ps grown ≡ with_object (world_value ps r) (body_value b)
   unfolding with_object
   grown_world = sym (ap (λ (os : Map ObjectValue). record (world_value ps r) { objects = os; next_koid = n + 1 }) (grown_seen r b 0 sound.given_objects))
 
 -- ---- the limit
 
 -- where a statement that takes so many koids has enough of them
-enough_koids : (n count : ℕ) → nat_lt (MOST_KOIDS + 1) (n + count) ≡ false → n + count ≤ 1025
+pub enough_koids : (n count : ℕ) → nat_lt (MOST_KOIDS + 1) (n + count) ≡ false → n + count ≤ 1025
 enough_koids n count enough = grind (arith, nat_tests, enough)
 
 -- the cause is that of a statement whose only fault is this test
@@ -174,7 +172,7 @@ module _ (lib : Library) (before : Made) (making : IsMaking before.processes.ite
     values = [];
     chosen = refl;
     effect = rw made (grown_world ps2 before.objects making body.Event);
-    making = rw made (grown_making ps2 before.objects making body.Event refl (λ j. refl) (λ not. not runs) refl (omega (arith, enough_koids k 1 enough)));
+    making = rw made (grown_making ps2 before.objects making body.Event refl (λ j. refl) (λ not. not runs) refl (omega (arith, enough_koids k 1 enough)) refl);
   }
 
   pub port_makes : (after : Objects) → nat_lt (MOST_KOIDS + 1) (k + 1) ≡ false → after ≡ with_new before.objects new_port 0 → Makes lib statement.Port before (record before { objects = after })
@@ -184,7 +182,7 @@ module _ (lib : Library) (before : Made) (making : IsMaking before.processes.ite
     values = [];
     chosen = refl;
     effect = rw made (grown_world ps2 before.objects making new_port);
-    making = rw made (grown_making ps2 before.objects making new_port refl (λ j. refl) (λ not. not runs) refl (omega (arith, enough_koids k 1 enough)));
+    making = rw made (grown_making ps2 before.objects making new_port refl (λ j. refl) (λ not. not runs) refl (omega (arith, enough_koids k 1 enough)) refl);
   }
 
   pub channel_makes : (after : Objects) → nat_lt (MOST_KOIDS + 1) (k + 2) ≡ false → after ≡ with_channel before.objects 0 → Makes lib statement.Channel before (record before { objects = after })
@@ -194,7 +192,7 @@ module _ (lib : Library) (before : Made) (making : IsMaking before.processes.ite
     values = [];
     chosen = refl;
     effect = rw made (grown_world ps2 with_first first second_end ∙ ap (λ (w : World). with_object w (ChannelEnd k [])) (grown_world ps2 before.objects making first_end));
-    making = rw made (grown_making ps2 with_first first second_end refl (λ j. refl) (λ not. not runs) refl (omega (arith, few)));
+    making = rw made (grown_making ps2 with_first first second_end refl (λ j. refl) (λ not. not runs) refl (omega (arith, few)) refl);
   }
     where
       first_end : Body
@@ -210,4 +208,4 @@ module _ (lib : Library) (before : Made) (making : IsMaking before.processes.ite
       few = enough_koids k 2 enough
 
       first : IsMaking ps2 [] with_first
-      first = grown_making ps2 before.objects making first_end refl (λ j. refl) (λ not. not runs) refl (omega (arith, few))
+      first = grown_making ps2 before.objects making first_end refl (λ j. refl) (λ not. not runs) refl (omega (arith, few)) refl

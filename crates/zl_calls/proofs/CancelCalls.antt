@@ -19,7 +19,7 @@ use Rattle.zl_objects.specs.Ports.{changing_port, packets_in}
 use Rattle.zl_calls.specs.declared.process.Process.{Process}
 use Rattle.zl_calls.specs.calls.Async.{Cancels, PortCancelDoes, cancel_refusal, cancel_refusal_of, source_of}
 use Rattle.zl_calls.specs.calls.Port.{port_at}
-use Rattle.zl_calls.proofs.Among.{answered_among, behind_both, both_looked_up, ends_among, no_policy_among}
+use Rattle.zl_calls.proofs.Among.{answered_among, behind_both, both_looked_up, ends_among}
 use Rattle.zl_calls.proofs.Answered.{IsWrite, table_is}
 use Rattle.zl_calls.proofs.Beside.{beside_lab, beside_world}
 use Rattle.zl_calls.proofs.Done.{IsCalledAmong}
@@ -47,7 +47,7 @@ module _ (lib : Library) (before after : List Process) (r r2 : Objects) (p p2 : 
     is_any k object packets = list_any (is_keyed p.pid source k key) r.waits || list_any (is_from (source_to object) key) packets
 
     by_both : (blocked : List ℕ) (one two : Option Entry) (x y : Result Entry Status) → granted one (kind.Port ∷ []) WRITE ≡ x → granted two [] 0 ≡ y
-        → behind_both (among blocked) (no_policy_among before r blocked) p.pid x y
+        → behind_both (among blocked) p.pid x y
         (first_some (answer_if (not (is_any (koid_in one) (koid_in two) (packets_seen (body_of (among blocked) (koid_in one))))) status.NotFound ∷ []))
         ≡ answers (cancel_refusal_of r p.pid source key x y)
     by_both blocked one two (Ok e) (Ok f) is_e is_f =
@@ -63,7 +63,7 @@ module _ (lib : Library) (before after : List Process) (r r2 : Objects) (p p2 : 
     unfolding refusal handle_operands row_of examined operand listed
     cancel_refused blocked =
         rw (table_is before after p p2 write r)
-        (both_looked_up (among blocked) (no_policy_among before r blocked) p.pid (get p.table.entries port) (get p.table.entries source) (kind.Port ∷ []) any WRITE 0
+        (both_looked_up (among blocked) p.pid (get p.table.entries port) (get p.table.entries source) (kind.Port ∷ []) any WRITE 0
         (answer_if (not (is_any (koid_in (get p.table.entries port)) (koid_in (get p.table.entries source)) (packets_seen (body_of (among blocked) (koid_in (get p.table.entries port)))))) status.NotFound ∷ [])
         ∙ by_both blocked (get p.table.entries port) (get p.table.entries source) (port_at p.table.entries port WRITE) (looked_up p.table.entries source [] 0) refl refl)
 

@@ -115,7 +115,7 @@ uncancelled (e ∷ m) k test none = elim (cases_Bool (e.0 == k)) as (λ _. updat
 ]
   where
     by_body : (b : Body) → length (filter test (packets_of b)) ≡ 0 → changed_port (λ p. without_packets p test) b ≡ b
-    by_body body.RootJob gone = refl
+    by_body (body.Job own) gone = refl
     by_body (body.Process job lives) gone = refl
     by_body body.Event gone = refl
     by_body (body.ChannelEnd peer queue) gone = refl

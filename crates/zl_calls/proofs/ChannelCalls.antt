@@ -17,17 +17,16 @@ use Rattle.zl_calls.proofs.Answered.{IsWrite, table_is, may_get_both, replied_in
 use Rattle.zl_calls.proofs.Counting.{count_put, counts_written}
 use Rattle.zl_calls.proofs.Done.{IsDone, IsCalled, answered_done}
 use Rattle.zl_calls.proofs.Grown.{IsGrowing, entered_next, grown_named, grown_one, grown_seen, growing_none, there_grown}
-use Rattle.zl_calls.proofs.Labs.{no_policy}
-use Rattle.zl_calls.proofs.Refused.{NoPolicy, answers, may_create}
+use Rattle.zl_calls.proofs.Refused.{answers, may_create}
 use Rattle.zl_calls.proofs.Tables.{inserted_table, found_inserted}
 use Rattle.zl_calls.proofs.Taking.{one_longer}
 use Rattle.zl_calls.proofs.Written.{IsNext, keeps}
 
 -- ---- the answer of chan_create
 
-chan_create_refused : (lib : Library) (w : World) → NoPolicy w → (p : ℕ) → refusal lib w p chan_create ≡ answers (channel_refusal (table_of w p) w.next_koid)
+chan_create_refused : (lib : Library) (w : World) (p : ℕ) → refusal lib w p chan_create ≡ answers (channel_refusal (table_of w p) w.next_koid)
 unfolding refusal handle_operands row_of examined listed has_room has_koids
-chan_create_refused lib w free p = rw (may_create w free p condition.NewChannel) (by_test (nat_le (length (table_of w p) + 2) 1024 && nat_le (w.next_koid + 2) (2 ^ 62)))
+chan_create_refused lib w p = rw (may_create w p condition.NewChannel) (by_test (nat_le (length (table_of w p) + 2) 1024 && nat_le (w.next_koid + 2) (2 ^ 62)))
   where
     by_test : (b : Bool) → first_some (None ∷ None ∷ answer_if (not b) status.NoResources ∷ []) ≡ answers (then_some (not b) status.NoResources)
     by_test true = refl
@@ -52,7 +51,7 @@ module _ (lib : Library) (before after : List Process) (r r2 : Objects) (p p2 : 
   create_site = site chan_create consumed destinations
 
   refused : refusal lib w p.pid chan_create ≡ answers (channel_refusal p.table.entries r.next_koid)
-  refused = chan_create_refused lib w (no_policy before r lab) p.pid ∙ rw (table_is before after p p2 write r) refl
+  refused = chan_create_refused lib w p.pid ∙ rw (table_is before after p p2 write r) refl
 
   module _ (made : ℕ × ℕ) (creates : CreatesChannel p.table r made p2.table r2) (replies : Replies create_site status.Ok (two_values made) p p2) where
     abbrev n : ℕ
@@ -81,10 +80,10 @@ module _ (lib : Library) (before after : List Process) (r r2 : Objects) (p p2 : 
     koids = koids_left p.table.entries n creates.unrefused
 
     growing : IsGrowing before ((made.0, first) ∷ []) with_first
-    growing = grown_one before [] r (growing_none before r lab) first_end (λ j. refl) (λ not. not runs) refl refl (omega (arith, koids)) refl (made.0, first) refl
+    growing = grown_one before [] r (growing_none before r lab) first_end (λ not. not runs) refl refl (omega (arith, koids)) refl (made.0, first) refl
 
     growing_both : IsGrowing before ((made.1, second) ∷ (made.0, first) ∷ []) with_both
-    growing_both = grown_one before ((made.0, first) ∷ []) with_first growing second_end (λ j. refl) (λ not. not runs) refl refl (omega (arith, koids)) apart (made.1, second) refl
+    growing_both = grown_one before ((made.0, first) ∷ []) with_first growing second_end (λ not. not runs) refl refl (omega (arith, koids)) apart (made.1, second) refl
       where
         other : (n == n + 1) ≡ false
         other = ne_eqb n (n + 1) (omega arith)

@@ -8,14 +8,15 @@ use Rattle.zl_code.specs.declared.history.Outcome.TheVariants as outcome
 use Rattle.zl_code.specs.declared.history.TraceItem.TheVariants as item
 use Rattle.zl_calls.specs.declared.process.Process.{Process}
 use Rattle.zl_calls.proofs.Answered.{IsWrite, same_world}
-use Rattle.zl_calls.proofs.Labs.{call_settles}
+use Rattle.zl_calls.proofs.Labs.{IsFree, call_settles}
+use Rattle.zl_calls.proofs.Departed.{settled_world}
 use Rattle.zl_calls.proofs.Refused.{TellsNothing, answers, refused_calls}
 use Rattle.zl_calls.proofs.Settled.{still_settles}
 use Rattle.zl_calls.proofs.Written.{refusal_keeps}
 
--- the call is a step up to where processes wake, and the invariant holds afterwards
+-- where no policy has a say, the call is a step up to where processes wake; and the invariant holds afterwards
 pub record IsDone (lib : Library) (before after : List Process) (r r2 : Objects) (pid : ℕ) (call : CallName) (ends : Outcome) : Type 0 where
-  pub step : IsActed lib (world_value before r) pid (item.Call pid call ends) (world_value after r2)
+  pub step : IsFree lib (world_value before r) pid call → IsActed lib (world_value before r) pid (item.Call pid call ends) (settled_world after r2)
   pub lab : IsConsistent after r2
 
 -- the call in its world, and the invariant

@@ -22,8 +22,7 @@ use Rattle.zl_calls.proofs.Answered.{IsWrite, table_is, may_get_inserted, replie
 use Rattle.zl_calls.proofs.Done.{IsDone, IsCalled, answered_done}
 use Rattle.zl_calls.proofs.Grown.{IsGrowing, entered_next, grown_named, grown_one, grown_seen, growing_none, there_grown}
 use Rattle.zl_calls.proofs.Counting.{queues_updated}
-use Rattle.zl_calls.proofs.Labs.{no_policy}
-use Rattle.zl_calls.proofs.Refused.{NoPolicy, answers, may_create, fault_answers}
+use Rattle.zl_calls.proofs.Refused.{answers, may_create, fault_answers}
 use Rattle.zl_calls.proofs.Updates.{update_seen, update_itself}
 use Rattle.zl_calls.proofs.WriteCalls.{is_found, peer_is, peer_there}
 use Rattle.zl_calls.proofs.Written.{IsNext, keeps_inserted, inserted_counts, keeps_table, same_counts, updated_next}
@@ -32,9 +31,9 @@ use Rattle.zl_objects.proofs.Law.{get_seen, kept_all}
 
 -- ---- the answer of event_create
 
-event_refused : (lib : Library) (w : World) → NoPolicy w → (p : ℕ) → refusal lib w p event_create ≡ answers (event_refusal (table_of w p) w.next_koid)
+event_refused : (lib : Library) (w : World) (p : ℕ) → refusal lib w p event_create ≡ answers (event_refusal (table_of w p) w.next_koid)
 unfolding refusal handle_operands row_of examined listed has_room has_koids
-event_refused lib w free p = rw (may_create w free p condition.NewEvent) (by_test (has_room_in (table_of w p) && nat_le (w.next_koid + 1) (2 ^ 62)))
+event_refused lib w p = rw (may_create w p condition.NewEvent) (by_test (has_room_in (table_of w p) && nat_le (w.next_koid + 1) (2 ^ 62)))
   where
     by_test : (b : Bool) → first_some (None ∷ None ∷ answer_if (not b) status.NoResources ∷ []) ≡ answers (then_some (not b) status.NoResources)
     by_test true = refl
@@ -47,13 +46,13 @@ settable_named : (os : Map Object) (e : Entry) → IsNamed os e → settable_of 
 settable_named os e named = rw (get_seen os e.koid, named.there, named.kind) (by_body named.object.body)
   where
     by_body : (b : Body) → settable_of (Some (body_value b)) ≡ settable_at (kind_of (body_value b))
-    by_body body.RootJob = refl
+    by_body (body.Job own) = refl
     by_body (body.Process job lives) = refl
     by_body body.Event = refl
     by_body (body.Port port) = refl
     by_body (body.ChannelEnd peer queue) = refl
 
-module _ (lib : Library) (w : World) (free : NoPolicy w) (p : ℕ) where
+module _ (lib : Library) (w : World) (p : ℕ) where
   abbrev signal_with : ℕ → ℕ → Option Entry → Option Outcome
   signal_with clear set o = first_some (first_some (operand_of w p any SIGNAL o ∷ None ∷ []) ∷ None ∷ answer_if (not (may_change (body_of w (koid_in o)) clear set)) status.InvalidArgs ∷ [])
 
@@ -68,7 +67,7 @@ module _ (lib : Library) (w : World) (free : NoPolicy w) (p : ℕ) where
   signal_refused settable h clear set = by_entry (get (table_of w p) h) refl
     where
       by_entry : (o : Option Entry) → get (table_of w p) h ≡ o → signal_with clear set o ≡ answers (signal_refusal_of clear set o)
-      by_entry None is = ap (λ (x : Option Outcome). first_some (first_some (x ∷ None ∷ []) ∷ None ∷ answer_if (not (may_change (body_of w 0) clear set)) status.InvalidArgs ∷ [])) (fault_answers w free p condition.BadHandle status.BadHandle)
+      by_entry None is = ap (λ (x : Option Outcome). first_some (first_some (x ∷ None ∷ []) ∷ None ∷ answer_if (not (may_change (body_of w 0) clear set)) status.InvalidArgs ∷ [])) (fault_answers w p condition.BadHandle status.BadHandle)
       by_entry (Some e) is = rw (settable h e is) (by_tests e (within SIGNAL (bits e.rights)) (may_change_at e.kind clear set))
 
 -- ---- the answer of signal_peer
@@ -94,9 +93,6 @@ module _ (lib : Library) (before : List Process) (r : Objects) (lab : IsConsiste
   unfolding refusal handle_operands row_of examined operand listed
   peer_signal_refused h clear set settable = by_end (get handles h) refl
     where
-      free : NoPolicy old_world
-      free = no_policy before r lab
-
       may : ℕ → Bool
       may k = may_change (body_of old_world k) clear set
 
@@ -110,10 +106,10 @@ module _ (lib : Library) (before : List Process) (r : Objects) (lab : IsConsiste
           ≡ answers (peer_signal_refusal_of r.objects clear set (if a then (if b then Ok e else Err status.AccessDenied) else Err status.WrongType))
       by_found e at true true = passes e at
       by_found e at true false = refl
-      by_found e at false b = ap (λ (x : Option Outcome). peer_with x (may e.koid) (has_peer e.koid)) (fault_answers old_world free p condition.WrongObject status.WrongType)
+      by_found e at false b = ap (λ (x : Option Outcome). peer_with x (may e.koid) (has_peer e.koid)) (fault_answers old_world p condition.WrongObject status.WrongType)
 
       by_end : (o : Option Entry) → get handles h ≡ o → peer_with (operand_of old_world p (kind.Channel ∷ []) SIGNAL_PEER o) (may (koid_in o)) (has_peer (koid_in o)) ≡ answers (peer_signal_refusal_of r.objects clear set (granted o (kind.Channel ∷ []) SIGNAL_PEER))
-      by_end None at = ap (λ (x : Option Outcome). peer_with x (may 0) (has_peer 0)) (fault_answers old_world free p condition.BadHandle status.BadHandle)
+      by_end None at = ap (λ (x : Option Outcome). peer_with x (may 0) (has_peer 0)) (fault_answers old_world p condition.BadHandle status.BadHandle)
       by_end (Some e) at = by_found e at (takes (kind.Channel ∷ []) e.kind) (within SIGNAL_PEER (bits e.rights))
 
 -- a process of a lab, before and after its call
@@ -128,7 +124,7 @@ module _ (lib : Library) (before after : List Process) (r r2 : Objects) (p p2 : 
     create_site = site event_create consumed destinations
 
     create_refused : refusal lib w p.pid event_create ≡ answers (event_refusal p.table.entries r.next_koid)
-    create_refused = event_refused lib w (no_policy before r lab) p.pid ∙ rw (table_is before after p p2 write r) refl
+    create_refused = event_refused lib w p.pid ∙ rw (table_is before after p p2 write r) refl
 
     module _ (made : ℕ) (creates : CreatesEvent p.table r made p2.table r2) (replies : Replies create_site status.Ok (made ∷ []) p p2) where
       abbrev n : ℕ
@@ -166,7 +162,7 @@ module _ (lib : Library) (before after : List Process) (r r2 : Objects) (p p2 : 
       create_counts j = omega (arith, inserted_counts before after p p2 write entry made creates.inserts grown grown j refl, sum_by-cons (λ (h : ℕ × Entry). cond (h.1.koid == j) 1 0) (made, entry) [])
 
       growing : IsGrowing before ((made, entry) ∷ []) grown
-      growing = grown_one before [] r (growing_none before r lab) body.Event (λ j. refl) (λ not. not runs) refl refl creates.koid refl (made, entry) refl
+      growing = grown_one before [] r (growing_none before r lab) body.Event (λ not. not runs) refl refl creates.koid refl (made, entry) refl
 
       create_next : IsNext before after r grown
       create_next = entered_next before after ((made, entry) ∷ []) r grown growing (omega arith) (grown_named before [] r (growing_none before r lab) body.Event) create_counts
@@ -234,7 +230,7 @@ module _ (lib : Library) (before after : List Process) (r r2 : Objects) (p p2 : 
     signal_site = site (signal h clear set) consumed destinations
 
     refused_signal : refusal lib w p.pid (signal h clear set) ≡ answers (signal_refusal p.table.entries h clear set)
-    refused_signal = signal_refused lib w (no_policy before r lab) p.pid settable_here h clear set ∙ rw (table_is before after p p2 write r) refl
+    refused_signal = signal_refused lib w p.pid settable_here h clear set ∙ rw (table_is before after p p2 write r) refl
 
     signal_chosen : IsTrue (may_choose w (taken w p.pid signal_site) p.pid (signal h clear set) [])
     unfolding may_choose new_handles remove_all taken_handles handle_operands row_of

@@ -1,5 +1,5 @@
 -- Registered waits fire one after another, in the order of the list.
-use Rattle.zl_calls.proofs.Common.{◌≡◌, ◌<◌, ◌≤◌, ◌+◌, ℕ, zero, suc, Bool, true, false, ◌&&◌, ◌==◌, ◌++◌, List, [], ◌∷◌, length, take, map, slice_get, refl, sym, ap, ◌∙◌, subst, cond, inl, inr, Option, Some, None, arith, cases_Bool, eqb-true, eq-eqb, none-some, same_Some, option_map, list_any, nat_cmp, below_all, is_sorted, length-append, and_from, position_or_len, sum_by-cons, queued_to, is_process, Map, update, get, handles_to, fired, kind_of, Objects, Agrees, AreNamed, IsConsistent, lives_below, stays_alone, is_job_body, is_in_job, body_value, object_entry, object_value, world_blocked, world_value, World}
+use Rattle.zl_calls.proofs.Common.{◌≡◌, ◌<◌, ◌≤◌, ◌+◌, ℕ, zero, suc, Bool, true, false, ◌&&◌, ◌==◌, ◌++◌, List, [], ◌∷◌, length, take, map, slice_get, refl, sym, ap, ◌∙◌, subst, cond, inl, inr, Option, Some, None, arith, cases_Bool, eqb-true, eq-eqb, none-some, same_Some, option_map, list_any, nat_cmp, below_all, is_sorted, length-append, and_from, position_or_len, sum_by-cons, queued_to, is_process, Map, update, get, handles_to, fired, kind_of, Objects, Agrees, AreNamed, IsConsistent, is_child, stays_alone, is_job_body, is_in_job, body_value, object_entry, object_value, world_blocked, world_value, World}
 use Rattle.std.specs.List.{find}
 use Rattle.std.specs.Prelude.{◌-◌, drop}
 use Rattle.std.proofs.lemmas.Bool.{or_parts}
@@ -123,7 +123,7 @@ none_at w k xs none = ap (λ (test : Wait → Bool). list_any test xs) (at_objec
 
 agrees_beside : (ps : List Process) (r r2 : Objects) (k : ℕ) (b : Body) → Agrees (world_value ps r) k b → Agrees (world_value ps r2) k b
 unfolding is_process
-agrees_beside ps r r2 k body.RootJob agrees = agrees
+agrees_beside ps r r2 k (body.Job own) agrees = agrees
 agrees_beside ps r r2 k (body.Process job lives) agrees = record { running = agrees.running; living = agrees.living; over = agrees.over }
 agrees_beside ps r r2 k body.Event agrees = agrees
 agrees_beside ps r r2 k (body.ChannelEnd peer queue) agrees = agrees
@@ -137,7 +137,7 @@ module _ (f : Port → Port) where
       kind_kept (body.Port port) = refl
       kind_kept _ = refl
 
-      living_kept : (j : ℕ) (b : Body) → lives_below j (changed_port f b) ≡ lives_below j b
+      living_kept : (j : ℕ) (b : Body) → is_child j (changed_port f b) ≡ is_child j b
       living_kept j (body.Port port) = refl
       living_kept j _ = refl
 
@@ -252,7 +252,7 @@ module _ (ps : List Process) (first : Objects) (place : ℕ) (r : Objects) (so_f
         where
           by_body : (b : Body) → changed_port with_it (changed_port without_place b) ≡ changed_port (λ p. with_it (without_place p)) b
           by_body (body.Port port) = refl
-          by_body body.RootJob = refl
+          by_body (body.Job own) = refl
           by_body (body.Process job lives) = refl
           by_body body.Event = refl
           by_body (body.ChannelEnd peer queue) = refl
@@ -294,7 +294,7 @@ module _ (ps : List Process) (first : Objects) (place : ℕ) (r : Objects) (so_f
           where
             by_body : (b : Body) → body_value (changed_port with_it b) ≡ body_packed (λ (qs : List Packet). qs ++ packet_given k a y ∷ []) (body_value b)
             by_body (body.Port port) = refl
-            by_body body.RootJob = refl
+            by_body (body.Job own) = refl
             by_body (body.Process job lives) = refl
             by_body body.Event = refl
             by_body (body.ChannelEnd peer queue) = refl

@@ -1,5 +1,5 @@
 -- One object more, with one handle that is to enter a table: what the invariant says of both.
-use Rattle.zl_calls.proofs.Common.{◌≡◌, ◌<◌, ◌≤◌, ◌+◌, ◌^◌, ℕ, Bool, true, false, ◌||◌, ◌==◌, List, [], ◌∷◌, ◌++◌, map, refl, sym, ap, ◌∙◌, subst, cond, Option, Some, None, inl, inr, IsTrue, arith, eq-eqb, if◌then◌else◌, is_some, list_any, count_by, sum_by-cons, cases_Bool, eqb-true, false≢true, same_Some, Map, get, put, has_key, is_process, map-append, state_passes, All, All-nil, has_living_child, handles_to, get-put, sorted_put, put_key, queued_to, body_value, Objects, AreKeptBut, new_object, with_new, is_kept, stays_alone, lives_below, is_job_at, is_job_in, object_entry, object_value, process_entry, world_value, IsConsistent, IsSound, AreNamed, IsNamed, Agrees, is_in_job}
+use Rattle.zl_calls.proofs.Common.{◌≡◌, ◌<◌, ◌≤◌, ◌+◌, ◌^◌, ℕ, Bool, nat_cmp, is_sorted, nat_lt, true, false, ◌||◌, ◌==◌, List, [], ◌∷◌, ◌++◌, map, refl, sym, ap, ◌∙◌, subst, cond, Option, Some, None, inl, inr, IsTrue, arith, eq-eqb, if◌then◌else◌, is_some, list_any, count_by, sum_by-cons, cases_Bool, eqb-true, false≢true, same_Some, Map, get, put, has_key, is_process, map-append, state_passes, All, All-nil, has_living_child, handles_to, get-put, sorted_put, put_key, queued_to, body_value, Objects, AreKeptBut, new_object, with_new, is_kept, stays_alone, is_child, is_job_at, is_job_in, object_entry, object_value, process_entry, world_value, IsConsistent, IsSound, AreNamed, IsNamed, Agrees, is_in_job}
 use Rattle.zl_code.proofs.Common.{Process as ProcessValue, State as StateValue}
 use Rattle.zl_rights.specs.declared.entry.Entry.{Entry}
 use Rattle.zl_objects.specs.declared.object.Body.{Body}
@@ -8,6 +8,7 @@ use Rattle.zl_objects.specs.declared.object.Object.{Object}
 use Rattle.zl_calls.specs.declared.process.Process.{Process}
 use Rattle.zl_rights.specs.World.{Message}
 use Rattle.zl_objects.specs.Objects.{queue_of}
+use Rattle.zl_objects.proofs.Bodies.{more_in_job}
 use Rattle.zl_objects.proofs.ByKoid.{put_last}
 use Rattle.zl_objects.proofs.Law.{has_seen, kept_all}
 use Rattle.zl_calls.proofs.Counted.{never_named}
@@ -16,9 +17,13 @@ use Rattle.zl_calls.proofs.SameBodies.{kept_each, still_agrees, still_named}
 use Rattle.zl_calls.proofs.Settled.{sound_of}
 use Rattle.zl_calls.proofs.Written.{IsNext}
 
-any_behind : {X : Type 0} (test : X → Bool) (xs : List X) (x : X) → test x ≡ false → list_any test (xs ++ x ∷ []) ≡ list_any test xs
-any_behind test [] x out = rw out refl
-any_behind test (y ∷ xs) x out = ap (λ b. test y || b) (any_behind test xs x out)
+any_more : {X : Type 0} (test : X → Bool) (xs : List X) (x : X) → IsTrue (list_any test xs) → IsTrue (list_any test (xs ++ x ∷ []))
+any_more test [] x some = absurd (false≢true some)
+any_more test (y ∷ xs) x some = by_first (test y) some (any_more test xs x)
+  where
+    by_first : (b : Bool) → IsTrue (b || list_any test xs) → (IsTrue (list_any test xs) → IsTrue (list_any test (xs ++ x ∷ []))) → IsTrue (b || list_any test (xs ++ x ∷ []))
+    by_first true h more = refl
+    by_first false h more = more h
 
 -- what is seen of the objects with a new one
 pub grown_seen : (r : Objects) (b : Body) (handles : ℕ) → ((k : ℕ) → IsTrue (has_key r.objects k) → k < r.next_koid) → put (map object_entry r.objects) r.next_koid (object_value (new_object b handles)) ≡ map object_entry (with_new r b handles).objects
@@ -28,7 +33,7 @@ grown_seen r b handles given =
 
 -- where no message is, no handle is
 none_queued : (j : ℕ) (b : Body) → queue_of b ≡ [] → ◌≡◌ {A = ℕ} (queued_to j (body_value b)) 0
-none_queued j body.RootJob empty = refl
+none_queued j (body.Job own) empty = refl
 none_queued j (body.Process job lives) empty = refl
 none_queued j body.Event empty = refl
 none_queued j (body.Port port) empty = refl
@@ -49,7 +54,7 @@ module _ (ps : List Process) (m : Map Entry) (r : Objects) (growing : IsGrowing 
   given_key : (k : ℕ) (o : Object) → get r.objects k ≡ Some o → k < r.next_koid
   given_key k o at = sound.given_objects k (rw at refl)
 
-  unnamed : ◌≡◌ {A = ℕ} (handles_to (world_value ps r) r.next_koid) 0
+  pub unnamed : ◌≡◌ {A = ℕ} (handles_to (world_value ps r) r.next_koid) 0
   unnamed = never_named ps m r sound r.next_koid (λ there. omega (arith, sound.given_objects r.next_koid there))
 
   -- ---- the new object
@@ -67,7 +72,7 @@ module _ (ps : List Process) (m : Map Entry) (r : Objects) (growing : IsGrowing 
     grown_is : put r.objects n fresh ≡ grown.objects
     grown_is = put_last r.objects n fresh sound.given_objects
 
-    get_grown : (j : ℕ) → get grown.objects j ≡ (if n == j then Some fresh else get r.objects j)
+    pub get_grown : (j : ℕ) → get grown.objects j ≡ (if n == j then Some fresh else get r.objects j)
     get_grown j = ap (λ (os : Map Object). get os j) (sym grown_is) ∙ get-put r.objects n fresh j
 
     -- an object afterwards is the new one, or was there before
@@ -104,8 +109,41 @@ module _ (ps : List Process) (m : Map Entry) (r : Objects) (growing : IsGrowing 
         by_process None is = refl
         by_process (Some q) is = absurd (omega (arith, sound.given_processes n (rw is refl)))
 
-    -- what it is neither runs nor is a living child of a job, and no message is in it; the handle x names it, and none of m does
-    module _ (childless : (j : ℕ) → lives_below j b ≡ false) (quiet : ((test : StateValue → Bool) → is_process (world_value ps r) test n ≡ false) → Agrees (world_value ps r) n b) (empty : queue_of b ≡ []) (in_job : IsTrue (is_in_job grown.objects b)) (koid : n < 2 ^ 62)
+    pub grown_in_order : IsTrue (is_sorted nat_cmp grown.objects)
+    grown_in_order = rw (← grown_is) (sorted_put r.objects n fresh sound.objects_in_order)
+
+    -- a job stays one
+    pub job_grown : (j : ℕ) → IsTrue (is_job_at r.objects j) → IsTrue (is_job_at grown.objects j)
+    job_grown j there = elim (cases_Bool (n == j)) as (λ _. IsTrue (is_job_at grown.objects j)) [
+      | inl here ↦ absurd (omega (arith, sound.given_objects j (job_there (get r.objects j) there), eqb-true n j here))
+      | inr apart ↦ rw (get_grown j, apart) there
+    ]
+      where
+        job_there : (o : Option Object) → IsTrue (is_job_in o) → IsTrue (is_some o)
+        job_there None h = absurd (false≢true h)
+        job_there (Some o) h = refl
+
+    pub still_in_job : (c : Body) → IsTrue (is_in_job r.objects c) → IsTrue (is_in_job grown.objects c)
+    still_in_job = more_in_job r.objects grown.objects job_grown
+
+    still_alone : (j : ℕ) (c : Body) → IsTrue (stays_alone r.objects j c) → IsTrue (stays_alone grown.objects j c)
+    unfolding has_living_child
+    still_alone j (body.Job own) alone = any_more (λ e. is_child j e.1.body) r.objects (n, fresh) alone
+    still_alone j (body.Process job lives) alone = alone
+    still_alone j body.Event alone = alone
+    still_alone j (body.Port port) alone = alone
+    still_alone j (body.ChannelEnd peer queue) alone = alone
+
+    -- what was kept before is kept
+    pub still_kept : (j : ℕ) (q : Object) → IsTrue (is_kept r.objects j q) → IsTrue (is_kept grown.objects j q)
+    still_kept j q kept = by_count (nat_lt 0 q.handles) kept
+      where
+        by_count : (b : Bool) → IsTrue (b || stays_alone r.objects j q.body) → IsTrue (b || stays_alone grown.objects j q.body)
+        by_count true h = refl
+        by_count false h = still_alone j q.body h
+
+    -- what it is agrees with there being no such process, and no message is in it; the handle x names it, and none of m does
+    module _ (quiet : ((test : StateValue → Bool) → is_process (world_value ps r) test n ≡ false) → Agrees (world_value ps r) n b) (empty : queue_of b ≡ []) (in_job : IsTrue (is_in_job grown.objects b)) (koid : n < 2 ^ 62)
         (apart_from : ◌≡◌ {A = ℕ} (count_by (λ h. h.1.koid == n) m) 0) (x : ℕ × Entry) (names : x.1.koid ≡ n) where
       same_handles : (j : ℕ) → handles_to (world_value ps grown) j ≡ handles_to (world_value ps r) j
       same_handles j = same_tables ps r grown j (queues_grown r b 1 j (none_queued j b empty))
@@ -154,39 +192,13 @@ module _ (ps : List Process) (m : Map Entry) (r : Objects) (growing : IsGrowing 
           as_before : (j : ℕ) (c : Body) → Agrees (world_value ps r) j c → Agrees (world_value ps grown) j c
           as_before j c = still_agrees (world_value ps r) (world_value ps grown) j c (λ test. refl)
 
-          job_grown : (j : ℕ) → IsTrue (is_job_at r.objects j) → IsTrue (is_job_at grown.objects j)
-          job_grown j there = elim (cases_Bool (n == j)) as (λ _. IsTrue (is_job_at grown.objects j)) [
-            | inl here ↦ absurd (omega (arith, sound.given_objects j (job_there (get r.objects j) there), eqb-true n j here))
-            | inr apart ↦ rw (get_grown j, apart) there
-          ]
-            where
-              job_there : (o : Option Object) → IsTrue (is_job_in o) → IsTrue (is_some o)
-              job_there None h = absurd (false≢true h)
-              job_there (Some o) h = refl
-
-          still_in_job : (c : Body) → IsTrue (is_in_job r.objects c) → IsTrue (is_in_job grown.objects c)
-          still_in_job body.RootJob h = refl
-          still_in_job (body.Process job false) h = refl
-          still_in_job (body.Process job true) h = job_grown job h
-          still_in_job body.Event h = refl
-          still_in_job (body.Port port) h = refl
-          still_in_job (body.ChannelEnd peer queue) h = refl
-
       pub grown_one : IsGrowing ps (x ∷ m) grown
-      unfolding has_living_child
       grown_one = record {
         sound = grown_sound;
         kept = kept_each grown.objects (rw (← grown_is) (sorted_put r.objects n fresh growing.kept.in_order)) (λ j q at. found_grown (IsTrue (is_kept grown.objects j q)) j q at
             (λ here is. subst (λ (o : Object). IsTrue (is_kept grown.objects j o)) is refl)
-            (λ apart old. rw (still_alone j q.body) (kept_all r.objects growing.kept j q old)));
+            (λ apart old. still_kept j q (kept_all r.objects growing.kept j q old)));
       }
-        where
-          still_alone : (j : ℕ) (c : Body) → stays_alone grown.objects j c ≡ stays_alone r.objects j c
-          still_alone j body.RootJob = any_behind (λ e. lives_below j e.1.body) r.objects (n, fresh) (childless j)
-          still_alone j (body.Process job lives) = refl
-          still_alone j body.Event = refl
-          still_alone j (body.Port port) = refl
-          still_alone j (body.ChannelEnd peer queue) = refl
 
 -- the handles m have entered the table of a process
 pub entered_next : (before after : List Process) (m : Map Entry) (r r2 : Objects) → IsGrowing before m r2 → r.next_koid ≤ r2.next_koid → ((e : Entry) → IsNamed r.objects e → IsNamed r2.objects e)

@@ -14,9 +14,9 @@ use Rattle.zl_calls.specs.calls.Handle.{CloseDoes, Closes, close_answer, Dups, D
 use Rattle.zl_calls.proofs.Beside.{beside_lab, beside_world}
 use Rattle.zl_calls.proofs.Answered.{IsWrite, table_is, replies_none, replied_with, may_get_inserted, replied_inserted}
 use Rattle.zl_calls.proofs.Done.{IsDone, IsCalled, answered_done}
-use Rattle.zl_calls.proofs.Labs.{no_policy, call_settles, handles_counted}
+use Rattle.zl_calls.proofs.Labs.{call_settles, handles_counted}
 use Rattle.zl_calls.proofs.Counting.{count_without, counts_written, queues_updated, sum_update}
-use Rattle.zl_calls.proofs.Refused.{NoPolicy, fault_answers, answers}
+use Rattle.zl_calls.proofs.Refused.{fault_answers, answers}
 use Rattle.zl_calls.proofs.Stopped.{sound_after}
 use Rattle.zl_calls.proofs.TakenCalls.{taking_done}
 use Rattle.zl_calls.proofs.Settled.{IsSettled, settled, still_settles}
@@ -33,7 +33,7 @@ no_bits n = eq-eqb (bit_and n 0) 0 (omega (arith, and_le_r n 0))
 
 -- ---- the answer of close
 
-module _ (lib : Library) (w : World) (free : NoPolicy w) (p : ℕ) where
+module _ (lib : Library) (w : World) (p : ℕ) where
   close_refused : (h : ℕ) → refusal lib w p (close h) ≡ (if has_key (table_of w p) h || h == 0 then None else Some (outcome.Answered status.BadHandle))
   unfolding refusal handle_operands row_of examined operand listed
   close_refused h = by_entry (h == 0) (get (table_of w p) h)
@@ -41,12 +41,12 @@ module _ (lib : Library) (w : World) (free : NoPolicy w) (p : ℕ) where
       by_entry : (zero : Bool) (o : Option Entry) → first_some (first_some ((if zero then None else operand_of w p any 0 o) ∷ None ∷ []) ∷ None ∷ []) ≡ (if is_some o || zero then None else Some (outcome.Answered status.BadHandle))
       by_entry true None = refl
       by_entry true (Some e) = refl
-      by_entry false None = ap (λ (x : Option Outcome). first_some (first_some (x ∷ None ∷ []) ∷ None ∷ [])) (fault_answers w free p condition.BadHandle status.BadHandle)
+      by_entry false None = ap (λ (x : Option Outcome). first_some (first_some (x ∷ None ∷ []) ∷ None ∷ [])) (fault_answers w p condition.BadHandle status.BadHandle)
       by_entry false (Some e) = rw (no_bits (bits e.rights)) refl
 
 -- ---- the answer of dup
 
-module _ (lib : Library) (w : World) (free : NoPolicy w) (p : ℕ) (objects : Map Object) where
+module _ (lib : Library) (w : World) (p : ℕ) (objects : Map Object) where
   abbrev dup_with : ℕ → Option Entry → Option Outcome
   dup_with asked o =
       first_some (first_some (operand_of w p any DUPLICATE o ∷ None ∷ [])
@@ -70,12 +70,12 @@ module _ (lib : Library) (w : World) (free : NoPolicy w) (p : ℕ) (objects : Ma
   dup_refused counts h asked = by_entry (get (table_of w p) h) refl
     where
       by_entry : (o : Option Entry) → get (table_of w p) h ≡ o → dup_with asked o ≡ answers (dup_refusal_of (table_of w p) objects asked o)
-      by_entry None is = ap (λ (x : Option Outcome). first_some (first_some (x ∷ None ∷ []) ∷ None ∷ answer_if true status.InvalidArgs ∷ answer_if (not (has_room w p 1) || nat_le (2 ^ 62) (handles_to w 0)) status.NoResources ∷ [])) (fault_answers w free p condition.BadHandle status.BadHandle)
+      by_entry None is = ap (λ (x : Option Outcome). first_some (first_some (x ∷ None ∷ []) ∷ None ∷ answer_if true status.InvalidArgs ∷ answer_if (not (has_room w p 1) || nat_le (2 ^ 62) (handles_to w 0)) status.NoResources ∷ [])) (fault_answers w p condition.BadHandle status.BadHandle)
       by_entry (Some e) is = rw (counts h e is) (by_tests e (within DUPLICATE (bits e.rights)) (is_empty (with_rights e (narrowed e.rights asked))) (has_room_in (table_of w p)) (nat_le (2 ^ 62) (handles_to w e.koid)))
 
 -- ---- the answer of replace
 
-module _ (lib : Library) (w : World) (free : NoPolicy w) (p : ℕ) where
+module _ (lib : Library) (w : World) (p : ℕ) where
   replace_refused : (h asked : ℕ) → refusal lib w p (replace h asked) ≡ answers (replace_refusal (table_of w p) h asked)
   unfolding refusal handle_operands row_of examined operand listed
   replace_refused h asked = by_entry (get (table_of w p) h)
@@ -85,7 +85,7 @@ module _ (lib : Library) (w : World) (free : NoPolicy w) (p : ℕ) where
       by_rights false = refl
 
       by_entry : (o : Option Entry) → first_some (first_some (operand_of w p any 0 o ∷ None ∷ []) ∷ None ∷ answer_if (is_empty (copy_of o asked)) status.InvalidArgs ∷ []) ≡ answers (replace_refusal_of asked o)
-      by_entry None = ap (λ (x : Option Outcome). first_some (first_some (x ∷ None ∷ []) ∷ None ∷ answer_if true status.InvalidArgs ∷ [])) (fault_answers w free p condition.BadHandle status.BadHandle)
+      by_entry None = ap (λ (x : Option Outcome). first_some (first_some (x ∷ None ∷ []) ∷ None ∷ answer_if true status.InvalidArgs ∷ [])) (fault_answers w p condition.BadHandle status.BadHandle)
       by_entry (Some e) = rw (no_bits (bits e.rights)) (by_rights (is_empty (with_rights e (narrowed e.rights asked))))
 
 -- a value that is put in again in the place of the old one
@@ -148,7 +148,7 @@ module _ (lib : Library) (before after : List Process) (r r2 : Objects) (p p2 : 
 
     calls : Calls lib w p.pid close_site (outcome.Answered answer) (world_value after r)
     unfolding effect gives_ok new_handles insert_all
-    calls = by_test (has_key p.table.entries h || h == 0) (close_refused lib w (no_policy before r lab) p.pid h ∙ rw (table_is before after p p2 write r) refl) is_answer
+    calls = by_test (has_key p.table.entries h || h == 0) (close_refused lib w p.pid h ∙ rw (table_is before after p p2 write r) refl) is_answer
       where
         by_test : (passes : Bool) → refusal lib w p.pid (close h) ≡ (if passes then None else Some (outcome.Answered status.BadHandle)) → answer ≡ (if passes then status.Ok else status.BadHandle) → Calls lib w p.pid close_site (outcome.Answered answer) (world_value after r)
         by_test true refused same = (Values [], rw refused (close_chosen, ap (λ (x : Status). outcome.Answered x) same, close_ends ∙ rw same refl))
@@ -233,7 +233,7 @@ module _ (lib : Library) (before after : List Process) (r r2 : Objects) (p p2 : 
     dup_site = site (dup h asked) consumed destinations
 
     refused : refusal lib w p.pid (dup h asked) ≡ answers (dup_refusal p.table.entries r.objects h asked)
-    refused = dup_refused lib w (no_policy before r lab) p.pid r.objects (λ v e at. handles_counted before r lab p write.there v e (rw (table_is before after p p2 write r) at at)) h asked ∙ rw (table_is before after p p2 write r) refl
+    refused = dup_refused lib w p.pid r.objects (λ v e at. handles_counted before r lab p write.there v e (rw (table_is before after p p2 write r) at at)) h asked ∙ rw (table_is before after p p2 write r) refl
 
     module _ (made : ℕ) (dups : Dups p.table r h asked made p2.table r2) (replies : Replies dup_site status.Ok (made ∷ []) p p2) where
       abbrev k : ℕ
@@ -308,7 +308,7 @@ module _ (lib : Library) (before after : List Process) (r r2 : Objects) (p p2 : 
     replace_site = site (replace h asked) consumed destinations
 
     replace_refused_here : refusal lib w p.pid (replace h asked) ≡ answers (replace_refusal p.table.entries h asked)
-    replace_refused_here = replace_refused lib w (no_policy before r lab) p.pid h asked ∙ rw (table_is before after p p2 write r) refl
+    replace_refused_here = replace_refused lib w p.pid h asked ∙ rw (table_is before after p p2 write r) refl
 
     module _ (made : ℕ) (replaces : Replaces p.pid p.table r h asked made p2.table r2) (replies : Replies replace_site status.Ok (made ∷ []) p p2) where
       abbrev narrower : Entry → Entry

@@ -1,5 +1,5 @@
 -- What a process does beside registered waits and blocked processes: those waits are left whose handle, object and port are.
-use Rattle.zl_calls.proofs.Common.{◌≡◌, ℕ, suc, Bool, true, false, ◌&&◌, List, [], ◌∷◌, map, refl, sym, ap, ◌∙◌, subst, Option, Some, None, inl, inr, IsTrue, arith, cases_Bool, false≢true, none-some, same_Some, is_some, if◌then◌else◌, All, and_from, and_parts, entry_at, get, has_key, state_passes, AtCall, Calls, Library, Ready, Settles, Site, next_for, Objects, process_entry, object_entry, world_blocked, world_value, IsActed, AreBlocked}
+use Rattle.zl_calls.proofs.Common.{◌≡◌, ℕ, suc, Bool, true, false, ◌&&◌, List, [], ◌∷◌, map, refl, sym, ap, ◌∙◌, subst, Option, Some, None, inl, inr, IsTrue, arith, cases_Bool, false≢true, none-some, same_Some, is_some, if◌then◌else◌, All, and_from, and_parts, entry_at, get, has_key, state_passes, AtCall, Library, Ready, Settles, Site, next_for, Objects, process_entry, object_entry, world_blocked, world_value, IsActed, AreBlocked}
 use Rattle.std.specs.List.{filter}
 use Rattle.std.specs.Prelude.{slice_index_or}
 use Rattle.std.proofs.lemmas.List.Elements.{filter_passes}
@@ -7,6 +7,7 @@ use Rattle.zl_rights.specs.Settle.{is_made_by_handle}
 use Rattle.zl_rights.specs.World.{Wait, World}
 use Rattle.zl_rights.specs.declared.entry.Entry.{Entry}
 use Rattle.zl_code.proofs.Common.{Process as ProcessValue, is_blocked, pid_of, names_its_object, IsSound as IsSoundWorld}
+use Rattle.zl_code.specs.Calls.{Calls}
 use Rattle.zl_code.specs.Sound.{IsSoundWait}
 use Rattle.zl_code.specs.declared.history.CallName.{CallName}
 use Rattle.zl_code.specs.declared.history.Outcome.{Outcome}
@@ -21,6 +22,7 @@ use Rattle.zl_objects.specs.Listed.{is_there}
 use Rattle.zl_calls.specs.Registered.{ListsBut, is_left, world_left}
 use Rattle.zl_calls.specs.declared.process.Process.{Process}
 use Rattle.zl_calls.proofs.BlockedLists.{same_blocked}
+use Rattle.zl_calls.proofs.Departed.{left_all, settled_world}
 
 -- what passes the stricter test are those that pass the other, where each of these passes it
 agreeing : {X : Type 0} (p q : X → Bool) (xs : List X) → ((x : X) → IsTrue (p x) → IsTrue (q x)) → All (λ x. p x ≡ true) (filter q xs) → filter p xs ≡ filter q xs
@@ -107,16 +109,16 @@ module _ (lib : Library) (before after : List Process) (r r2 : Objects) (pid : �
 
 -- a call that looks at waits is done beside them, and nothing goes with it
 pub left_looking : (lib : Library) (before after : List Process) (r r2 : Objects) (pid : ℕ) (q : ProcessValue) (call : CallName) (s : Site) (o : Outcome) (blocked : List ℕ) → IsSoundWorld (world_blocked before r blocked)
-    → get (map process_entry before) pid ≡ Some q → q.state ≡ Ready → next_for lib q ≡ AtCall call s → Calls lib (world_blocked before r blocked) pid s o (world_blocked after r2 blocked) → Settles (world_value after r2) (world_value after r2)
-    → IsActed lib (world_blocked before r blocked) pid (item.Call pid call o) (world_left after r2 blocked)
+    → get (map process_entry before) pid ≡ Some q → q.state ≡ Ready → next_for lib q ≡ AtCall call s → Calls lib (world_blocked before r blocked) pid s o (world_blocked after r2 blocked) → Settles (world_value after r2) (settled_world after r2)
+    → IsActed lib (world_blocked before r blocked) pid (item.Call pid call o) (world_left (left_all after r2) r2 blocked)
 left_looking lib before after r r2 pid q call s o blocked sound there ready next calls settles =
-    left_by lib before after r r2 pid (item.Call pid call o) blocked sound r2.waits r2.waits_made blocked
+    left_by lib before (left_all after r2) r r2 pid (item.Call pid call o) blocked sound r2.waits r2.waits_made blocked
     (record {
       process = q;
       is_there = there;
       is_ready = ready;
       acted = world_blocked after r2 blocked;
       acts = rw next (o, refl, calls);
-      settles = settles_waiting (world_value after r2) (world_value after r2) settles r2.waits r2.waits_made blocked;
+      settles = settles_waiting (world_value after r2) (settled_world after r2) settles r2.waits r2.waits_made blocked;
     })
     (record { waits = λ test there. refl; made = refl })

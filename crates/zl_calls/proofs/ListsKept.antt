@@ -2,7 +2,7 @@
 use Rattle.zl_calls.proofs.Common.{◌≡◌, ℕ, Bool, true, false, List, refl, ap, ◌∙◌, Option, Some, None, Result, Ok, Err, inl, inr, get, is_empty, narrowed, then_some, with_rights, IsRefusedBy, Request, Site, site, close, dup, chan_write, event_create, signal, process_exit, calls_at, Objects, Does, status_of, Acted, Acts, action_of}
 use Rattle.zl_code.proofs.Common.{chan_create, chan_read_etc, replace}
 use Rattle.zl_code.specs.Common.{signal_peer, wait_poll}
-use Rattle.zl_code.specs.CallTable.{port_cancel, port_create, port_poll, port_queue, port_wait, wait_async, wait_one}
+use Rattle.zl_code.specs.CallTable.{job_create, job_set_policy, port_cancel, port_create, port_poll, port_queue, port_wait, wait_async, wait_one}
 use Rattle.zl_code.specs.declared.history.CallName.{CallName}
 use Rattle.zl_code.specs.declared.history.Outcome.{Outcome}
 use Rattle.zl_code.specs.declared.history.Outcome.TheVariants as outcome
@@ -87,6 +87,8 @@ module _ (p p2 : Process) (r r2 : Objects) (o : Outcome) (consumed destinations 
   by_request (port_wait port) plain (inr blocks) = of_same r r2 r refl refl blocks.objects
   by_request (port_poll port) plain acts = does_lists r r2 _ _ _ _ _ acts.answer (λ x done. of_same r r2 _ refl refl done.objects) acts.acts
   by_request (process_exit code) plain acts = acts.over.listed.listed
+  by_request (job_create j) plain acts = does_lists r r2 _ _ _ _ _ acts.answer (λ x done. of_same r r2 _ refl refl done.objects) acts.acts
+  by_request (job_set_policy j mode condition action) plain acts = does_lists r r2 _ _ _ _ _ acts.answer (λ x done. of_same r r2 _ refl refl done.objects) acts.acts
   by_request (wait_async h port key mask) plain acts = absurd (true≢false plain)
   by_request (port_cancel port source key) plain acts = absurd (true≢false plain)
   by_request _ plain acts = absurd acts

@@ -1,5 +1,5 @@
 -- The packets of one port change, and nothing else: what the invariant says of the objects.
-use Rattle.zl_calls.proofs.Common.{◌≡◌, ℕ, ◌||◌, ◌==◌, List, [], ◌∷◌, refl, sym, ap, ◌∙◌, subst, Option, Some, None, inl, inr, IsTrue, arith, if◌then◌else◌, list_any, option_map, cases_Bool, map, sum_by-cons, queued_to, object_entry, Map, get, update, kind_of, handles_to, get-update, has_key-update, is_sorted-update, Objects, has_living_child, is_job_at, is_job_body, is_job_in, is_kept, lives_below, stays_alone, body_value, is_in_job, world_value, Agrees, AreNamed, IsConsistent, IsNamed, World}
+use Rattle.zl_calls.proofs.Common.{◌≡◌, ℕ, ◌||◌, ◌==◌, List, [], ◌∷◌, refl, sym, ap, ◌∙◌, subst, Option, Some, None, inl, inr, IsTrue, arith, if◌then◌else◌, list_any, option_map, cases_Bool, map, sum_by-cons, queued_to, object_entry, Map, get, update, kind_of, handles_to, get-update, has_key-update, is_sorted-update, Objects, has_living_child, is_job_at, is_job_body, is_job_in, is_kept, is_child, stays_alone, body_value, is_in_job, world_value, Agrees, AreNamed, IsConsistent, IsNamed, World}
 use Rattle.zl_rights.specs.declared.entry.Entry.{Entry}
 use Rattle.zl_port.specs.Packets.{Port}
 use Rattle.zl_objects.specs.declared.object.Body.{Body}
@@ -7,6 +7,7 @@ use Rattle.zl_objects.specs.declared.object.Body.TheVariants as body
 use Rattle.zl_objects.specs.declared.object.Object.{Object}
 use Rattle.zl_objects.specs.Objects.{queue_of}
 use Rattle.zl_objects.specs.Ports.{at_port, changed_port, changing_port}
+use Rattle.zl_objects.proofs.Bodies.{same_in_job}
 use Rattle.zl_objects.proofs.Law.{kept_all}
 use Rattle.zl_calls.specs.declared.process.Process.{Process}
 use Rattle.zl_calls.proofs.Answered.{IsWrite}
@@ -19,7 +20,7 @@ module _ (f : Port → Port) where
   same_kind (body.Port port) = refl
   same_kind _ = refl
 
-  same_lives : (j : ℕ) (b : Body) → lives_below j (changed_port f b) ≡ lives_below j b
+  same_lives : (j : ℕ) (b : Body) → is_child j (changed_port f b) ≡ is_child j b
   same_lives j (body.Port port) = refl
   same_lives j _ = refl
 
@@ -72,8 +73,7 @@ module _ (f : Port → Port) where
         by_object (Some o) = same_job o.body
 
     in_job_too : (b : Body) → is_in_job after_it b ≡ is_in_job m b
-    in_job_too (body.Process job lives) = rw (job_too job) refl
-    in_job_too _ = refl
+    in_job_too b = same_in_job m after_it job_too b
 
     pub named_too : (e : Entry) → IsNamed m e → IsNamed after_it e
     named_too e named = elim (cases_Bool (k == e.koid)) as (λ _. IsNamed after_it e) [
@@ -94,13 +94,13 @@ module _ (f : Port → Port) where
   child_too : (m : Map Object) (k job : ℕ) → has_living_child (update m k (at_port f)) job ≡ has_living_child m job
   unfolding update has_living_child
   child_too [] k job = refl
-  child_too (e ∷ m) k job = elim (cases_Bool (e.0 == k)) as (λ _. list_any (λ x. lives_below job x.1.body) (update (e ∷ m) k (at_port f)) ≡ list_any (λ x. lives_below job x.1.body) (e ∷ m)) [
+  child_too (e ∷ m) k job = elim (cases_Bool (e.0 == k)) as (λ _. list_any (λ x. is_child job x.1.body) (update (e ∷ m) k (at_port f)) ≡ list_any (λ x. is_child job x.1.body) (e ∷ m)) [
     | inl here ↦ rw (here, same_lives job e.1.body) refl
-    | inr apart ↦ rw apart (ap (λ b. lives_below job e.1.body || b) (child_too m k job))
+    | inr apart ↦ rw apart (ap (λ b. is_child job e.1.body || b) (child_too m k job))
   ]
 
   alone_too : (m : Map Object) (k j : ℕ) (b : Body) → stays_alone (update m k (at_port f)) j b ≡ stays_alone m j b
-  alone_too m k j body.RootJob = child_too m k j
+  alone_too m k j (body.Job own) = child_too m k j
   alone_too m k j _ = refl
 
   -- ---- the invariant

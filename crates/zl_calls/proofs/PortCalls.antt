@@ -24,17 +24,16 @@ use Rattle.zl_calls.specs.calls.Port.{CreatesPort, PortCreateDoes, PortPollDoes,
 use Rattle.zl_calls.proofs.Answered.{IsWrite, table_is, may_get_inserted, replied_inserted}
 use Rattle.zl_calls.proofs.Done.{IsDone, IsCalled, answered_done}
 use Rattle.zl_calls.proofs.Grown.{IsGrowing, entered_next, grown_named, grown_one, grown_seen, growing_none, there_grown}
-use Rattle.zl_calls.proofs.Labs.{no_policy}
-use Rattle.zl_calls.proofs.Refused.{NoPolicy, answers, may_create}
+use Rattle.zl_calls.proofs.Refused.{answers, may_create}
 use Rattle.zl_calls.proofs.WriteCalls.{is_found}
 use Rattle.zl_calls.proofs.Written.{IsNext, inserted_counts, keeps_inserted}
 use Rattle.zl_calls.proofs.Repacked.{packets_there, port_ends, port_kept, port_refused}
 
 -- ---- the answer of port_create
 
-create_refused : (lib : Library) (w : World) → NoPolicy w → (p : ℕ) → refusal lib w p port_create ≡ answers (port_refusal (table_of w p) w.next_koid)
+create_refused : (lib : Library) (w : World) (p : ℕ) → refusal lib w p port_create ≡ answers (port_refusal (table_of w p) w.next_koid)
 unfolding refusal handle_operands row_of examined listed has_room has_koids
-create_refused lib w free p = rw (may_create w free p condition.NewPort) (by_test (has_room_in (table_of w p) && nat_le (w.next_koid + 1) (2 ^ 62)))
+create_refused lib w p = rw (may_create w p condition.NewPort) (by_test (has_room_in (table_of w p) && nat_le (w.next_koid + 1) (2 ^ 62)))
   where
     by_test : (b : Bool) → first_some (None ∷ None ∷ answer_if (not b) status.NoResources ∷ []) ≡ answers (then_some (not b) status.NoResources)
     by_test true = refl
@@ -81,7 +80,7 @@ module _ (lib : Library) (before after : List Process) (r r2 : Objects) (p p2 : 
     create_site = site port_create consumed destinations
 
     refused_create : refusal lib w p.pid port_create ≡ answers (port_refusal p.table.entries r.next_koid)
-    refused_create = create_refused lib w (no_policy before r lab) p.pid ∙ rw (table_is before after p p2 write r) refl
+    refused_create = create_refused lib w p.pid ∙ rw (table_is before after p p2 write r) refl
 
     module _ (made : ℕ) (creates : CreatesPort p.table r made p2.table r2) (replies : Replies create_site status.Ok (made ∷ []) p p2) where
       abbrev n : ℕ
@@ -116,7 +115,7 @@ module _ (lib : Library) (before after : List Process) (r r2 : Objects) (p p2 : 
       create_counts j = omega (arith, inserted_counts before after p p2 write entry made creates.inserts grown grown j refl, sum_by-cons (λ (h : ℕ × Entry). cond (h.1.koid == j) 1 0) (made, entry) [])
 
       growing : IsGrowing before ((made, entry) ∷ []) grown
-      growing = grown_one before [] r (growing_none before r lab) new_port (λ j. refl) (λ not. not runs) refl refl creates.koid refl (made, entry) refl
+      growing = grown_one before [] r (growing_none before r lab) new_port (λ not. not runs) refl refl creates.koid refl (made, entry) refl
 
       create_next : IsNext before after r grown
       create_next = entered_next before after ((made, entry) ∷ []) r grown growing (omega arith) (grown_named before [] r (growing_none before r lab) new_port) create_counts

@@ -1,5 +1,5 @@
 -- The queue of one object changes, and nothing else of it: what the invariant says of the objects.
-use Rattle.zl_calls.proofs.Common.{◌≡◌, ◌+◌, ℕ, ◌==◌, List, refl, Some, arith, count_by, map, sum_by, Map, get, update, kind_of, handles_to, Objects, is_job_body, lives_below, stays_alone, body_value, is_in_job, process_entry, process_value, world_value, Agrees, AreNamed, IsConsistent, IsNamed, World}
+use Rattle.zl_calls.proofs.Common.{◌≡◌, ◌+◌, ℕ, ◌==◌, List, refl, Some, arith, count_by, map, sum_by, Map, get, update, kind_of, handles_to, Objects, is_job_body, is_child, stays_alone, body_value, is_in_job, process_entry, process_value, world_value, Agrees, AreNamed, IsConsistent, IsNamed, World}
 use Rattle.zl_code.proofs.Common.{Process as ProcessValue}
 use Rattle.zl_rights.specs.World.{Message}
 use Rattle.zl_rights.specs.declared.entry.Entry.{Entry}
@@ -31,7 +31,7 @@ module _ (h : List Message → List Message) where
       kind_kept (body.ChannelEnd peer queue) = refl
       kind_kept _ = refl
 
-      living_kept : (j : ℕ) (b : Body) → lives_below j (requeued_body h b) ≡ lives_below j b
+      living_kept : (j : ℕ) (b : Body) → is_child j (requeued_body h b) ≡ is_child j b
       living_kept j (body.ChannelEnd peer queue) = refl
       living_kept j _ = refl
 

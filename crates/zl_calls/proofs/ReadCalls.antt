@@ -34,9 +34,8 @@ use Rattle.zl_calls.proofs.Counted.{queue_seen}
 use Rattle.zl_calls.proofs.Counting.{counts_written, queues}
 use Rattle.zl_calls.proofs.Done.{IsDone, IsCalled, called_done}
 use Rattle.zl_calls.proofs.EnteredTables.{all_chosen, all_given, counts_entered, each_entered, tables_entered}
-use Rattle.zl_calls.proofs.Labs.{no_policy}
 use Rattle.zl_calls.proofs.Queued.{named_too, requeued, requeued_body, requeued_next}
-use Rattle.zl_calls.proofs.Refused.{NoPolicy, answers, fault_answers}
+use Rattle.zl_calls.proofs.Refused.{answers, fault_answers}
 use Rattle.zl_calls.proofs.SameBodies.{still_named}
 use Rattle.zl_calls.proofs.Updates.{update_itself, update_seen, update_twice}
 use Rattle.zl_calls.proofs.WriteCalls.{is_found, peer_there}
@@ -89,9 +88,6 @@ module _ (lib : Library) (before : List Process) (r : Objects) (lab : IsConsiste
   unfolding refusal handle_operands row_of examined operand listed has_room
   read_refused c address room places = by_end (get handles c)
     where
-      free : NoPolicy old_world
-      free = no_policy before r lab
-
       queue_of_end : ℕ → List Message
       queue_of_end k = queue_seen_in (body_of old_world k)
 
@@ -105,10 +101,10 @@ module _ (lib : Library) (before : List Process) (r : Objects) (lab : IsConsiste
           ≡ answers (why (front_by handles r.objects room places (if a then (if b then Ok e else Err status.AccessDenied) else Err status.WrongType)))
       by_tests e true true = passes e
       by_tests e true false = refl
-      by_tests e false b = ap (λ (x : Option Outcome). with_end room places x (queue_of_end e.koid) (has_peer e.koid)) (fault_answers old_world free p condition.WrongObject status.WrongType)
+      by_tests e false b = ap (λ (x : Option Outcome). with_end room places x (queue_of_end e.koid) (has_peer e.koid)) (fault_answers old_world p condition.WrongObject status.WrongType)
 
       by_end : (o : Option Entry) → with_end room places (operand_of old_world p (kind.Channel ∷ []) READ o) (queue_of_end (koid_in o)) (has_peer (koid_in o)) ≡ answers (why (front_by handles r.objects room places (granted o (kind.Channel ∷ []) READ)))
-      by_end None = ap (λ (x : Option Outcome). with_end room places x (queue_of_end 0) (has_peer 0)) (fault_answers old_world free p condition.BadHandle status.BadHandle)
+      by_end None = ap (λ (x : Option Outcome). with_end room places x (queue_of_end 0) (has_peer 0)) (fault_answers old_world p condition.BadHandle status.BadHandle)
       by_end (Some e) = by_tests e (takes (kind.Channel ∷ []) e.kind) (within READ (bits e.rights))
 
 -- ---- what holds of the message

@@ -1,10 +1,11 @@
 -- What one object is changes, but neither its kind nor what keeps it: what the invariant says of the objects.
-use Rattle.zl_calls.proofs.Common.{◌≡◌, ℕ, ◌||◌, ◌==◌, [], ◌∷◌, refl, sym, ap, ◌∙◌, subst, Option, Some, None, inl, inr, IsTrue, arith, if◌then◌else◌, list_any, option_map, cases_Bool, eqb-true, List, Map, get, update, kind_of, handles_to, get-update, has_key-update, is_sorted-update, Objects, has_living_child, is_job_at, is_job_body, is_job_in, is_kept, lives_below, stays_alone, body_value, is_in_job, world_value, Agrees, AreNamed, IsConsistent, IsNamed, World}
+use Rattle.zl_calls.proofs.Common.{◌≡◌, ℕ, ◌||◌, ◌==◌, [], ◌∷◌, refl, sym, ap, ◌∙◌, subst, Option, Some, None, inl, inr, IsTrue, arith, if◌then◌else◌, list_any, option_map, cases_Bool, eqb-true, List, Map, get, update, kind_of, handles_to, get-update, has_key-update, is_sorted-update, Objects, has_living_child, is_job_at, is_job_body, is_job_in, is_kept, is_child, stays_alone, body_value, is_in_job, world_value, Agrees, AreNamed, IsConsistent, IsNamed, World}
 use Rattle.zl_rights.specs.declared.entry.Entry.{Entry}
 use Rattle.zl_objects.specs.declared.object.Body.{Body}
 use Rattle.zl_objects.specs.declared.object.Body.TheVariants as body
 use Rattle.zl_objects.specs.declared.object.Object.{Object}
 use Rattle.zl_objects.specs.Objects.{queue_of}
+use Rattle.zl_objects.proofs.Bodies.{same_in_job}
 use Rattle.zl_objects.proofs.Law.{kept_all}
 use Rattle.zl_calls.specs.declared.process.Process.{Process}
 use Rattle.zl_calls.proofs.SameBodies.{found_updated, kept_each, still_named}
@@ -13,7 +14,7 @@ use Rattle.zl_calls.proofs.Written.{IsNext}
 -- a change of bodies after which each is of its kind, and as much a job and a living process as before
 pub record KeepsKind (g : Body → Body) : Type 0 where
   pub kind : (b : Body) → kind_of (body_value (g b)) ≡ kind_of (body_value b)
-  pub living : (j : ℕ) (b : Body) → lives_below j (g b) ≡ lives_below j b
+  pub living : (j : ℕ) (b : Body) → is_child j (g b) ≡ is_child j b
   pub job : (b : Body) → is_job_body (g b) ≡ is_job_body b
   pub in_job : (m : Map Object) (b : Body) → is_in_job m (g b) ≡ is_in_job m b
   pub alone : (m : Map Object) (k : ℕ) (b : Body) → stays_alone m k (g b) ≡ stays_alone m k b
@@ -40,9 +41,8 @@ module _ (g : Body → Body) (same : KeepsKind g) where
         by_object None = refl
         by_object (Some o) = same.job o.body
 
-    in_job_too : (b : Body) → is_in_job after_it b ≡ is_in_job m b
-    in_job_too (body.Process job lives) = rw (job_too job) refl
-    in_job_too _ = refl
+    pub in_job_too : (b : Body) → is_in_job after_it b ≡ is_in_job m b
+    in_job_too b = same_in_job m after_it job_too b
 
     pub named_rebodied : (e : Entry) → IsNamed m e → IsNamed after_it e
     named_rebodied e named = elim (cases_Bool (k == e.koid)) as (λ _. IsNamed after_it e) [
@@ -63,13 +63,13 @@ module _ (g : Body → Body) (same : KeepsKind g) where
   child_too : (m : Map Object) (k job : ℕ) → has_living_child (update m k (rebodied g)) job ≡ has_living_child m job
   unfolding update has_living_child
   child_too [] k job = refl
-  child_too (e ∷ m) k job = elim (cases_Bool (e.0 == k)) as (λ _. list_any (λ x. lives_below job x.1.body) (update (e ∷ m) k (rebodied g)) ≡ list_any (λ x. lives_below job x.1.body) (e ∷ m)) [
+  child_too (e ∷ m) k job = elim (cases_Bool (e.0 == k)) as (λ _. list_any (λ x. is_child job x.1.body) (update (e ∷ m) k (rebodied g)) ≡ list_any (λ x. is_child job x.1.body) (e ∷ m)) [
     | inl here ↦ rw (here, same.living job e.1.body) refl
-    | inr apart ↦ rw apart (ap (λ b. lives_below job e.1.body || b) (child_too m k job))
+    | inr apart ↦ rw apart (ap (λ b. is_child job e.1.body || b) (child_too m k job))
   ]
 
   alone_too : (m : Map Object) (k j : ℕ) (b : Body) → stays_alone (update m k (rebodied g)) j b ≡ stays_alone m j b
-  alone_too m k j body.RootJob = child_too m k j
+  alone_too m k j (body.Job own) = child_too m k j
   alone_too m k j _ = refl
 
   -- ---- the invariant

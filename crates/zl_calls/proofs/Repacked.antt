@@ -1,5 +1,5 @@
 -- What the calls on a port have in common: how they are refused, and what it means that the packets of one port change.
-use Rattle.zl_calls.proofs.Common.{◌≡◌, ℕ, Bool, true, false, ◌==◌, List, [], ◌∷◌, map, refl, sym, ap, ◌∙◌, Option, Some, None, inl, inr, if◌then◌else◌, arith, sum_by-cons, cases_Bool, option_map, then_some, first_some, Map, get, update, PortBody, Site, handles_to, answer_if, All, replied, Ok, Err, All-nil, bits, within, kind_of, body_of, body_in, operand_of, by_look_up, on_object, Objects, Replies, process_entry, process_value, object_entry, object_value, body_value, world_value, queued_to, lives_below, stays_alone, is_job_body, is_in_job, Agrees, AreNamed, IsConsistent, IsNamed, koid_in, World}
+use Rattle.zl_calls.proofs.Common.{◌≡◌, ℕ, Bool, true, false, ◌==◌, List, [], ◌∷◌, map, refl, sym, ap, ◌∙◌, Option, Some, None, inl, inr, if◌then◌else◌, arith, sum_by-cons, cases_Bool, option_map, then_some, first_some, Map, get, update, PortBody, Site, handles_to, answer_if, All, replied, Ok, Err, All-nil, bits, within, kind_of, body_of, body_in, operand_of, by_look_up, on_object, Objects, Replies, process_entry, process_value, object_entry, object_value, body_value, world_value, queued_to, is_child, stays_alone, is_job_body, is_in_job, Agrees, AreNamed, IsConsistent, IsNamed, koid_in, World}
 use Rattle.zl_code.proofs.Common.{Object as ObjectValue}
 use Rattle.zl_rights.specs.declared.kind.Kind.TheVariants as kind
 use Rattle.zl_rights.specs.declared.status.Status.{Status}
@@ -22,7 +22,6 @@ use Rattle.zl_calls.specs.declared.process.Process.{Process}
 use Rattle.zl_calls.specs.calls.Port.{refused_by}
 use Rattle.zl_calls.proofs.Answered.{IsWrite, replied_with}
 use Rattle.zl_calls.proofs.Counting.{queues}
-use Rattle.zl_calls.proofs.Labs.{no_policy}
 use Rattle.zl_calls.proofs.Rebodied.{KeepsKind, named_rebodied, rebodied_next}
 use Rattle.zl_calls.proofs.Refused.{answers, fault_answers}
 use Rattle.zl_calls.proofs.SameBodies.{still_named}
@@ -54,7 +53,7 @@ module _ (before : List Process) (r : Objects) (lab : IsConsistent before r) (p 
   -- the refusal of a call that looks a port up and refuses packets that pass the test
   pub port_refused : (test : List Packet → Bool) (s : Status) (rights : ℕ) (o : Option Entry)
       → with_port test s (operand_of old_world p (kind.Port ∷ []) rights o) (koid_in o) ≡ answers (refused_by r.objects test s (granted o (kind.Port ∷ []) rights))
-  port_refused test s rights None = ap (λ (x : Option Outcome). with_port test s x 0) (fault_answers old_world (no_policy before r lab) p condition.BadHandle status.BadHandle)
+  port_refused test s rights None = ap (λ (x : Option Outcome). with_port test s x 0) (fault_answers old_world p condition.BadHandle status.BadHandle)
   port_refused test s rights (Some e) = by_tests (takes (kind.Port ∷ []) e.kind) (within rights (bits e.rights))
     where
       by_test : (b : Bool) → first_some (None ∷ None ∷ answer_if b s ∷ []) ≡ answers (then_some b s)
@@ -65,7 +64,7 @@ module _ (before : List Process) (r : Objects) (lab : IsConsistent before r) (p 
           ≡ answers (refused_by r.objects test s (if a then (if b then Ok e else Err status.AccessDenied) else Err status.WrongType))
       by_tests true true = rw (packets_there r.objects e.koid) (by_test (test (packets_in (get r.objects e.koid))))
       by_tests true false = refl
-      by_tests false b = ap (λ (x : Option Outcome). with_port test s x e.koid) (fault_answers old_world (no_policy before r lab) p condition.WrongObject status.WrongType)
+      by_tests false b = ap (λ (x : Option Outcome). with_port test s x e.koid) (fault_answers old_world p condition.WrongObject status.WrongType)
 
 -- ---- a port changes
 
@@ -77,7 +76,7 @@ module _ (f : Port → Port) where
       kind_kept (body.Port port) = refl
       kind_kept _ = refl
 
-      living_kept : (j : ℕ) (b : Body) → lives_below j (changed_port f b) ≡ lives_below j b
+      living_kept : (j : ℕ) (b : Body) → is_child j (changed_port f b) ≡ is_child j b
       living_kept j (body.Port port) = refl
       living_kept j _ = refl
 
@@ -128,7 +127,7 @@ module _ (before after : List Process) (r r2 : Objects) (p p2 : Process) (lab : 
       where
         by_body : (b : Body) → body_value (changed_port f b) ≡ body_packed g (body_value b)
         by_body (body.Port port) = ap (λ (xs : List Packet). PortBody xs) (packed port)
-        by_body body.RootJob = refl
+        by_body (body.Job own) = refl
         by_body (body.Process job lives) = refl
         by_body body.Event = refl
         by_body (body.ChannelEnd peer queue) = refl
@@ -147,7 +146,7 @@ module _ (before after : List Process) (r r2 : Objects) (p p2 : Process) (lab : 
 
     port_queues : (b : Body) → AreNamed r.objects (queue_of b) → AreNamed (changing_port r k f).objects (queue_of (changed_port f b))
     port_queues (body.Port port) old = All-nil (λ (x : Message). All (IsNamed (changing_port r k f).objects) x.handles)
-    port_queues body.RootJob old = still_named r.objects (changing_port r k f).objects (named_rebodied (changed_port f) (port_keeps f) r.objects k) [] old
+    port_queues (body.Job own) old = still_named r.objects (changing_port r k f).objects (named_rebodied (changed_port f) (port_keeps f) r.objects k) [] old
     port_queues (body.Process job lives) old = still_named r.objects (changing_port r k f).objects (named_rebodied (changed_port f) (port_keeps f) r.objects k) [] old
     port_queues body.Event old = still_named r.objects (changing_port r k f).objects (named_rebodied (changed_port f) (port_keeps f) r.objects k) [] old
     port_queues (body.ChannelEnd peer queue) old = still_named r.objects (changing_port r k f).objects (named_rebodied (changed_port f) (port_keeps f) r.objects k) queue old

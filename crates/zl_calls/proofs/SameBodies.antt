@@ -29,7 +29,7 @@ kept_each m in_order each = record { in_order = in_order; noted = λ k o at unke
 
 -- an object says the same of its process where that passes the same tests
 pub still_agrees : (w w2 : World) (k : ℕ) (b : Body) → ((test : StateValue → Bool) → is_process w2 test k ≡ is_process w test k) → Agrees w k b → Agrees w2 k b
-still_agrees w w2 k body.RootJob same agrees = same runs ∙ agrees
+still_agrees w w2 k (body.Job own) same agrees = same runs ∙ agrees
 still_agrees w w2 k (body.Process job alive) same agrees = record { running = agrees.running ∙ sym (same runs); living = agrees.living ∙ sym (same lives); over = agrees.over ∙ sym (same has_ended) }
 still_agrees w w2 k body.Event same agrees = same runs ∙ agrees
 still_agrees w w2 k (body.Port port) same agrees = same runs ∙ agrees
@@ -37,7 +37,7 @@ still_agrees w w2 k (body.ChannelEnd peer queue) same agrees = same runs ∙ agr
 
 -- the same where it runs, lives and has ended as before
 pub alike_agrees : (w w2 : World) (k : ℕ) (b : Body) → is_process w2 runs k ≡ is_process w runs k → is_process w2 lives k ≡ is_process w lives k → is_process w2 has_ended k ≡ is_process w has_ended k → Agrees w k b → Agrees w2 k b
-alike_agrees w w2 k body.RootJob runs_on lives_on over_on agrees = runs_on ∙ agrees
+alike_agrees w w2 k (body.Job own) runs_on lives_on over_on agrees = runs_on ∙ agrees
 alike_agrees w w2 k (body.Process job alive) runs_on lives_on over_on agrees = record { running = agrees.running ∙ sym runs_on; living = agrees.living ∙ sym lives_on; over = agrees.over ∙ sym over_on }
 alike_agrees w w2 k body.Event runs_on lives_on over_on agrees = runs_on ∙ agrees
 alike_agrees w w2 k (body.Port port) runs_on lives_on over_on agrees = runs_on ∙ agrees

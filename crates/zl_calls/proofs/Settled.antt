@@ -15,13 +15,13 @@ use Rattle.zl_calls.specs.declared.process.Process.{Process}
 use Rattle.zl_calls.specs.calls.Process.{Drained, none_left as none_drained, one_more}
 use Rattle.zl_calls.proofs.Counted.{counted_there, is_there, queue_seen}
 use Rattle.zl_calls.proofs.Counting.{count_without}
-use Rattle.zl_calls.proofs.Quiet.{all_stay}
+use Rattle.zl_calls.proofs.Departed.{all_stay, settled_world}
 use Rattle.zl_calls.proofs.SameBodies.{still_agrees}
 
--- the world with these objects meets the invariant, and is what settling leaves
+-- the world with these objects meets the invariant, and settling leaves it, but for processes that go with their objects
 pub record IsSettled (ps : List Process) (r r2 : Objects) : Type 0 where
   pub lab : IsConsistent ps r2
-  pub settles : Settles (world_value ps r) (world_value ps r2)
+  pub settles : Settles (world_value ps r) (settled_world ps r2)
 
 any_place : {X : Type 0} (test : X → Bool) (xs : List X) (n : ℕ) (d : X) → n < length xs → IsTrue (test (slice_index_or xs n d)) → IsTrue (list_any test xs)
 any_place test [] n d within passes = absurd (omega (arith, within))
@@ -151,8 +151,8 @@ sound_of ps r lab = record {
   in_jobs = lab.in_jobs;
 }
 
--- where all is held, settling leaves it
-pub still_settles : (ps : List Process) (r : Objects) → IsConsistent ps r → Settles (world_value ps r) (world_value ps r)
+-- where all is held, settling leaves the objects
+pub still_settles : (ps : List Process) (r : Objects) → IsConsistent ps r → Settles (world_value ps r) (settled_world ps r)
 unfolding get
 still_settles ps r lab = (settled ps [] r (sound_of ps r lab) refl (λ v e at. absurd (none-some e at)) [] (λ k. refl) r (none_left r.objects) lab.kept refl).settles
 

@@ -18,6 +18,8 @@ use Rattle.zl_calls.specs.Registered.{world_left}
 use Rattle.zl_calls.proofs.BlockedLists.{one_asleep}
 use Rattle.zl_calls.proofs.LeftWaits.{left_by}
 use Rattle.zl_calls.proofs.SameBodies.{alike_agrees}
+use Rattle.zl_calls.proofs.Labs.{IsFree}
+use Rattle.zl_calls.proofs.Departed.{left_all, settled_world}
 use Rattle.zl_calls.proofs.Settled.{still_settles}
 use Rattle.zl_calls.proofs.Written.{alike_states, keeps_agreeing, recounted_next, same_counts}
 
@@ -67,8 +69,8 @@ module _ (lib : Library) (before after : List Process) (r r2 : Objects) (p p2 : 
       is = ap process_value sleeps.process ∙ ap (λ (s : StateValue). record (process_value p) { state = s }) sleeps.state
 
   -- beside registered waits and other blocked processes
-  pub asleep_acts : (blocked : List ℕ) → IsSoundWorld (world_blocked before r blocked) → IsActed lib (world_blocked before r blocked) p.pid (item.Call p.pid name outcome.Blocked) (world_left after r (blocked ++ (p.pid ∷ [])))
-  asleep_acts blocked sound = left_by lib before after r r p.pid (item.Call p.pid name outcome.Blocked) blocked sound r.waits r.waits_made (blocked ++ (p.pid ∷ []))
-      (block_waiting lib (world_value before r) p.pid (process_value p) write.there ready name sleeps.at sleeps.next sleeps.awaited sleeps.passes sleeps.is_awaited (world_value after r)
-      (subst (λ u. Settles u (world_value after r)) (sym asleep_world) (still_settles after r asleep_keeps)) r.waits r.waits_made blocked)
+  pub asleep_acts : (blocked : List ℕ) → IsFree lib (world_value before r) p.pid name → IsSoundWorld (world_blocked before r blocked) → IsActed lib (world_blocked before r blocked) p.pid (item.Call p.pid name outcome.Blocked) (world_left (left_all after r) r (blocked ++ (p.pid ∷ [])))
+  asleep_acts blocked free sound = left_by lib before (left_all after r) r r p.pid (item.Call p.pid name outcome.Blocked) blocked sound r.waits r.waits_made (blocked ++ (p.pid ∷ []))
+      (block_waiting lib (world_value before r) p.pid (process_value p) write.there ready name sleeps.at sleeps.next sleeps.awaited (free (process_value p) sleeps.at write.there sleeps.next ∙ sleeps.passes) sleeps.is_awaited (settled_world after r)
+      (subst (λ u. Settles u (settled_world after r)) (sym asleep_world) (still_settles after r asleep_keeps)) r.waits r.waits_made blocked)
       (record { waits = λ test there. refl; made = refl })

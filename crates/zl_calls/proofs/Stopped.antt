@@ -10,6 +10,7 @@ use Rattle.zl_calls.specs.declared.process.State.TheVariants as state
 use Rattle.zl_calls.specs.declared.process.Process.{Process}
 use Rattle.zl_objects.specs.Objects.{queue_of}
 use Rattle.zl_objects.specs.Release.{Ends as ObjectEnds, Ended as ObjectEnded}
+use Rattle.zl_objects.proofs.Bodies.{same_in_job}
 use Rattle.zl_objects.proofs.Released.{stopped_loose}
 use Rattle.zl_calls.proofs.Answered.{IsWrite}
 use Rattle.zl_calls.proofs.Updates.{update_unseen}
@@ -52,7 +53,7 @@ module _ (before after : List Process) (p p2 : Process) (write : IsWrite before 
   same_kind o = ap (λ b. record (object_value o) { body = b }) (by_body o.body)
     where
       by_body : (b : Body) → body_value (stopped_body b) ≡ body_value b
-      by_body body.RootJob = refl
+      by_body (body.Job own) = refl
       by_body (body.Process job alive) = refl
       by_body body.Event = refl
       by_body (body.Port port) = refl
@@ -74,7 +75,7 @@ module _ (before after : List Process) (p p2 : Process) (write : IsWrite before 
   ]
     where
       by_body : (b : Body) → is_job_body (stopped_body b) ≡ is_job_body b
-      by_body body.RootJob = refl
+      by_body (body.Job own) = refl
       by_body (body.Process job alive) = refl
       by_body body.Event = refl
       by_body (body.Port port) = refl
@@ -101,11 +102,7 @@ module _ (before after : List Process) (p p2 : Process) (write : IsWrite before 
   ]
 
   in_job_stopped : (b : Body) → IsTrue (is_in_job r.objects b) → IsTrue (is_in_job ended.objects b)
-  in_job_stopped body.RootJob h = refl
-  in_job_stopped (body.Process job alive) h = rw (job_stopped job) h
-  in_job_stopped body.Event h = refl
-  in_job_stopped (body.Port port) h = refl
-  in_job_stopped (body.ChannelEnd peer queue) h = refl
+  in_job_stopped b h = same_in_job r.objects ended.objects job_stopped b ∙ h
 
   module _ (code : ℤ) (over : p2.state ≡ state.Ended code) where
     now : (test : StateValue → Bool) → is_process (world_value after ended) test p.pid ≡ test (Ended code)
@@ -120,14 +117,14 @@ module _ (before after : List Process) (p p2 : Process) (write : IsWrite before 
     others_now j apart test = rw (get_after before after p p2 write j, apart) refl
 
     stopped_agrees : (b : Body) → Agrees (world_value after ended) p.pid (stopped_body b)
-    stopped_agrees body.RootJob = now runs
+    stopped_agrees (body.Job own) = now runs
     stopped_agrees (body.Process job alive) = record { running = sym (now runs); living = sym (now lives); over = sym (now has_ended) }
     stopped_agrees body.Event = now runs
     stopped_agrees (body.Port port) = now runs
     stopped_agrees (body.ChannelEnd peer queue) = now runs
 
     same_queue : (b : Body) → queue_of (stopped_body b) ≡ queue_of b
-    same_queue body.RootJob = refl
+    same_queue (body.Job own) = refl
     same_queue (body.Process job alive) = refl
     same_queue body.Event = refl
     same_queue (body.Port port) = refl
@@ -154,16 +151,16 @@ module _ (before after : List Process) (p p2 : Process) (write : IsWrite before 
           (λ o old here is. subst (λ (i : ℕ). Agrees (world_value after ended) i q.body) (eqb-true p.pid j here) (subst (λ (x : Object). Agrees (world_value after ended) p.pid x.body) is (stopped_agrees o.body)))
           (λ apart old. still_agrees (world_value before r) (world_value after ended) j q.body (others_now j apart) (lab.agrees j q old));
       in_jobs = λ j q at. found_updated stopped r.objects p.pid (IsTrue (is_in_job ended.objects q.body)) j q at
-          (λ o old here is. subst (λ (x : Object). IsTrue (is_in_job ended.objects x.body)) is (of_stopped o.body))
+          (λ o old here is. subst (λ (x : Object). IsTrue (is_in_job ended.objects x.body)) is (of_stopped o.body (lab.in_jobs j o old)))
           (λ apart old. in_job_stopped q.body (lab.in_jobs j q old));
     }
       where
-        of_stopped : (b : Body) → IsTrue (is_in_job ended.objects (stopped_body b))
-        of_stopped body.RootJob = refl
-        of_stopped (body.Process job alive) = refl
-        of_stopped body.Event = refl
-        of_stopped (body.Port port) = refl
-        of_stopped (body.ChannelEnd peer queue) = refl
+        of_stopped : (b : Body) → IsTrue (is_in_job r.objects b) → IsTrue (is_in_job ended.objects (stopped_body b))
+        of_stopped (body.Process job alive) h = refl
+        of_stopped (body.Job own) h = in_job_stopped (body.Job own) h
+        of_stopped body.Event h = refl
+        of_stopped (body.Port port) h = refl
+        of_stopped (body.ChannelEnd peer queue) h = refl
 
 -- ---- the object of a process that has ended
 
@@ -180,7 +177,7 @@ not_stopped (e ∷ m) k none = elim (cases_Bool (e.0 == k)) as (λ _. update (e 
 ]
   where
     by_body : (o : Object) (b : Body) → o.body ≡ b → job_of b ≡ None → stopped o ≡ o
-    by_body o body.RootJob is none = same_body o body.RootJob is refl
+    by_body o (body.Job own) is none = same_body o (body.Job own) is refl
     by_body o (body.Process job alive) is none = absurd (none-some job (sym none))
     by_body o body.Event is none = same_body o body.Event is refl
     by_body o (body.Port port) is none = same_body o (body.Port port) is refl

@@ -28,7 +28,6 @@ use Rattle.zl_calls.specs.declared.calls.wait.Watched.{Watched}
 use Rattle.zl_calls.proofs.Active.{signals_active}
 use Rattle.zl_calls.proofs.Answered.{IsWrite, same_world, table_is}
 use Rattle.zl_calls.proofs.Done.{IsDone, IsCalled, answered_done, called_done}
-use Rattle.zl_calls.proofs.Labs.{no_policy}
 use Rattle.zl_calls.proofs.Refused.{answers, fault_answers}
 use Rattle.zl_calls.proofs.Written.{refusal_keeps}
 
@@ -97,7 +96,7 @@ module _ (lib : Library) (before : List Process) (r : Objects) (lab : IsConsiste
 
   -- a call that looks at signals is refused where it sees nothing, and else by its other tests
   watch_refused : (rest : Tests) (mask : ℕ) (o : Option Entry) → with_look_up rest mask (koid_in o) (operand_of old_world p any WAIT o) ≡ behind rest (watched_of r.objects mask (granted o [] WAIT))
-  watch_refused rest mask None = ap (with_look_up rest mask 0) (fault_answers old_world (no_policy before r lab) p condition.BadHandle status.BadHandle)
+  watch_refused rest mask None = ap (with_look_up rest mask 0) (fault_answers old_world p condition.BadHandle status.BadHandle)
   watch_refused rest mask (Some e) = by_rights (within WAIT (bits e.rights))
     where
       by_mask : (a : Bool) → first_some (None ∷ None ∷ answer_if (not a) status.InvalidArgs ∷ rest e.koid)

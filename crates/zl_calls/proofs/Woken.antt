@@ -61,7 +61,7 @@ seen_sorted (e ∷ m) = rw (seen_below e.0 m, seen_sorted m) refl
 -- what is seen of an object without its first packet
 seen_taken : (o : OwnObject) (b : Body) → o.body ≡ b → object_value (at_port without_front o) ≡ packet_taken (object_value o)
 seen_taken o (body.Port q) is = rw is refl
-seen_taken o body.RootJob is = rw is refl
+seen_taken o (body.Job own) is = rw is refl
 seen_taken o (body.Process job alive) is = rw is refl
 seen_taken o body.Event is = rw is refl
 seen_taken o (body.ChannelEnd peer queue) is = rw is refl
@@ -75,6 +75,8 @@ lives_on (state.AwaitsSignal koid mask to) h = (refl, refl, refl)
 lives_on (state.AwaitsPacket port to) h = (refl, refl, refl)
 lives_on state.Ready h = absurd (false≢true h)
 lives_on (state.Ended code) h = absurd (false≢true h)
+lives_on state.Created h = absurd (false≢true h)
+lives_on state.Gone h = absurd (false≢true h)
 
 -- the process p stands at the place, under the pid
 module _ (ps : List Process) (r : Objects) (lab : IsConsistent ps r) (pid place : ℕ) (p : Process)
@@ -183,7 +185,7 @@ module _ (ps : List Process) (r : Objects) (lab : IsConsistent ps r) (pid place 
         where
           by_body : (b : Body) → packets_of b ≡ [] → woken_by (world_blocked ps r blocked) pid (process_value p) port ds (object_value o) (body_value b) ≡ world_blocked ps r blocked
           by_body (body.Port q) h = rw h refl
-          by_body body.RootJob h = refl
+          by_body (body.Job own) h = refl
           by_body (body.Process job alive) h = refl
           by_body body.Event h = refl
           by_body (body.ChannelEnd peer queue) h = refl
@@ -199,7 +201,7 @@ module _ (ps : List Process) (r : Objects) (lab : IsConsistent ps r) (pid place 
               objects_are = update_seen object_value r.objects port (at_port without_front) packet_taken (λ y. seen_taken y y.body refl)
                   ∙ (put_there (map object_entry r.objects) port (object_value o) packet_taken (rw (seen_sorted r.objects) lab.kept.in_order) (get_seen r.objects port ∙ rw at refl)
                   ∙ ap (λ (b : BodyValue). put (map object_entry r.objects) port (record (object_value o) { body = b })) (ap (λ (c : Body). body_packed (drop 1) (body_value c)) is ∙ ap (λ (xs : List Packet). PortBody (drop 1 xs)) h))
-          by_body body.RootJob is h = absurd (nil-cons h)
+          by_body (body.Job own) is h = absurd (nil-cons h)
           by_body (body.Process job alive) is h = absurd (nil-cons h)
           by_body body.Event is h = absurd (nil-cons h)
           by_body (body.ChannelEnd peer queue) is h = absurd (nil-cons h)
@@ -219,6 +221,8 @@ module _ (ps : List Process) (r : Objects) (lab : IsConsistent ps r) (pid place 
     by_state : (s : State) → p.state ≡ s → p2 ≡ awake (given_awake s r) p → r2 ≡ without_taken s r → WakesOne pid (is_some (given_awake s r)) ps r (set ps place p2) r2
     by_state state.Ready in_state is objects = stays_asleep p2 r2 (ap (λ (q : Process). q.pid) is) is objects (λ blocked. woken_is blocked ∙ rw in_state refl)
     by_state (state.Ended code) in_state is objects = stays_asleep p2 r2 (ap (λ (q : Process). q.pid) is) is objects (λ blocked. woken_is blocked ∙ rw in_state refl)
+    by_state state.Created in_state is objects = stays_asleep p2 r2 (ap (λ (q : Process). q.pid) is) is objects (λ blocked. woken_is blocked ∙ rw in_state refl)
+    by_state state.Gone in_state is objects = stays_asleep p2 r2 (ap (λ (q : Process). q.pid) is) is objects (λ blocked. woken_is blocked ∙ rw in_state refl)
     by_state (state.AwaitsSignal koid mask to) in_state is objects = by_signal koid mask to in_state (meets (signals_at r.objects koid) mask) refl is objects
     by_state (state.AwaitsPacket port to) in_state is objects =
         by_packet port to in_state (get r.objects port) refl (packets_in (get r.objects port)) refl is objects

@@ -35,9 +35,9 @@ use Rattle.zl_calls.specs.calls.Channel.{ChanWriteDoes, WritesMessage, fault_of,
 use Rattle.zl_calls.proofs.Answered.{IsWrite, table_is}
 use Rattle.zl_calls.proofs.Counting.{queues, sum_update}
 use Rattle.zl_calls.proofs.Done.{IsDone, IsCalled}
-use Rattle.zl_calls.proofs.Labs.{no_policy}
 use Rattle.zl_calls.proofs.Queued.{counts_moved, named_too, requeued, requeued_body, requeued_next}
-use Rattle.zl_calls.proofs.Refused.{NoPolicy, answers, fault_answers}
+use Rattle.zl_calls.proofs.Plain.{bare}
+use Rattle.zl_calls.proofs.Refused.{answers, fault_answers}
 use Rattle.zl_calls.proofs.TakenCalls.{fewer, left_one, named_before, new_table, process_without_all, removed, replied_taking, taken_map, taking_done, was_there, same_koids}
 use Rattle.zl_calls.proofs.SameBodies.{still_named}
 use Rattle.zl_calls.proofs.Updates.{update_seen}
@@ -69,24 +69,24 @@ if_answered false s = refl
 abbrev list_of : List ℕ → List Operand
 list_of hs = flat_map (λ h. operands_by (consumes any TRANSFER ∷ []) (h ∷ [])) hs
 
-module _ (w : World) (free : NoPolicy w) (p : ℕ) where
+module _ (w : World) (p : ℕ) where
   pub looked : (found : Result Entry Status) → by_look_up w p found ≡ answers (fault_of found)
   looked (Ok e) = refl
-  looked (Err status.BadHandle) = fault_answers w free p condition.BadHandle status.BadHandle
-  looked (Err status.WrongType) = fault_answers w free p condition.WrongObject status.WrongType
+  looked (Err status.BadHandle) = fault_answers w p condition.BadHandle status.BadHandle
+  looked (Err status.WrongType) = fault_answers w p condition.WrongObject status.WrongType
   looked (Err _) = refl
 
   -- each handle of the list, where the values that were seen are those before it
-  list_refused : (seen before hs : List ℕ) → ((v : ℕ) → contains seen v ≡ contains before v) → examined w p seen (list_of hs) ≡ answers (list_refusal (table_of w p) before hs)
+  list_refused : (seen before hs : List ℕ) → ((v : ℕ) → contains seen v ≡ contains before v) → examined (bare w) p seen (list_of hs) ≡ answers (list_refusal (table_of w p) before hs)
   unfolding examined operand
   list_refused seen before [] same = refl
   list_refused seen before (h ∷ hs) same =
-      ap (λ (x : Option Outcome). first_some (x ∷ examined w p (h ∷ seen) (list_of hs) ∷ [])) (rw (same h) (first (contains before h)))
+      ap (λ (x : Option Outcome). first_some (x ∷ examined (bare w) p (h ∷ seen) (list_of hs) ∷ [])) (rw (same h) (first (contains before h)))
       ∙ (ap (λ (x : Option Outcome). first_some (answers (if contains before h then Some status.BadHandle else fault_of (looked_up (table_of w p) h [] TRANSFER)) ∷ x ∷ [])) (list_refused (h ∷ seen) (before ++ h ∷ []) hs more)
       ∙ both (if contains before h then Some status.BadHandle else fault_of (looked_up (table_of w p) h [] TRANSFER)) (list_refusal (table_of w p) (before ++ h ∷ []) hs))
     where
       first : (b : Bool) → (if b then faults w p condition.BadHandle status.BadHandle else operand_of w p any TRANSFER (get (table_of w p) h)) ≡ answers (if b then Some status.BadHandle else fault_of (looked_up (table_of w p) h [] TRANSFER))
-      first true = fault_answers w free p condition.BadHandle status.BadHandle
+      first true = fault_answers w p condition.BadHandle status.BadHandle
       first false = looked (granted (get (table_of w p) h) [] TRANSFER)
 
       swapped : (a b : Bool) → (a || b) ≡ (b || (a || false))
@@ -147,7 +147,7 @@ module _ (lib : Library) (before : List Process) (r : Objects) (lab : IsConsiste
 
   -- the answers of the definitions, where the look-up of the end has this answer, and its peer is there or not
   abbrev with_end : ℕ → List ℕ → List ℕ → Option Outcome → Bool → Option Outcome
-  with_end c bytes hs x there = first_some (first_some (x ∷ examined old_world p [] (list_of hs) ∷ []) ∷ None ∷ answer_if (contains hs c) status.NotSupported ∷ answer_if (is_too_large bytes hs) status.OutOfRange ∷ answer_if (not there) status.PeerClosed ∷ [])
+  with_end c bytes hs x there = first_some (first_some (x ∷ examined (bare old_world) p [] (list_of hs) ∷ []) ∷ None ∷ answer_if (contains hs c) status.NotSupported ∷ answer_if (is_too_large bytes hs) status.OutOfRange ∷ answer_if (not there) status.PeerClosed ∷ [])
 
   -- the answer of the call, where the look-up of the end comes to this
   abbrev refusal_with : ℕ → List ℕ → List ℕ → Result Entry Status → Option Status
@@ -157,21 +157,18 @@ module _ (lib : Library) (before : List Process) (r : Objects) (lab : IsConsiste
   unfolding refusal handle_operands row_of examined operand listed
   write_refused c bytes hs = by_end (get handles c)
     where
-      free : NoPolicy old_world
-      free = no_policy before r lab
-
       passes : (e : Entry) → with_end c bytes hs None (has_key old_world.objects (peer_seen (body_of old_world e.koid))) ≡ answers (refusal_with c bytes hs (Ok e))
-      passes e = rw (peer_there r lab.no_zero e.koid, list_refused old_world free p [] [] hs (λ v. refl), if_answered (contains hs c) status.NotSupported, if_answered (is_too_large bytes hs) status.OutOfRange, if_answered (not (is_some (peer_at r.objects e.koid))) status.PeerClosed)
+      passes e = rw (peer_there r lab.no_zero e.koid, list_refused old_world p [] [] hs (λ v. refl), if_answered (contains hs c) status.NotSupported, if_answered (is_too_large bytes hs) status.OutOfRange, if_answered (not (is_some (peer_at r.objects e.koid))) status.PeerClosed)
           (behind (list_refusal handles [] hs) (then_some (contains hs c) status.NotSupported) (then_some (is_too_large bytes hs) status.OutOfRange) (then_some (not (is_some (peer_at r.objects e.koid))) status.PeerClosed))
 
       by_tests : (e : Entry) (a b : Bool) → with_end c bytes hs (by_look_up old_world p (if a then (if b then Ok e else Err status.AccessDenied) else Err status.WrongType)) (has_key old_world.objects (peer_seen (body_of old_world e.koid)))
           ≡ answers (refusal_with c bytes hs (if a then (if b then Ok e else Err status.AccessDenied) else Err status.WrongType))
       by_tests e true true = passes e
       by_tests e true false = refl
-      by_tests e false b = ap (λ (x : Option Outcome). with_end c bytes hs x (has_key old_world.objects (peer_seen (body_of old_world e.koid)))) (fault_answers old_world free p condition.WrongObject status.WrongType)
+      by_tests e false b = ap (λ (x : Option Outcome). with_end c bytes hs x (has_key old_world.objects (peer_seen (body_of old_world e.koid)))) (fault_answers old_world p condition.WrongObject status.WrongType)
 
       by_end : (o : Option Entry) → with_end c bytes hs (operand_of old_world p (kind.Channel ∷ []) WRITE o) (has_key old_world.objects (peer_seen (body_of old_world (koid_in o)))) ≡ answers (refusal_with c bytes hs (granted o (kind.Channel ∷ []) WRITE))
-      by_end None = ap (λ (x : Option Outcome). with_end c bytes hs x (has_key old_world.objects (peer_seen (body_of old_world 0)))) (fault_answers old_world free p condition.BadHandle status.BadHandle)
+      by_end None = ap (λ (x : Option Outcome). with_end c bytes hs x (has_key old_world.objects (peer_seen (body_of old_world 0)))) (fault_answers old_world p condition.BadHandle status.BadHandle)
       by_end (Some e) = by_tests e (takes (kind.Channel ∷ []) e.kind) (within WRITE (bits e.rights))
 
 -- ---- what holds where it isn't refused

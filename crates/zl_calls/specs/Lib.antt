@@ -13,3 +13,6 @@ pub mod Makes
 pub mod Steps
 pub mod Gives
 pub mod Registered
+pub mod Leaving
+pub mod Policed
+pub mod Reaching

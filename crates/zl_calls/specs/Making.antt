@@ -1,11 +1,13 @@
 -- What the statements of a boot make, before what isn't held is gone. No public clause cites this module.
-use Rattle.std.specs.Prelude.{ℕ, ◌≡◌, ◌+◌, ◌*◌, ◌^◌, ◌<◌, ◌≤◌, ◌==◌, IsTrue, List, [], length, map, Some}
+use Rattle.std.specs.Prelude.{ℕ, ◌≡◌, ◌+◌, ◌*◌, ◌^◌, ◌<◌, ◌≤◌, ◌==◌, Bool, false, IsTrue, List, [], length, map, Some}
 use Rattle.std.specs.List.{count_by}
 use Rattle.std.specs.Ordering.{nat_cmp}
 use Rattle.std.specs.FinMap.Entries.{is_sorted}
 use Rattle.zl_code.specs.Common.{Map, get, has_key, Process as ProcessValue, handles_to}
 use Rattle.zl_rights.specs.declared.entry.Entry.{Entry}
 use Rattle.zl_table.specs.Table.{IsTable}
+use Rattle.zl_objects.specs.declared.object.Body.{Body}
+use Rattle.zl_objects.specs.declared.object.Body.TheVariants as body
 use Rattle.zl_objects.specs.declared.object.Object.{Object}
 use Rattle.zl_calls.specs.declared.process.Process.{Process}
 use Rattle.zl_objects.specs.Objects.{Objects, queue_of}
@@ -35,9 +37,15 @@ pub record IsUnwatched (r : Objects) : Type 0 where
   pub none : r.waits ≡ []
   pub none_made : r.waits_made ≡ 0
 
--- what statements have made; the handles m are given to a process that isn't there yet
+-- a job that was killed
+abbrev pub is_killed : Body → Bool
+is_killed (body.Job job) = job.killed
+is_killed _ = false
+
+-- what statements have made, which kills no job; the handles m are given to a process that isn't there yet
 pub record IsMaking (processes : List Process) (m : Map Entry) (r : Objects) : Type 0 where
   pub sound : IsSound processes m r
   -- each table names an object 1,024 times at most
   pub few : (k : ℕ) → handles_to (world_value processes r) k ≤ 1024 * length processes
   pub unwatched : IsUnwatched r
+  pub alive : (k : ℕ) (o : Object) → get r.objects k ≡ Some o → is_killed o.body ≡ false

@@ -8,3 +8,5 @@ pub mod Reading
 pub mod Wait
 pub mod Port
 pub mod Async
+pub mod Job
+pub mod Task

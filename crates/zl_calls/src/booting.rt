@@ -12,14 +12,16 @@ ghost use Rattle.zl_calls.specs.Making.{IsMaking, IsUnwatched};
 ghost use Rattle.zl_calls.specs.Makes.{Makes, seen, IsCauseOf, IsReached};
 ghost use Rattle.zl_calls.specs.Gives.{allowed, rights_if, IsBare, Gives};
 
+use crate::calls::job::has_children;
 use crate::cpu::Cpu;
+use crate::leaving::leave;
 use crate::process::{Process, State};
 use crate::program::Library;
 use bitflags::Flags;
 use std::alloc::{AllocError, Global};
 use zl_code::{Boot, BootCause, BootFault, Grant, Grants, Image, Statement};
-use zl_objects::{Body, Objects};
-use zl_rights::{Entry, Kind, Koid, Rights};
+use zl_objects::{Body, Life, Objects};
+use zl_rights::{Action, Condition, Entry, Kind, Koid, Mode, Rights};
 use zl_table::Table;
 
 /// The most processes that a boot makes (own profile).
@@ -88,6 +90,12 @@ impl Made {
             (IsCauseOf (boot_fault library.now (seen self.old) statement.now)) }
     {
         match statement {
+            Statement::Job { parent } => self.make_job(*parent),
+            Statement::Policy {
+                job,
+                condition,
+                action,
+            } => self.set_policy(*job, *condition, *action),
             Statement::Event => self.make_event(),
             Statement::Port => self.make_port(),
             Statement::Channel => self.make_channel(),
@@ -100,6 +108,59 @@ impl Made {
                 let handles = handles.as_slice();
                 self.make_process(alloc, library, *job, *program, *word, handles)
             }
+        }
+    }
+
+    /// Makes a job in this one. No handle names it yet.
+    fn make_job(&mut self, parent: Koid) -> Result<(), BootCause>
+        requires { IsMaking self.old.processes.items [] self.old.objects }
+        ensures ok { OnOk result ((lib : Library)
+            → Makes lib (Statement.Job parent) self.old self.new) }
+        ensures err { IfErr result (λ cause. (lib : Library)
+            → IsCauseOf (boot_fault lib (seen self.old) (Statement.Job parent)) cause) }
+    {
+        if !self.objects.is_job(parent) {
+            return Err(BootCause::Unknown);
+        }
+        // No job is killed by a boot, so that one level too many is the only fault.
+        let Ok(child) = self.objects.job_below(parent) else {
+            return Err(BootCause::Limit);
+        };
+        if self.lacks_koids(1) {
+            return Err(BootCause::Limit);
+        }
+        match self.objects.create(Body::Job(child), 0) {
+            Ok(_) => Ok(()),
+            Err(_) => Err(BootCause::NoMemory),
+        }
+    }
+
+    /// Sets what the job decides for the condition.
+    fn set_policy(
+        &mut self,
+        job: Koid,
+        condition: Condition,
+        action: Action,
+    ) -> Result<(), BootCause>
+        requires { IsMaking self.old.processes.items [] self.old.objects }
+        ensures ok { OnOk result ((lib : Library)
+            → Makes lib (Statement.Policy job condition action) self.old self.new) }
+        ensures err { IfErr result (λ cause. (lib : Library)
+            → IsCauseOf
+            (boot_fault lib (seen self.old) (Statement.Policy job condition action)) cause) }
+    {
+        if !self.objects.is_job(job) {
+            return Err(BootCause::Unknown);
+        }
+        if has_children(&self.objects, job) {
+            return Err(BootCause::BadState);
+        }
+        match self
+            .objects
+            .set_policy(job, condition, action, Mode::Absolute)
+        {
+            Ok(()) => Ok(()),
+            Err(_) => Err(BootCause::Conflict),
         }
     }
 
@@ -191,7 +252,14 @@ impl Made {
         if self.give(&mut process, handles).is_err() {
             return Err(BootCause::NoMemory);
         }
-        let Ok(_) = self.objects.create(Body::Process { job, lives: true }, 0) else {
+        let Ok(_) = self.objects.create(
+            Body::Process {
+                job,
+                life: Life::Running,
+            },
+            0,
+        )
+        else {
             return Err(BootCause::NoMemory);
         };
         if self.processes.push(process).is_err() {
@@ -293,6 +361,7 @@ impl Made {
         for koid in (0..self.objects.end_of_koids()).rev() {
             self.objects.remove_unheld(koid);
         }
+        leave(&mut self.processes, &self.objects);
     }
 }
 

@@ -1,4 +1,5 @@
-ghost use Rattle.std.specs.Prelude.{◌≡◌, ◌+◌, ◌<◌, ◌^◌, IfOk, map};
+ghost use Rattle.std.specs.Prelude.{◌≡◌, ◌+◌, ◌<◌, ◌^◌, [], ◌∷◌, IfOk, map};
+ghost use Rattle.zl_code.specs.Starting.{cpu_given};
 ghost use Rattle.zl_code.specs.Local.{reg, sets, goes_to, goes_if};
 ghost use Rattle.zl_calls.specs.Cpu.{started_cpu, register_set, handle_register, empty_places};
 
@@ -78,6 +79,15 @@ impl Cpu {
     {
         let register = if number == 0 { 0 } else { number + 1 };
         self.registers[register] = u64::from(value);
+    }
+
+    /// What a process starts with that a call starts: its one handle in register 0, and the word in
+    /// register 1.
+    pub fn start(&mut self, handle: HValue, word: u64)
+        ensures { self.new ≡ cpu_given (handle ∷ []) word self.old }
+    {
+        self.registers[0] = u64::from(handle);
+        self.registers[1] = word;
     }
 
     /// The next instruction is the one behind this.

@@ -1,5 +1,7 @@
 ghost use Rattle.std.specs.Prelude.{◌≡◌, ◌<◌, ◌^◌, [], ◌∷◌, None};
-ghost use Rattle.zl_rights.specs.Signals.{is_ready};
+ghost use Rattle.zl_rights.specs.Signals.{is_ready, lives};
+ghost use Rattle.zl_code.specs.Sound.{is_blocked};
+ghost use Rattle.zl_code.specs.Starting.{is_created};
 ghost use Rattle.zl_calls.specs.World.{state_value, seen_in};
 ghost use Rattle.zl_code.specs.Common.{answered};
 ghost use Rattle.zl_rights.specs.Numbers.{status_magnitude};
@@ -27,6 +29,8 @@ pub struct SignalRegisters {
 /// A blocked one is still at its wait, and has the registers of its answer here.
 #[derive(Clone, Copy)]
 pub enum State {
+    /// Made by a call, and not started yet.
+    Created,
     Ready,
     /// Blocked until a signal of the mask is active at the object.
     AwaitsSignal {
@@ -40,6 +44,8 @@ pub enum State {
         to: PacketRegisters,
     },
     Ended(i32),
+    /// Never started, and its object is gone.
+    Gone,
 }
 
 /// A process that was ever made.
@@ -58,10 +64,12 @@ impl Process {
         ensures { result ≡ seen_in (state_value self.now.state) }
     {
         match self.state {
+            State::Created => ProcState::Created,
             State::Ready => ProcState::Ready,
             State::AwaitsSignal { .. } => ProcState::Blocked,
             State::AwaitsPacket { .. } => ProcState::Blocked,
             State::Ended(code) => ProcState::Ended(code),
+            State::Gone => ProcState::Gone,
         }
     }
 
@@ -70,6 +78,30 @@ impl Process {
         ensures { result ≡ is_ready (state_value self.now.state) }
     {
         matches!(self.state, State::Ready)
+    }
+
+    /// Whether it was made and isn't over.
+    pub fn lives(&self) -> bool
+        ensures { result ≡ lives (state_value self.now.state) }
+    {
+        !matches!(self.state, State::Ended(_) | State::Gone)
+    }
+
+    /// Whether it was made and not started.
+    pub fn is_created(&self) -> bool
+        ensures { result ≡ is_created (state_value self.now.state) }
+    {
+        matches!(self.state, State::Created)
+    }
+
+    /// Whether it waits within a call.
+    pub fn is_blocked(&self) -> bool
+        ensures { result ≡ is_blocked (state_value self.now.state) }
+    {
+        matches!(
+            self.state,
+            State::AwaitsSignal { .. } | State::AwaitsPacket { .. }
+        )
     }
 
     /// The call is answered: its status register holds the answer, and the next instruction stands

@@ -23,6 +23,15 @@ impl Program {
             Program::Raw(image) => image,
         }
     }
+
+    /// Whether the program was checked, so that what it declares counts.
+    pub fn is_checked(&self) -> bool
+        ensures { result ≡ (program_value self.now).checked }
+    {
+        match self {
+            Program::Raw(_) => false,
+        }
+    }
 }
 
 /// The programs of a lab, by their numbers from 0.

@@ -69,8 +69,10 @@ fn wake_process(process: &mut Process, objects: &mut Objects) -> bool
     match process.state {
         State::AwaitsSignal { koid, mask, to } => wake_by_signal(process, objects, koid, mask, to),
         State::AwaitsPacket { port, to } => wake_by_packet(process, objects, port, to),
+        State::Created => false,
         State::Ready => false,
         State::Ended(_) => false,
+        State::Gone => false,
     }
 }
 

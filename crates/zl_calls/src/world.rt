@@ -72,8 +72,10 @@ impl World {
     ///
     /// The fault names the first statement that can't be done: `Unknown` where it names no job, no
     /// program or, for a handle, no object; else `BadHandleList` for an eighth handle or rights that a
-    /// new object of the kind doesn't give; else `Limit` for the 65th process, or where fewer koids up
-    /// to 1,024 are left than the statement takes, two for a channel and one for any other. A limit of
+    /// new object of the kind doesn't give; else `BadState` for the policy of a job in which a job or
+    /// a process lives; else `Conflict` for an action where another is set; else `Limit` for the 65th
+    /// process, for the 17th level of jobs, or where fewer koids up to 1,024 are left than the statement
+    /// takes, two for a channel, none for a policy and one for any other. A limit of
     /// the trace above `Boot::MOST_ITEMS` is `Limit` of a statement one past the last. `NoMemory` may
     /// come at any statement, and for the root job and the room for blocked processes as of statement 0,
     /// which need not be there.
@@ -179,6 +181,7 @@ impl World {
             &self.library,
             &mut self.processes,
             &mut self.objects,
+            &mut self.blocked,
             pid,
         )?;
         add_blocked(&mut self.blocked, pid, &item);
@@ -190,10 +193,11 @@ impl World {
 
     /// Does the system call at which the process is, with all that follows from it.
     ///
-    /// The process has to be ready and at a call. It takes no memory at `close`, `replace`,
-    /// `signal`, `signal_peer`, `wait_one`, `wait_poll`, `port_wait`, `port_poll`, `port_cancel` and
-    /// `process_exit`; a call that was refused memory is answered `NoMemory`. Waits that fire or end,
-    /// and processes that block or wake, take none.
+    /// The process has to be ready and at a call. Its job's policy may keep it from making an object,
+    /// or end it. It takes no memory at `close`, `replace`, `signal`, `signal_peer`, `wait_one`,
+    /// `wait_poll`, `port_wait`, `port_poll`, `port_cancel`, `process_exit`, `task_kill` and
+    /// `job_set_policy`; a call that was refused memory is answered `NoMemory`. Waits that fire or end,
+    /// processes that block, wake or are killed, and policies take none.
     /// Source: for each call its page of the Fuchsia documentation, as "zx_handle_close"; the order
     /// in which answers are looked for is own profile.
     pub fn perform(&mut self, pid: Pid) -> Outcome

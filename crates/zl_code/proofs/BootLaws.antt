@@ -1,10 +1,13 @@
 -- A boot makes a world or comes to a first fault, never both, whichever values new handles get.
-use Rattle.zl_code.proofs.Common.{◌≡◌, ◌<◌, ◌≤◌, ◌+◌, ◌⊎◌, ◌==◌, ℕ, zero, suc, true, false, cond, List, [], ◌∷◌, take, length, refl, sym, ap, ◌∙◌, Option, Some, None, inl, inr, IsTrue, arith, slice_get, nat_lt, cases_lt, length-map, none-some, same_Some, Map, put, World, Body, ChannelEnd, EventBody, PortBody, ProcessBody, Library, with_object, boot_fault, boot_effect, may_boot, Boots, IsBoot, FirstFault, at_statement, at_limit, MOST_ITEMS, origin, map, and_from, and_parts, nat_tests, subst, false≢true, cases_Bool, eqb-true, get, has_key, Process, may_get, process_with, get-put, settled_in, keys_of, Settles-exists, Settles-unique, may_get_all, IsBooted, handles_given, values_given, gives_no_handle, created_process, list_all}
+use Rattle.zl_code.proofs.Common.{on_object, update, body_in, is_process, lives, state_passes, list_any, has_child_job, has_child_process, ◌&&◌, Bool, if◌then◌else◌, ◌≡◌, ◌<◌, ◌≤◌, ◌+◌, ◌⊎◌, ◌==◌, ℕ, zero, suc, true, false, cond, List, [], ◌∷◌, take, length, refl, sym, ap, ◌∙◌, Option, Some, None, inl, inr, IsTrue, arith, slice_get, nat_lt, cases_lt, length-map, none-some, same_Some, Map, put, World, Body, ChannelEnd, EventBody, PortBody, ProcessBody, Library, with_object, boot_fault, boot_effect, may_boot, Boots, IsBoot, FirstFault, at_statement, at_limit, MOST_ITEMS, origin, map, and_from, and_parts, nat_tests, subst, false≢true, cases_Bool, eqb-true, get, has_key, Process, may_get, process_with, get-put, settled_in, keys_of, Settles-exists, Settles-unique, may_get_all, IsBooted, handles_given, values_given, gives_no_handle, created_process, list_all}
 use Rattle.zl_rights.specs.declared.entry.Entry.{Entry}
 use Rattle.zl_code.specs.declared.boot.Statement.{Statement}
 use Rattle.zl_code.specs.declared.boot.Statement.TheVariants as statement
 use Rattle.zl_code.specs.declared.boot.BootCause.{BootCause}
 use Rattle.zl_code.specs.declared.boot.BootCause.TheVariants as cause
+use Rattle.zl_rights.specs.Signals.{is_job_below, is_process_of}
+use Rattle.zl_code.specs.Boot.{setting}
+use Rattle.zl_code.specs.Jobs.{job_within, policy_changed}
 use Rattle.zl_code.proofs.CanStart.{can_start, handles_at_most}
 
 -- ---- worlds that differ by handles alone
@@ -14,6 +17,7 @@ record IsAlike (u v : World) : Type 0 where
   objects : u.objects ≡ v.objects
   next : u.next_koid ≡ v.next_koid
   pids : keys_of u.processes ≡ keys_of v.processes
+  living : (k : ℕ) → is_process u lives k ≡ is_process v lives k
 
 length-keys : {X : Type 0} (m : Map X) → length (keys_of m) ≡ length m
 length-keys m = length-map m (λ e. e.0)
@@ -34,6 +38,25 @@ keys_of-put (e ∷ m) k x = elim (e.0 == k) as (λ b. keys_of (cond b ((k, x) �
   ]
 ]
 
+-- a process that lives beside others
+lives_beside : (m : Map Process) (n : ℕ) (q : Process) (k : ℕ) → lives q.state ≡ true → state_passes lives (get (put m n q) k) ≡ (if n == k then true else state_passes lives (get m k))
+lives_beside m n q k alive = ap (state_passes lives) (get-put m n q k) ∙ by_test (n == k)
+  where
+    by_test : (b : Bool) → state_passes lives (if b then Some q else get m k) ≡ (if b then true else state_passes lives (get m k))
+    by_test true = alive
+    by_test false = refl
+
+both_tests : {n m : ℕ} → n ≡ m → (k : ℕ) → {a b : Bool} → a ≡ b → (if n == k then true else a) ≡ (if m == k then true else b)
+both_tests e k f = λ i. if e i == k then true else f i
+
+same_jobs : (u v : World) → IsAlike u v → (job : ℕ) → has_child_job u job ≡ has_child_job v job
+unfolding has_child_job
+same_jobs u v a job = λ i. list_any (λ e. is_job_below job e.1.body) (a.objects i)
+
+same_processes : (u v : World) → IsAlike u v → (job : ℕ) → has_child_process u job ≡ has_child_process v job
+unfolding has_child_process
+same_processes u v a job = λ i. list_any (λ e. is_process_of job e.1.body && a.living e.0 i) (a.objects i)
+
 module _ (lib : Library) where
   same_fault : (u v : World) → IsAlike u v → (s : Statement) → boot_fault lib u s ≡ boot_fault lib v s
   unfolding boot_fault
@@ -41,27 +64,33 @@ module _ (lib : Library) where
     where
       count : length u.processes ≡ length v.processes
       count = sym (length-keys u.processes) ∙ ap length a.pids ∙ length-keys v.processes
+  same_fault u v a (statement.Job parent) = rw (a.objects, a.next) refl
+  same_fault u v a (statement.Policy job condition action) = rw (same_jobs u v a job, same_processes u v a job, a.objects) refl
   same_fault u v a statement.Event = rw a.next refl
   same_fault u v a statement.Port = rw a.next refl
   same_fault u v a statement.Channel = rw a.next refl
 
   -- a new object beside the others
   alike_with : (u v : World) → IsAlike u v → (b c : Body) → b ≡ c → IsAlike (with_object u b) (with_object v c)
-  unfolding with_object
+  unfolding with_object is_process
   alike_with u v a b c e = record {
     objects = λ i. put (a.objects i) (a.next i) (record { body = e i; raised = 0 });
     next = ap (λ (k : ℕ). k + 1) a.next;
     pids = a.pids;
+    living = a.living;
   }
 
   -- whichever values the handles of the statement get
   alike_after : (u v : World) → IsAlike u v → (s : Statement) (vs xs : List ℕ) → IsAlike (boot_effect lib u s vs) (boot_effect lib v s xs)
-  unfolding boot_effect with_object
+  unfolding boot_effect with_object on_object is_process
   alike_after u v a (statement.Process job program word handles) vs xs = record {
     objects = λ i. put (a.objects i) (a.next i) (record { body = ProcessBody job; raised = 0 });
     next = ap (λ (k : ℕ). k + 1) a.next;
     pids = keys_of-put u.processes u.next_koid _ ∙ (λ i. keys_with (a.pids i) (a.next i)) ∙ sym (keys_of-put v.processes v.next_koid _);
+    living = λ k. lives_beside u.processes u.next_koid _ k refl ∙ (both_tests (a.next) k (a.living k) ∙ sym (lives_beside v.processes v.next_koid _ k refl));
   }
+  alike_after u v a (statement.Job parent) vs xs = alike_with u v a _ _ (λ i. job_within parent (body_in (get (a.objects i) parent)))
+  alike_after u v a (statement.Policy job condition action) vs xs = record { objects = λ i. update (a.objects i) job (policy_changed (setting condition action)); next = a.next; pids = a.pids; living = a.living }
   alike_after u v a statement.Event vs xs = alike_with u v a EventBody EventBody refl
   alike_after u v a statement.Port vs xs = alike_with u v a (PortBody []) (PortBody []) refl
   alike_after u v a statement.Channel vs xs =
@@ -175,7 +204,7 @@ module _ (lib : Library) where
 -- ---- the laws
 
 same : (w : World) → IsAlike w w
-same w = record { objects = refl; next = refl; pids = refl }
+same w = record { objects = refl; next = refl; pids = refl; living = λ k. refl }
 
 pub same_fault_after : (lib : Library) (before : List Statement) (u v : World) (s : Statement) → Boots lib origin before u → Boots lib origin before v → boot_fault lib u s ≡ boot_fault lib v s
 same_fault_after lib before u v s x y = same_fault lib u v (alike_made lib origin origin (same origin) before u v x y) s

@@ -17,7 +17,7 @@ pub record CanStart (lib : Library) (w : World) (job program : ℕ) (handles : L
   pub place : length w.processes < MOST_PROCESSES
   pub koid : w.next_koid ≤ MOST_KOIDS
 
-none_first : (b : Bool) (c : BootCause) (rest : List (Option BootCause)) → first_some (then_some b c ∷ rest) ≡ None → (b ≡ false) × (first_some rest ≡ None)
+pub none_first : (b : Bool) (c : BootCause) (rest : List (Option BootCause)) → first_some (then_some b c ∷ rest) ≡ None → (b ≡ false) × (first_some rest ≡ None)
 none_first true c rest fine = absurd (none-some c (sym fine))
 none_first false c rest fine = (refl, fine)
 

@@ -1,10 +1,15 @@
 -- The elementary changes of which a step is made.
-use Rattle.zl_code.proofs.Common.{◌≡◌, ◌<◌, ◌≤◌, inl, inr, arith, ℕ, suc, Bool, true, false, not, ◌==◌, List, [], ◌∷◌, length, refl, ap, sym, subst, ◌∙◌, IsTrue, Option, Some, None, eq-eqb, if◌then◌else◌, ℤ, option_map, cases_Bool, eqb-true, within, Map, get, put, update, has_key, without, World, Cpu, answered, Process, State, Created, Ready, Blocked, Ended, Object, Body, ChannelEnd, EventBody, PortBody, JobBody, ProcessBody, is_process, state_passes, lives, runs, Settles, queue_of, fired, on_process, process_with, process_without, ended, with_object, may_get, in_order, has_default_rights, names_its_object, HandlesAreSound, HandlesAreNamed, raisable, IsSound, Packet, Message, All, list_all, get-put, get-update, on_object, process_ended, object_changed, with_process, is_blocked, HasItsObject, packets_for, made_ready, with_body, body_with_packets, filter, Awaited, HasPeer, body_of, entry_at, is_port_there, ◌++◌, ◌+◌, ne_eqb, length-append, append-nil, same_Some}
+use Rattle.zl_code.proofs.Common.{◌≡◌, ◌<◌, ◌≤◌, inl, inr, arith, ℕ, suc, Bool, true, false, not, ◌==◌, List, [], ◌∷◌, length, refl, ap, sym, subst, ◌∙◌, IsTrue, Option, Some, None, eq-eqb, if◌then◌else◌, ℤ, option_map, cases_Bool, eqb-true, within, Map, get, put, update, has_key, without, World, Cpu, answered, Process, State, Created, Ready, Blocked, Ended, Object, Body, ChannelEnd, EventBody, PortBody, JobBody, ProcessBody, is_process, state_passes, lives, runs, Settles, queue_of, fired, on_process, process_with, process_without, ended, with_object, may_get, in_order, has_default_rights, names_its_object, HandlesAreSound, HandlesAreNamed, raisable, IsSound, Packet, Message, All, list_all, get-put, get-update, on_object, process_ended, object_changed, with_process, is_blocked, HasItsObject, packets_for, made_ready, with_body, body_with_packets, filter, Awaited, HasPeer, body_of, entry_at, is_port_there, ◌++◌, ◌+◌, ne_eqb, length-append, append-nil, same_Some, true≢false, get-each}
 use Rattle.std.proofs.lemmas.List.Elements.{filter-append}
 use Rattle.zl_rights.specs.declared.entry.Entry.{Entry}
 use Rattle.zl_code.specs.Effects.{message_sent, message_read, without_waits, waiting}
 use Rattle.zl_code.specs.Waiting.{is_by_handle, registered, without_keyed, body_packed, repacked}
 use Rattle.zl_rights.specs.World.{Wait}
+use Rattle.zl_rights.specs.Numbers.{KILLED}
+use Rattle.zl_rights.specs.Policies.{Setting}
+use Rattle.zl_rights.specs.Signals.{is_job_below, is_process_of}
+use Rattle.zl_code.specs.Jobs.{has_child, is_within, object_killed, policy_changed, process_killed, with_killed}
+use Rattle.zl_code.specs.Sound.{StandsBelow}
 use Rattle.zl_code.proofs.MapKept.{in_order-put, in_order-update, in_order-each, Changed, same, changed, new, EachChanged, unchanged, changed_put, changed_update, changed_each}
 
 -- ---- registered waits
@@ -47,6 +52,8 @@ pub data ProcessChange (start after : World) (p : ℕ) (x y : Process) : Type 0 
   ends : (code : ℤ) → y ≡ record x { state = Ended code; handles = []; last = None } → ProcessChange start after p x y
   -- it was blocked, and is ready
   wakes : (c : Cpu) → y ≡ record x { state = Ready; cpu = c } → IsTrue (runs x.state) → ProcessChange start after p x y
+  -- it was not started yet, and is ready
+  starts : (c : Cpu) → y ≡ record x { state = Ready; cpu = c } → x.state ≡ Created → ProcessChange start after p x y
   -- it was ready, and waits within a call
   blocks : (awaited : Awaited) (destinations : List ℕ) → y ≡ record x { state = Blocked awaited destinations } → IsTrue (runs x.state) → ProcessChange start after p x y
 
@@ -63,24 +70,34 @@ pub record MayBeSent (start after : World) (m : Message) : Type 0 where
   pub rights : HandlesAreSound start → IsTrue (list_all has_default_rights m.handles)
   pub names : HandlesAreNamed start → All (names_its_object after.objects) m.handles
 
+-- no job lives directly below the job k, and no process
+pub record IsChildless (w : World) (k : ℕ) : Type 0 where
+  pub jobs : (c : ℕ) (o : Object) → get w.objects c ≡ Some o → is_job_below k o.body ≡ false
+  pub processes : (p : ℕ) (q : Process) (o : Object) → get w.processes p ≡ Some q → IsTrue (lives q.state) → get w.objects p ≡ Some o → is_process_of k o.body ≡ false
+
 -- x becomes y
-pub data ObjectChange (start after : World) (x y : Object) : Type 0 where
+pub data ObjectChange (start after : World) (k : ℕ) (x y : Object) : Type 0 where
   -- a call cleared and raised signals
-  signals_change : (clear set : ℕ) → y ≡ object_changed clear set x → (IsSound start → IsTrue (within set (raisable x.body))) → ObjectChange start after x y
+  signals_change : (clear set : ℕ) → y ≡ object_changed clear set x → (IsSound start → IsTrue (within set (raisable x.body))) → ObjectChange start after k x y
   -- packets came to a port, or left it
-  packets_change : (old packets : List Packet) → x.body ≡ PortBody old → y ≡ record x { body = PortBody packets } → ObjectChange start after x y
+  packets_change : (old packets : List Packet) → x.body ≡ PortBody old → y ≡ record x { body = PortBody packets } → ObjectChange start after k x y
   -- a message came to a channel end
-  message_comes : (m : Message) → y ≡ message_sent m x → MayBeSent start after m → ObjectChange start after x y
+  message_comes : (m : Message) → y ≡ message_sent m x → MayBeSent start after m → ObjectChange start after k x y
   -- the first message was read
-  message_goes : y ≡ message_read x → ObjectChange start after x y
+  message_goes : y ≡ message_read x → ObjectChange start after k x y
+  -- the policy of a job without living children was set
+  policy_changes : (s : Option Setting) → y ≡ policy_changed s x → (IsSound start → has_child start k ≡ false) → ObjectChange start after k x y
+  -- it was killed, if it is a job, and nothing lives directly below it
+  dies : y ≡ object_killed true x → (IsSound start → IsChildless after k) → ObjectChange start after k x y
 
 -- an object that is made between w and after
-pub record IsNewObject (w after : World) (k : ℕ) (y : Object) : Type 0 where
+pub record IsNewObject (start w after : World) (k : ℕ) (y : Object) : Type 0 where
   pub next : w.next_koid ≤ k
   pub given : k < after.next_koid
   pub quiet : queue_of y.body ≡ []
   pub unraised : y.raised ≡ 0
   pub peer : HasPeer after.objects after.next_koid y.body
+  pub tree : IsSound start → StandsBelow after.objects k y.body
 
 -- how often p stands in the list
 abbrev pub times : ℕ → List ℕ → ℕ
@@ -98,7 +115,7 @@ pub record Change (start w w2 : World) : Type 0 where
   pub processes_in_order : IsTrue (in_order w.processes) → IsTrue (in_order w2.processes)
   pub objects_in_order : IsTrue (in_order w.objects) → IsTrue (in_order w2.objects)
   pub processes : EachChanged (ProcessChange start w2) (IsNewProcess start w w2) w.processes w2.processes
-  pub objects : EachChanged (λ k. ObjectChange start w2) (IsNewObject w w2) w.objects w2.objects
+  pub objects : EachChanged (ObjectChange start w2) (IsNewObject start w w2) w.objects w2.objects
   pub blocked : IsSound start → (p : ℕ) → KeepsBlocked w w2 p
   pub waits : WaitsChange start w w2
 
@@ -131,6 +148,7 @@ table_kept P start after none out in_ p x y (handle_leaves v is there) t = rw is
 table_kept P start after none out in_ p x y (computes c is) t = rw is t
 table_kept P start after none out in_ p x y (ends code is) t = rw is none
 table_kept P start after none out in_ p x y (wakes c is running) t = rw is t
+table_kept P start after none out in_ p x y (starts c is created) t = rw is t
 table_kept P start after none out in_ p x y (blocks awaited ds is running) t = rw is t
 
 -- ---- the list of the blocked
@@ -274,6 +292,30 @@ process_blocks w p q ds awaited there ready = record {
     blocked : Process → Process
     blocked x = record x { state = Blocked awaited ds }
 
+-- a process that was not started yet is ready
+pub process_starts : (start w : World) (p : ℕ) (f : Process → Cpu) → ((x : Process) → get w.processes p ≡ Some x → x.state ≡ Created)
+    → Change start w (on_process w p (λ x. record x { state = Ready; cpu = f x }))
+unfolding on_process is_process
+process_starts start w p f created = record {
+  next_koid = omega arith;
+  processes_in_order = λ h. rw (in_order-update w.processes p after) h;
+  objects_in_order = λ h. h;
+  processes = changed_update _ _ w.processes p after (λ x at. changed x _ refl refl (starts (f x) refl (created x at)));
+  objects = unchanged _ _ w.objects w.objects refl;
+  blocked = λ s k. still refl (ap (state_passes is_blocked) (get-update w.processes p after k) ∙ elim (cases_Bool (p == k)) as (λ _. state_passes is_blocked (if p == k then option_map after (get w.processes k) else get w.processes k) ≡ state_passes is_blocked (get w.processes k)) [
+    | inl here ↦ rw (here, ← eqb-true p k here) (unblocked (get w.processes p) refl)
+    | inr other ↦ rw other refl
+  ]);
+  waits = alike refl;
+}
+  where
+    after : Process → Process
+    after x = record x { state = Ready; cpu = f x }
+
+    unblocked : (o : Option Process) → get w.processes p ≡ o → state_passes is_blocked (option_map after o) ≡ state_passes is_blocked o
+    unblocked None at = refl
+    unblocked (Some x) at = sym (ap is_blocked (created x at))
+
 pub process_is_made : (start w : World) (k : ℕ) (y : Process) → IsNewProcess start w (with_process w k y) k y → is_blocked y.state ≡ false → Change start w (with_process w k y)
 unfolding is_process
 process_is_made start w k y fine unblocked = record {
@@ -293,7 +335,7 @@ process_is_made start w k y fine unblocked = record {
 
 -- a world with other objects alone
 objects_alone : (start w w2 : World) → w2.processes ≡ w.processes → w2.blocked ≡ w.blocked → w.next_koid ≤ w2.next_koid
-    → (IsTrue (in_order w.objects) → IsTrue (in_order w2.objects)) → EachChanged (λ k. ObjectChange start w2) (IsNewObject w w2) w.objects w2.objects → WaitsChange start w w2 → Change start w w2
+    → (IsTrue (in_order w.objects) → IsTrue (in_order w2.objects)) → EachChanged (ObjectChange start w2) (IsNewObject start w w2) w.objects w2.objects → WaitsChange start w w2 → Change start w w2
 unfolding is_process
 objects_alone start w w2 processes blocked next order objects waits = record {
   next_koid = next;
@@ -305,15 +347,15 @@ objects_alone start w w2 processes blocked next order objects waits = record {
   waits = waits;
 }
 
-pub object_changes : (start w : World) (k : ℕ) (f : Object → Object) → ((x : Object) → get w.objects k ≡ Some x → ObjectChange start (on_object w k f) x (f x)) → Change start w (on_object w k f)
+pub object_changes : (start w : World) (k : ℕ) (f : Object → Object) → ((x : Object) → get w.objects k ≡ Some x → ObjectChange start (on_object w k f) k x (f x)) → Change start w (on_object w k f)
 unfolding on_object
 object_changes start w k f ok = objects_alone start w (on_object w k f) refl refl (omega arith) (λ h. rw (in_order-update w.objects k f) h) (changed_update _ _ w.objects k f (λ x there. changed x _ refl refl (ok x there))) (alike refl)
 
-pub object_is_made : (start w : World) (b : Body) → queue_of b ≡ [] → HasPeer (with_object w b).objects (with_object w b).next_koid b → Change start w (with_object w b)
+pub object_is_made : (start w : World) (b : Body) → queue_of b ≡ [] → HasPeer (with_object w b).objects (with_object w b).next_koid b → (IsSound start → StandsBelow (with_object w b).objects w.next_koid b) → Change start w (with_object w b)
 unfolding with_object
-object_is_made start w b quiet peer =
+object_is_made start w b quiet peer tree =
     objects_alone start w (with_object w b) refl refl (omega arith) (in_order-put w.objects w.next_koid _)
-    (changed_put _ _ w.objects w.next_koid _ (new _ refl (record { next = omega arith; given = omega arith; quiet = quiet; unraised = refl; peer = peer }))) (alike refl)
+    (changed_put _ _ w.objects w.next_koid _ (new _ refl (record { next = omega arith; given = omega arith; quiet = quiet; unraised = refl; peer = peer; tree = tree }))) (alike refl)
 
 -- both ends of a channel
 pub ends_are_made : (start w : World) (n : ℕ) → w.next_koid ≡ n → Change start w (with_object (with_object w (ChannelEnd (n + 1) [])) (ChannelEnd n []))
@@ -336,15 +378,15 @@ ends_are_made start w n here =
     at_second : get both (n + 1) ≡ Some (end_at n)
     at_second = get-put first (w.next_koid + 1) (end_at n) (n + 1) ∙ rw (eq-eqb (w.next_koid + 1) (n + 1) (omega (arith, here))) refl
 
-    at_koid : EachChanged (λ k. ObjectChange start (with_object (with_object w (ChannelEnd (n + 1) [])) (ChannelEnd n []))) (IsNewObject w (with_object (with_object w (ChannelEnd (n + 1) [])) (ChannelEnd n []))) w.objects both
-    at_koid k = elim (cases_Bool (w.next_koid + 1 == k)) as (λ _. Changed (ObjectChange start (with_object (with_object w (ChannelEnd (n + 1) [])) (ChannelEnd n []))) (IsNewObject w (with_object (with_object w (ChannelEnd (n + 1) [])) (ChannelEnd n [])) k) (get w.objects k) (get both k)) [
+    at_koid : EachChanged (ObjectChange start (with_object (with_object w (ChannelEnd (n + 1) [])) (ChannelEnd n []))) (IsNewObject start w (with_object (with_object w (ChannelEnd (n + 1) [])) (ChannelEnd n []))) w.objects both
+    at_koid k = elim (cases_Bool (w.next_koid + 1 == k)) as (λ _. Changed (ObjectChange start (with_object (with_object w (ChannelEnd (n + 1) [])) (ChannelEnd n [])) k) (IsNewObject start w (with_object (with_object w (ChannelEnd (n + 1) [])) (ChannelEnd n [])) k) (get w.objects k) (get both k)) [
       | inl second ↦
           let is : w.next_koid + 1 ≡ k = eqb-true (w.next_koid + 1) k second in
-          new (end_at n) (get-put first (w.next_koid + 1) (end_at n) k ∙ rw second refl) (record { next = omega (arith, is); given = omega (arith, is); quiet = refl; unraised = refl; peer = (omega (arith, here), rw at_first refl) })
-      | inr other ↦ elim (cases_Bool (w.next_koid == k)) as (λ _. Changed (ObjectChange start (with_object (with_object w (ChannelEnd (n + 1) [])) (ChannelEnd n []))) (IsNewObject w (with_object (with_object w (ChannelEnd (n + 1) [])) (ChannelEnd n [])) k) (get w.objects k) (get both k)) [
+          new (end_at n) (get-put first (w.next_koid + 1) (end_at n) k ∙ rw second refl) (record { next = omega (arith, is); given = omega (arith, is); quiet = refl; unraised = refl; peer = (omega (arith, here), rw at_first refl); tree = λ s. tt })
+      | inr other ↦ elim (cases_Bool (w.next_koid == k)) as (λ _. Changed (ObjectChange start (with_object (with_object w (ChannelEnd (n + 1) [])) (ChannelEnd n [])) k) (IsNewObject start w (with_object (with_object w (ChannelEnd (n + 1) [])) (ChannelEnd n [])) k) (get w.objects k) (get both k)) [
         | inl now ↦
             let is : w.next_koid ≡ k = eqb-true w.next_koid k now in
-            new (end_at (n + 1)) (get-put first (w.next_koid + 1) (end_at n) k ∙ (rw other (get-put w.objects w.next_koid (end_at (n + 1)) k ∙ rw now refl))) (record { next = omega (arith, is); given = omega (arith, is); quiet = refl; unraised = refl; peer = (omega (arith, here), rw at_second refl) })
+            new (end_at (n + 1)) (get-put first (w.next_koid + 1) (end_at n) k ∙ (rw other (get-put w.objects w.next_koid (end_at (n + 1)) k ∙ rw now refl))) (record { next = omega (arith, is); given = omega (arith, is); quiet = refl; unraised = refl; peer = (omega (arith, here), rw at_second refl); tree = λ s. tt })
         | inr apart ↦ same (get-put first (w.next_koid + 1) (end_at n) k ∙ (rw other (get-put w.objects w.next_koid (end_at (n + 1)) k ∙ rw apart refl)))
       ]
     ]
@@ -356,10 +398,10 @@ packets_are_changed start w k f =
     objects_alone start w (on_object w k (repacked f)) refl refl (omega arith) (λ h. rw (in_order-update w.objects k (repacked f)) h)
     (changed_update _ _ w.objects k (repacked f) (λ x there. by_body x x.body refl)) (alike refl)
   where
-    other : (x : Object) → body_packed f x.body ≡ x.body → Changed (ObjectChange start (on_object w k (repacked f))) (IsNewObject w (on_object w k (repacked f)) k) (Some x) (Some (repacked f x))
+    other : (x : Object) → body_packed f x.body ≡ x.body → Changed (ObjectChange start (on_object w k (repacked f)) k) (IsNewObject start w (on_object w k (repacked f)) k) (Some x) (Some (repacked f x))
     other x e = same (ap (λ (b : Body). Some (record x { body = b })) e)
 
-    by_body : (x : Object) (b : Body) → x.body ≡ b → Changed (ObjectChange start (on_object w k (repacked f))) (IsNewObject w (on_object w k (repacked f)) k) (Some x) (Some (repacked f x))
+    by_body : (x : Object) (b : Body) → x.body ≡ b → Changed (ObjectChange start (on_object w k (repacked f)) k) (IsNewObject start w (on_object w k (repacked f)) k) (Some x) (Some (repacked f x))
     by_body x (PortBody packets) is = changed x _ refl refl (packets_change packets _ is (ap (λ (b : Body). record x { body = body_packed f b }) is))
     by_body x (ChannelEnd peer queue) is = other x (ap (body_packed f) is ∙ sym is)
     by_body x EventBody is = other x (ap (body_packed f) is ∙ sym is)
@@ -390,10 +432,10 @@ waits_fire start w =
     objects_alone start w (fired w) refl refl (omega arith) (λ h. rw (in_order-each w.objects (λ k o. record o { body = body_with_packets (packets_for w k) o.body })) h)
     (changed_each _ _ w.objects (λ k o. record o { body = body_with_packets (packets_for w k) o.body }) (λ k x. by_body k x x.body refl)) (fewer _ refl)
   where
-    other : (k : ℕ) (x : Object) → body_with_packets (packets_for w k) x.body ≡ x.body → Changed (ObjectChange start (fired w)) (IsNewObject w (fired w) k) (Some x) (Some (record x { body = body_with_packets (packets_for w k) x.body }))
+    other : (k : ℕ) (x : Object) → body_with_packets (packets_for w k) x.body ≡ x.body → Changed (ObjectChange start (fired w) k) (IsNewObject start w (fired w) k) (Some x) (Some (record x { body = body_with_packets (packets_for w k) x.body }))
     other k x e = same (ap (λ (b : Body). Some (record x { body = b })) e)
 
-    by_body : (k : ℕ) (x : Object) (b : Body) → x.body ≡ b → Changed (ObjectChange start (fired w)) (IsNewObject w (fired w) k) (Some x) (Some (record x { body = body_with_packets (packets_for w k) x.body }))
+    by_body : (k : ℕ) (x : Object) (b : Body) → x.body ≡ b → Changed (ObjectChange start (fired w) k) (IsNewObject start w (fired w) k) (Some x) (Some (record x { body = body_with_packets (packets_for w k) x.body }))
     by_body k x (PortBody packets) is = changed x _ refl refl (packets_change packets _ is (ap (λ (b : Body). record x { body = body_with_packets (packets_for w k) b }) is))
     by_body k x (ChannelEnd peer queue) is = other k x (ap (body_with_packets (packets_for w k)) is ∙ sym is)
     by_body k x EventBody is = other k x (ap (body_with_packets (packets_for w k)) is ∙ sym is)

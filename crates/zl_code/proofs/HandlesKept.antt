@@ -1,9 +1,11 @@
 -- Handles stay sound: at places of their own, with no right beyond the defaults of their kinds.
-use Rattle.zl_code.proofs.Common.{◌≡◌, ℕ, Bool, true, List, Message, Body, ChannelEnd, ◌∷◌, and_from, and_parts, list_all-append, not, ◌==◌, [], refl, IsTrue, Some, list_all, none-some, Map, get, put, without, where_key, World, Process, Object, process_settled, Settles, without_others, queue_of, in_order, has_default_rights, HandlesAreSound}
+use Rattle.zl_code.proofs.Common.{◌≡◌, ℕ, Bool, true, List, Message, Body, ChannelEnd, JobBody, Option, ◌∷◌, and_from, and_parts, list_all-append, not, ◌==◌, [], refl, IsTrue, Some, list_all, none-some, Map, get, put, without, where_key, World, Process, Object, process_settled, Settles, without_others, queue_of, in_order, has_default_rights, HandlesAreSound}
 use Rattle.zl_rights.specs.declared.entry.Entry.{Entry}
 use Rattle.zl_code.proofs.MapKept.{in_order-put, in_order-where_key, in_order-each, each_put, each_where_key, changed, changed_each, each_changed}
-use Rattle.zl_code.proofs.Changes.{ObjectChange, signals_change, packets_change, message_comes, message_goes, Change, table_kept}
+use Rattle.zl_code.proofs.Changes.{ObjectChange, signals_change, packets_change, message_comes, message_goes, policy_changes, dies, Change, table_kept}
+use Rattle.zl_rights.specs.Policies.{Setting}
 use Rattle.zl_code.specs.Effects.{body_with_message, body_after_read}
+use Rattle.zl_code.specs.Jobs.{body_killed, body_with_policy}
 
 record IsFineTable (m : Map Entry) : Type 0 where
   order : IsTrue (in_order m)
@@ -38,11 +40,22 @@ read_fine (ChannelEnd peer []) t = refl
 read_fine (ChannelEnd peer (m ∷ ms)) t = (and_parts _ _ t).1
 read_fine _ t = t
 
-by_object : (start after : World) (x y : Object) → HandlesAreSound start → ObjectChange start after x y → HasFineQueue x → HasFineQueue y
-by_object start after x y before (signals_change clear set is may) t = rw is t
-by_object start after x y before (packets_change old packets port is) t = rw is refl
-by_object start after x y before (message_comes m is may) t = rw is (sent_fine m x.body (may.rights before) t)
-by_object start after x y before (message_goes is) t = rw is (read_fine x.body t)
+-- a job has no queue, whatever its policy, and killed or not
+pub set_queue : (s : Option Setting) (b : Body) → queue_of (body_with_policy s b) ≡ queue_of b
+set_queue s (JobBody parent depth policy killed) = refl
+set_queue s _ = refl
+
+pub killed_queue : (b : Body) → queue_of (body_killed b) ≡ queue_of b
+killed_queue (JobBody parent depth policy killed) = refl
+killed_queue _ = refl
+
+by_object : (start after : World) (k : ℕ) (x y : Object) → HandlesAreSound start → ObjectChange start after k x y → HasFineQueue x → HasFineQueue y
+by_object start after k x y before (signals_change clear set is may) t = rw is t
+by_object start after k x y before (packets_change old packets port is) t = rw is refl
+by_object start after k x y before (message_comes m is may) t = rw is (sent_fine m x.body (may.rights before) t)
+by_object start after k x y before (message_goes is) t = rw is (read_fine x.body t)
+by_object start after k x y before (policy_changes s is may) t = rw (is, set_queue s x.body) t
+by_object start after k x y before (dies is may) t = rw (is, killed_queue x.body) t
 
 -- the law by tables
 fine_tables : (w : World) → HandlesAreSound w → (p : ℕ) (q : Process) → get w.processes p ≡ Some q → IsFineTable q.handles
@@ -62,7 +75,7 @@ pub sound_change : (start u v : World) → HandlesAreSound start → Change star
 sound_change start u v before c s =
     from_tables v (c.processes_in_order s.processes) (c.objects_in_order s.objects)
     (each_changed _ _ (λ k q. IsFineTable q.handles) u.processes v.processes c.processes (table_kept IsFineTable start v empty_table leaves (λ m n e rights names. enters m n e (rights before))) (λ k y n. rw n.empty empty_table) (fine_tables u s))
-    (each_changed _ _ (λ k o. HasFineQueue o) u.objects v.objects c.objects (λ k x y. by_object start v x y before) (λ k y n. rw n.quiet refl) s.queued)
+    (each_changed _ _ (λ k o. HasFineQueue o) u.objects v.objects c.objects (λ k x y. by_object start v k x y before) (λ k y n. rw n.quiet refl) s.queued)
 
 pub sound_settled : (u v : World) → Settles u v → HandlesAreSound u → HandlesAreSound v
 unfolding without_others

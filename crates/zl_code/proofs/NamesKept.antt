@@ -3,7 +3,8 @@ use Rattle.zl_code.proofs.Common.{◌≡◌, ◌<◌, ◌⊎◌, inl, inr, arith
 use Rattle.std.proofs.lemmas.List.Folds.{list_any_at}
 use Rattle.zl_rights.specs.declared.entry.Entry.{Entry}
 use Rattle.zl_code.proofs.MapKept.{Each, each_put, each_where_key, same, changed, new, changed_each, each_changed}
-use Rattle.zl_code.proofs.Changes.{ObjectChange, signals_change, packets_change, message_comes, message_goes, Change, table_kept}
+use Rattle.zl_code.proofs.HandlesKept.{set_queue, killed_queue}
+use Rattle.zl_code.proofs.Changes.{ObjectChange, signals_change, packets_change, message_comes, message_goes, policy_changes, dies, Change, table_kept}
 use Rattle.zl_code.specs.Effects.{body_with_message, body_after_read}
 use Rattle.std.proofs.lemmas.List.Elements.{All-append}
 use Rattle.zl_code.proofs.NotReused.{same_kind}
@@ -38,11 +39,13 @@ read_names objects (ChannelEnd peer []) t = t
 read_names objects (ChannelEnd peer (m ∷ ms)) t = All-tail (λ (x : Message). All (names_its_object objects) x.handles) m ms t
 read_names objects _ t = t
 
-by_object : (start after : World) (x y : Object) → HandlesAreNamed start → ObjectChange start after x y → QueueNames after.objects x → QueueNames after.objects y
-by_object start after x y before (signals_change clear set is may) t = rw is t
-by_object start after x y before (packets_change old packets port is) t = no_queue after.objects y.body (rw is refl)
-by_object start after x y before (message_comes m is may) t = rw is (sent_names after.objects m x.body (may.names before) t)
-by_object start after x y before (message_goes is) t = rw is (read_names after.objects x.body t)
+by_object : (start after : World) (k : ℕ) (x y : Object) → HandlesAreNamed start → ObjectChange start after k x y → QueueNames after.objects x → QueueNames after.objects y
+by_object start after k x y before (signals_change clear set is may) t = rw is t
+by_object start after k x y before (packets_change old packets port is) t = no_queue after.objects y.body (rw is refl)
+by_object start after k x y before (message_comes m is may) t = rw is (sent_names after.objects m x.body (may.names before) t)
+by_object start after k x y before (message_goes is) t = rw is (read_names after.objects x.body t)
+by_object start after k x y before (policy_changes s is may) t = rw (is, set_queue s x.body) t
+by_object start after k x y before (dies is may) t = rw (is, killed_queue x.body) t
 
 -- ---- a change
 
@@ -53,7 +56,7 @@ StillNamed m n = (e : Entry) → names_its_object m e → names_its_object n e
 still : (start u v : World) → HasGivenKoids u → Change start u v → StillNamed u.objects v.objects
 still start u v given c e (o, there, kind) = elim (c.objects e.koid) as (λ _. names_its_object v.objects e) [
   | same is ↦ (o, is ∙ there, kind)
-  | changed x y was is r ↦ (y, is, kind ∙ (ap (λ (z : Object). kind_of z.body) (same_Some o x (sym there ∙ was)) ∙ sym (same_kind start v x y r)))
+  | changed x y was is r ↦ (y, is, kind ∙ (ap (λ (z : Object). kind_of z.body) (same_Some o x (sym there ∙ was)) ∙ sym (same_kind start v e.koid x y r)))
   | new y is n ↦ let below : e.koid < u.next_koid = given.below e.koid (ap is_some there) in absurd (omega (arith, n.next))
 ]
 
@@ -63,7 +66,7 @@ queue_grows m n more o t i x inside j e below = more (slice_index_or (slice_inde
 pub named_change : (start u v : World) → HandlesAreNamed start → HasGivenKoids u → Change start u v → HandlesAreNamed u → HandlesAreNamed v
 named_change start u v before given c s = record {
   tables = λ p w q e there at. all_tables p q there w e at;
-  queues = each_changed _ _ (λ k o. QueueNames v.objects o) u.objects v.objects c.objects (λ k x y. by_object start v x y before) (λ k y n. no_queue v.objects y.body n.quiet)
+  queues = each_changed _ _ (λ k o. QueueNames v.objects o) u.objects v.objects c.objects (λ k x y. by_object start v k x y before) (λ k y n. no_queue v.objects y.body n.quiet)
       (λ k o there. queue_grows u.objects v.objects (still start u v given c) o (s.queues k o there));
 }
   where

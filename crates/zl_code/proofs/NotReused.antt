@@ -1,10 +1,11 @@
 -- No koid is given again, no object changes its kind, and no process vanishes or changes its program.
-use Rattle.zl_code.proofs.Common.{◌≡◌, ◌<◌, ◌≤◌, inl, inr, arith, ℕ, refl, ap, sym, ◌∙◌, Option, Some, None, is_some, cases_Bool, none-some, same_Some, get, World, Process, Object, Body, ChannelEnd, Message, kind_of, Settles, without_others, process_settled, HasGivenKoids, IsSound, get-each, get-where_key-in, get-where_key-out, KeepsProcesses, true≢false}
+use Rattle.zl_code.proofs.Common.{◌≡◌, ◌<◌, ◌≤◌, inl, inr, arith, ℕ, refl, ap, sym, ◌∙◌, Option, Some, None, is_some, cases_Bool, none-some, same_Some, get, World, Process, Object, Body, ChannelEnd, JobBody, Message, kind_of, Settles, without_others, process_settled, HasGivenKoids, IsSound, get-each, get-where_key-in, get-where_key-out, KeepsProcesses, true≢false}
 use Rattle.zl_rights.specs.declared.kind.Kind.{Kind}
 use Rattle.zl_code.specs.Koids.{KeepsKoids}
 use Rattle.zl_code.proofs.MapKept.{same, changed, new}
-use Rattle.zl_code.proofs.Changes.{ProcessChange, handle_enters, handle_leaves, computes, ends, wakes, blocks, ObjectChange, signals_change, packets_change, message_comes, message_goes, Change, Changes, kept}
+use Rattle.zl_code.proofs.Changes.{ProcessChange, handle_enters, handle_leaves, computes, ends, wakes, starts, blocks, ObjectChange, signals_change, packets_change, message_comes, message_goes, policy_changes, dies, Change, Changes, kept}
 use Rattle.zl_code.specs.Effects.{body_with_message, body_after_read}
+use Rattle.zl_code.specs.Jobs.{body_killed, body_with_policy}
 
 -- ---- koids
 
@@ -50,18 +51,28 @@ pub read_kind : (b : Body) → kind_of (body_after_read b) ≡ kind_of b
 read_kind (ChannelEnd peer queue) = refl
 read_kind _ = refl
 
-pub same_kind : (start after : World) (x y : Object) → ObjectChange start after x y → kind_of y.body ≡ kind_of x.body
-same_kind start after x y (signals_change clear set is may) = rw is refl
-same_kind start after x y (packets_change old packets port is) = rw (is, port) refl
-same_kind start after x y (message_comes m is may) = rw is (sent_kind m x.body)
-same_kind start after x y (message_goes is) = rw is (read_kind x.body)
+pub same_kind : (start after : World) (k : ℕ) (x y : Object) → ObjectChange start after k x y → kind_of y.body ≡ kind_of x.body
+same_kind start after k x y (signals_change clear set is may) = rw is refl
+same_kind start after k x y (packets_change old packets port is) = rw (is, port) refl
+same_kind start after k x y (message_comes m is may) = rw is (sent_kind m x.body)
+same_kind start after k x y (message_goes is) = rw is (read_kind x.body)
+same_kind start after k x y (policy_changes s is may) = rw is (by_body2 x.body)
+  where
+    by_body2 : (b : Body) → kind_of (body_with_policy s b) ≡ kind_of b
+    by_body2 (JobBody parent depth policy killed) = refl
+    by_body2 _ = refl
+same_kind start after k x y (dies is may) = rw is (by_body2 x.body)
+  where
+    by_body2 : (b : Body) → kind_of (body_killed b) ≡ kind_of b
+    by_body2 (JobBody parent depth policy killed) = refl
+    by_body2 _ = refl
 
 by_change : (start u v : World) → Change start u v → Keeps u v
 by_change start u v c = record {
   next = c.next_koid;
   koids = λ k. elim (c.objects k) as (λ _. KoidKept u v k) [
     | same e ↦ alike (ap kind_in e)
-    | changed x y was is r ↦ alike (ap kind_in is ∙ (ap Some (same_kind start v x y r) ∙ sym (ap kind_in was)))
+    | changed x y was is r ↦ alike (ap kind_in is ∙ (ap Some (same_kind start v k x y r) ∙ sym (ap kind_in was)))
     | new y is n ↦ fresh (omega (arith, n.next)) n.given
   ];
 }
@@ -122,6 +133,7 @@ same_program start after p x y (handle_leaves v is there) = rw is refl
 same_program start after p x y (computes c is) = rw is refl
 same_program start after p x y (ends code is) = rw is refl
 same_program start after p x y (wakes c is running) = rw is refl
+same_program start after p x y (starts c is created) = rw is refl
 same_program start after p x y (blocks awaited ds is running) = rw is refl
 
 process_stays : (start u v : World) → IsSound start → Change start u v → KeepsProcesses u v

@@ -234,7 +234,7 @@ rows_of_signal_2 :
     × (told (turn (call.Signal 0 1 3 4) (record bare { processes = (2, process_of (9 ∷ 7 ∷ 9 ∷ 0 ∷ SIGNALED ∷ []) ((7, event_with SIGNAL) ∷ []) None) ∷ [] }) (Values []))
     ≡ Some (item.Call 2 name.Signal (outcome.Answered status.Ok), 0 ∷ 7 ∷ 9 ∷ 0 ∷ 8 ∷ 0 ∷ []))
     -- What is cleared and set stays set, as set comes last.
-    × (active (effect [] (with_rights SIGNAL) (with_rights SIGNAL) 2 (signal 7 SIGNALED SIGNALED)) 3 ≡ SIGNALED)
+    × (active (effect [] (with_rights SIGNAL) (with_rights SIGNAL) 2 (signal 7 SIGNALED SIGNALED) []) 3 ≡ SIGNALED)
 unfolding computing
 rows_of_signal_2 = (refl, refl, refl, refl)
 

@@ -108,7 +108,7 @@ rows_of_replace :
     -- The value isn't chosen.
     × (may_choose (with_event FIRST_RIGHTS) (with_event FIRST_RIGHTS) 2 (replace 7 DUPLICATE) (8 ∷ []) ≡ false)
     -- The waits of the old handle end, and no others.
-    × (map (λ x. x.value) (effect [] (record (with_event 0) { waits = two_waits }) (record (with_event 0) { waits = two_waits }) 2 (replace 7 0)).waits ≡ 8 ∷ [])
+    × (map (λ x. x.value) (effect [] (record (with_event 0) { waits = two_waits }) (record (with_event 0) { waits = two_waits }) 2 (replace 7 0) []).waits ≡ 8 ∷ [])
     -- In a full table there is place, as the old handle's is free.
     × (Passes (world_of [] (process_of [] (times 1024 (event_with FIRST_RIGHTS)) None)) (replace 7 SAME_RIGHTS))
 unfolding computing
@@ -215,7 +215,7 @@ rows_of_chan_write :
     -- What they named is gone with the last of them.
     × (has_key (after sent (turn name.ChanWrite (writing [] (8 ∷ [])) (with_one_end ((7, end_with 5 END_RIGHTS) ∷ (8, event_with FIRST_RIGHTS) ∷ []) []) Refused)).objects 3 ≡ false)
     -- The message goes last into the queue of the peer, with its bytes and its handles.
-    × (queue_of_object (effect [] (with_ends end_and_events [] (message [] [] ∷ [])) (with_ends end_and_events [] (message [] [] ∷ [])) 2 (chan_write 7 (1 ∷ 2 ∷ []) (8 ∷ []))) 5
+    × (queue_of_object (effect [] (with_ends end_and_events [] (message [] [] ∷ [])) (with_ends end_and_events [] (message [] [] ∷ [])) 2 (chan_write 7 (1 ∷ 2 ∷ []) (8 ∷ [])) []) 5
     ≡ message [] [] ∷ message (1 ∷ 2 ∷ []) (event_with FIRST_RIGHTS ∷ []) ∷ [])
     -- The handle that was sent has left the table.
     × (table_of sent 2 ≡ (7, end_with 4 END_RIGHTS) ∷ (10, end_with 5 END_RIGHTS) ∷ [])

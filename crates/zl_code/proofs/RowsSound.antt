@@ -28,7 +28,7 @@ ended_with_handle s = let none = ((s.tables 2 _ refl).idle refl).0 in cc
 -- process 2 runs, and its object is gone
 no_object : IsSound (record (removed_last [] None) { objects = [] }) → ⊥
 unfolding get
-no_object s = none-some _ (s.living 2 _ refl refl).1
+no_object s = none-some _ (s.living 2 _ refl refl).there
 
 -- koid 2 would be given again
 koid_again : IsSound (record (removed_last [] None) { next_koid = 2 }) → ⊥

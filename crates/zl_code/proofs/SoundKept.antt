@@ -1,18 +1,25 @@
 -- Every world of a run from a boot world is sound.
-use Rattle.zl_code.proofs.Common.{All, HandlesAreNamed, HandlesAreSound, ◌≡◌, ◌<◌, ◌≤◌, inl, inr, arith, ℕ, suc, Bool, true, false, not, ◌||◌, ◌==◌, [], length, refl, ap, sym, ◌∙◌, IsTrue, Option, Some, None, eq-eqb, if◌then◌else◌, is_some, nat_lt, bit_and, option_map, cases_Bool, eqb-true, and_parts, and_from, or_left, or_right, false≢true, none-some, same_Some, within, Map, get, put, without, where_key, each, has_key, World, Process, State, Created, Ready, Blocked, Gone, Object, Body, ChannelEnd, JobBody, ProcessBody, Message, is_process, state_passes, lives, runs, process_settled, Koids, Settles, without_others, is_held, in_table, in_queue, has_living_child, body_in, may_get, is_job_body, HasGivenKoids, raisable, IsSound, min, max, get-put, get-each, get-where_key-in, get-where_key-out, may_get_after, is_value, IsSoundTable, is_blocked, HasItsObject, HasPeer, is_end_if_there, bit_xor, state_without, IsLargestHeld, filter, true≢false}
+use Rattle.zl_code.proofs.Common.{All, HandlesAreNamed, HandlesAreSound, ◌≡◌, ◌<◌, ◌≤◌, inl, inr, arith, nat_tests, ℕ, suc, Bool, true, false, not, ◌&&◌, ◌||◌, ◌==◌, [], ◌∷◌, list_all, subst, PortBody, length, refl, ap, sym, ◌∙◌, IsTrue, Option, Some, None, eq-eqb, if◌then◌else◌, is_some, nat_lt, bit_and, option_map, cases_Bool, eqb-true, and_parts, and_from, or_left, or_right, false≢true, none-some, same_Some, within, Map, get, put, without, where_key, each, has_key, World, Process, State, Created, Ready, Blocked, Gone, Object, Body, ChannelEnd, JobBody, ProcessBody, Message, is_process, state_passes, lives, runs, process_settled, Koids, Settles, without_others, is_held, in_table, in_queue, has_living_child, body_in, may_get, is_job_body, HasGivenKoids, raisable, IsSound, min, max, get-put, get-each, get-where_key-in, get-where_key-out, may_get_after, is_value, IsSoundTable, is_blocked, HasItsObject, HasPeer, is_end_if_there, bit_xor, state_without, IsLargestHeld, filter, true≢false}
 use Rattle.std.specs.Int.{bit_at}
 use Rattle.std.proofs.lemmas.Nat.Bits.{same_from_bits, bit_at_and, bit_at_or, bit_at-zero}
 use Rattle.zl_rights.specs.declared.entry.Entry.{Entry}
 use Rattle.zl_rights.specs.Numbers.{changed as signals_changed}
-use Rattle.zl_code.proofs.MapKept.{each_where_key, EachChanged, same, changed, new, changed_each, each_changed}
-use Rattle.zl_code.proofs.Changes.{IsWait, MayEnter, ProcessChange, handle_enters, handle_leaves, computes, ends, wakes, blocks, ObjectChange, signals_change, packets_change, message_comes, message_goes, still, awake, asleep, Change}
+use Rattle.zl_code.proofs.MapKept.{in_order-put, each_where_key, EachChanged, same, changed, new, changed_each, each_changed}
+use Rattle.zl_code.proofs.Changes.{IsWait, MayEnter, IsChildless, ProcessChange, handle_enters, handle_leaves, computes, ends, wakes, starts, blocks, ObjectChange, signals_change, packets_change, message_comes, message_goes, policy_changes, dies, still, awake, asleep, Change}
+use Rattle.zl_rights.specs.Policies.{Setting, condition_numbered, policy_set, with_unset}
+use Rattle.zl_rights.specs.Signals.{is_job_below, is_process_of}
+use Rattle.zl_rights.specs.declared.policy.Action.{Action}
+use Rattle.zl_rights.specs.declared.policy.Condition.{Condition}
+use Rattle.zl_rights.specs.declared.policy.Condition.TheVariants as condition
 use Rattle.zl_code.specs.Effects.{body_with_message, body_after_read}
+use Rattle.zl_code.specs.Jobs.{body_killed, body_with_policy, policy_after}
+use Rattle.zl_code.specs.Sound.{LivesAt, IsBelow, StandsBelow, is_policy}
 use Rattle.zl_code.proofs.Entering.{length_filter, length_put}
-use Rattle.zl_code.proofs.StepChanges.{job_is_there}
 use Rattle.zl_code.proofs.HandlesKept.{sound_change, sound_settled}
 use Rattle.zl_code.proofs.NamesKept.{named_change, named_settled, held_is_kept, list_any-get}
 use Rattle.zl_code.proofs.NotReused.{given_change, given_settled}
 use Rattle.zl_code.proofs.WaitsKept.{AreLive, are_waits, sound_waits, waits_kept, waits_settled}
+use Rattle.zl_code.proofs.TreeKept.{changed_stands, has_body, lives_before, object_stays, stands_on}
 
 -- ---- a table
 
@@ -64,66 +71,8 @@ by_process start after p x y s (handle_leaves v is there) t = rw is (handle_out 
 by_process start after p x y s (computes c is) t = rw is t
 by_process start after p x y s (ends code is) t = rw is (empty_table false)
 by_process start after p x y s (wakes c is running) t = rw is (rw running at t)
+by_process start after p x y s (starts c is created) t = rw (is, (t.idle (ap runs created)).0, (t.idle (ap runs created)).1) (empty_table true)
 by_process start after p x y s (blocks awaited ds is running) t = rw is (rw running at t)
-
--- ---- a living process has its object
-
-runs_lives : (s : State) → IsTrue (runs s) → IsTrue (lives s)
-runs_lives Ready r = refl
-runs_lives (Blocked a b) r = refl
-runs_lives _ r = absurd (false≢true r)
-
-lives_before : (start after : World) (p : ℕ) (x y : Process) → ProcessChange start after p x y → IsTrue (lives y.state) → IsTrue (lives x.state)
-lives_before start after p x y (handle_enters v e is may) h = rw is at h
-lives_before start after p x y (handle_leaves v is there) h = rw is at h
-lives_before start after p x y (computes c is) h = rw is at h
-lives_before start after p x y (ends code is) h = absurd (false≢true (rw is at h))
-lives_before start after p x y (wakes c is running) h = runs_lives x.state running
-lives_before start after p x y (blocks awaited ds is running) h = runs_lives x.state running
-
-has_body : (o : Option Object) (b : Body) → body_in o ≡ Some b → IsTrue (is_some o)
-has_body None b e = absurd (none-some b e)
-has_body (Some o) b e = refl
-
--- a job or a process
-abbrev is_steady : Body → Bool
-is_steady (JobBody parent depth policy killed) = true
-is_steady (ProcessBody job) = true
-is_steady _ = false
-
-sent_steady : (m : Message) (b : Body) → IsTrue (is_steady b) → body_with_message m b ≡ b
-sent_steady m (ChannelEnd peer queue) h = absurd (false≢true h)
-sent_steady m _ h = refl
-
-read_steady : (b : Body) → IsTrue (is_steady b) → body_after_read b ≡ b
-read_steady (ChannelEnd peer queue) h = absurd (false≢true h)
-read_steady _ h = refl
-
-job_steady : (b : Body) → IsTrue (is_job_body (Some b)) → IsTrue (is_steady b)
-job_steady (JobBody parent depth policy killed) h = refl
-job_steady (ProcessBody job) h = refl
-job_steady _ h = absurd (false≢true h)
-
--- no change but settling takes away a job or a process, or changes its body
-body_stays : (start u v : World) → HasGivenKoids u → Change start u v → (k : ℕ) (b : Body) → IsTrue (is_steady b) → body_in (get u.objects k) ≡ Some b → body_in (get v.objects k) ≡ Some b
-body_stays start u v given c k b steady there = elim (c.objects k) as (λ _. body_in (get v.objects k) ≡ Some b) [
-  | same e ↦ ap body_in e ∙ there
-  | changed x y was is r ↦ ap body_in is ∙ by_change x y r (same_Some x.body b (rw was at there))
-  | new y is n ↦ let below : k < u.next_koid = given.below k (has_body (get u.objects k) b there) in absurd (omega (arith, n.next))
-]
-  where
-    by_change : (x y : Object) → ObjectChange start v x y → x.body ≡ b → Some y.body ≡ Some b
-    by_change x y (signals_change clear set is may) e = rw is (ap Some e)
-    by_change x y (packets_change old packets port is) e = absurd (false≢true (rw (← e, port) at steady))
-    by_change x y (message_comes m is may) e = rw (is, e) (ap Some (sent_steady m b steady))
-    by_change x y (message_goes is) e = rw (is, e) (ap Some (read_steady b steady))
-
-object_stays : (start u v : World) → HasGivenKoids u → Change start u v → (p : ℕ) → HasItsObject u.objects p → HasItsObject v.objects p
-object_stays start u v given c p (job, is, job_there) = (job, body_stays start u v given c p (ProcessBody job) refl is, by_job (body_in (get u.objects job)) refl job_there)
-  where
-    by_job : (o : Option Body) → body_in (get u.objects job) ≡ o → IsTrue (is_job_body o) → IsTrue (is_job_body (body_in (get v.objects job)))
-    by_job None at j = absurd (false≢true j)
-    by_job (Some b) at j = rw (body_stays start u v given c job b (job_steady b j) at) j
 
 -- ---- raised signals
 
@@ -152,11 +101,21 @@ read_raisable : (b : Body) → raisable (body_after_read b) ≡ raisable b
 read_raisable (ChannelEnd peer queue) = refl
 read_raisable _ = refl
 
-by_object : (start after : World) (x y : Object) → IsSound start → ObjectChange start after x y → IsTrue (within x.raised (raisable x.body)) → IsTrue (within y.raised (raisable y.body))
-by_object start after x y s (signals_change clear set is may) t = rw is (within_changed x.raised clear set (raisable x.body) t (may s))
-by_object start after x y s (packets_change old packets port is) t = rw is (rw port at t)
-by_object start after x y s (message_comes m is may) t = rw (is, sent_raisable m x.body) t
-by_object start after x y s (message_goes is) t = rw (is, read_raisable x.body) t
+set_raisable : (s : Option Setting) (b : Body) → raisable (body_with_policy s b) ≡ raisable b
+set_raisable s (JobBody parent depth policy killed) = refl
+set_raisable s _ = refl
+
+killed_raisable : (b : Body) → raisable (body_killed b) ≡ raisable b
+killed_raisable (JobBody parent depth policy killed) = refl
+killed_raisable _ = refl
+
+by_object : (start after : World) (k : ℕ) (x y : Object) → IsSound start → ObjectChange start after k x y → IsTrue (within x.raised (raisable x.body)) → IsTrue (within y.raised (raisable y.body))
+by_object start after k x y s (signals_change clear set is may) t = rw is (within_changed x.raised clear set (raisable x.body) t (may s))
+by_object start after k x y s (packets_change old packets port is) t = rw is (rw port at t)
+by_object start after k x y s (message_comes m is may) t = rw (is, sent_raisable m x.body) t
+by_object start after k x y s (message_goes is) t = rw (is, read_raisable x.body) t
+by_object start after k x y s (policy_changes setting is may) t = rw (is, set_raisable setting x.body) t
+by_object start after k x y s (dies is may) t = rw (is, killed_raisable x.body) t
 
 pub none_raised : (whole : ℕ) → IsTrue (within 0 whole)
 none_raised whole = eq-eqb _ _ (same_from_bits _ _ (λ i. bit_at_and whole 0 i ∙ (ap (λ (m : ℕ). min (bit_at whole i) m) (bit_at-zero i) ∙ (nothing (bit_at whole i) ∙ sym (bit_at-zero i)))))
@@ -167,30 +126,50 @@ none_raised whole = eq-eqb _ _ (same_from_bits _ _ (λ i. bit_at_and whole 0 i �
 -- ---- the peers of channel ends
 
 -- a change of an end leaves it its peer
-peer_kept : (start after : World) (m : Map Object) (n : ℕ) (x y : Object) → ObjectChange start after x y → HasPeer m n x.body → HasPeer m n y.body
-peer_kept start after m n x y (signals_change clear set is may) t = rw is t
-peer_kept start after m n x y (packets_change old packets port is) t = rw is tt
-peer_kept start after m n x y (message_comes message is may) t = rw is (sent x.body t)
+peer_kept : (start after : World) (m : Map Object) (n k : ℕ) (x y : Object) → ObjectChange start after k x y → HasPeer m n x.body → HasPeer m n y.body
+peer_kept start after m n k x y (signals_change clear set is may) t = rw is t
+peer_kept start after m n k x y (packets_change old packets port is) t = rw is tt
+peer_kept start after m n k x y (message_comes message is may) t = rw is (sent x.body t)
   where
     sent : (b : Body) → HasPeer m n b → HasPeer m n (body_with_message message b)
     sent (ChannelEnd peer queue) h = h
     sent _ h = h
-peer_kept start after m n x y (message_goes is) t = rw is (read x.body t)
+peer_kept start after m n k x y (policy_changes s is may) t = rw is (set x.body t)
+  where
+    set : (b : Body) → HasPeer m n b → HasPeer m n (body_with_policy s b)
+    set (JobBody parent depth policy killed) h = tt
+    set _ h = h
+peer_kept start after m n k x y (dies is may) t = rw is (died x.body t)
+  where
+    died : (b : Body) → HasPeer m n b → HasPeer m n (body_killed b)
+    died (JobBody parent depth policy killed) h = tt
+    died _ h = h
+peer_kept start after m n k x y (message_goes is) t = rw is (read x.body t)
   where
     read : (b : Body) → HasPeer m n b → HasPeer m n (body_after_read b)
     read (ChannelEnd peer queue) h = h
     read _ h = h
 
 -- and it stays an end
-end_stays : (start after : World) (x y : Object) → ObjectChange start after x y → IsTrue (is_end_if_there (Some x.body)) → IsTrue (is_end_if_there (Some y.body))
-end_stays start after x y (signals_change clear set is may) t = rw is t
-end_stays start after x y (packets_change old packets port is) t = absurd (false≢true (rw port at t))
-end_stays start after x y (message_comes message is may) t = rw is (sent x.body t)
+end_stays : (start after : World) (k : ℕ) (x y : Object) → ObjectChange start after k x y → IsTrue (is_end_if_there (Some x.body)) → IsTrue (is_end_if_there (Some y.body))
+end_stays start after k x y (signals_change clear set is may) t = rw is t
+end_stays start after k x y (packets_change old packets port is) t = absurd (false≢true (rw port at t))
+end_stays start after k x y (message_comes message is may) t = rw is (sent x.body t)
   where
     sent : (b : Body) → IsTrue (is_end_if_there (Some b)) → IsTrue (is_end_if_there (Some (body_with_message message b)))
     sent (ChannelEnd peer queue) h = h
     sent _ h = h
-end_stays start after x y (message_goes is) t = rw is (read x.body t)
+end_stays start after k x y (policy_changes s is may) t = rw is (set x.body t)
+  where
+    set : (b : Body) → IsTrue (is_end_if_there (Some b)) → IsTrue (is_end_if_there (Some (body_with_policy s b)))
+    set (JobBody parent depth policy killed) h = absurd (false≢true h)
+    set _ h = h
+end_stays start after k x y (dies is may) t = rw is (died x.body t)
+  where
+    died : (b : Body) → IsTrue (is_end_if_there (Some b)) → IsTrue (is_end_if_there (Some (body_killed b)))
+    died (JobBody parent depth policy killed) h = absurd (false≢true h)
+    died _ h = h
+end_stays start after k x y (message_goes is) t = rw is (read x.body t)
   where
     read : (b : Body) → IsTrue (is_end_if_there (Some b)) → IsTrue (is_end_if_there (Some (body_after_read b)))
     read (ChannelEnd peer queue) h = h
@@ -202,7 +181,7 @@ peer_stays start u v c (ChannelEnd peer queue) (below, is_end) = (
   omega (arith, below, c.next_koid),
   elim (c.objects peer) as (λ _. IsTrue (is_end_if_there (body_in (get v.objects peer)))) [
     | same e ↦ rw e is_end
-    | changed x y was is r ↦ rw is (end_stays start v x y r (rw was at is_end))
+    | changed x y was is r ↦ rw is (end_stays start v peer x y r (rw was at is_end))
     | new y is n ↦ absurd (omega (arith, n.next, below))
   ],
 )
@@ -229,6 +208,7 @@ pub record IsNearlySound (w : World) : Type 0 where
   pub processes : (p : ℕ) → IsTrue (has_key w.processes p) → p < w.next_koid
   pub tables : (p : ℕ) (q : Process) → get w.processes p ≡ Some q → IsSoundTable (runs q.state) q.handles q.last
   pub living : (p : ℕ) (q : Process) → get w.processes p ≡ Some q → IsTrue (lives q.state) → HasItsObject w.objects p
+  pub tree : (k : ℕ) (o : Object) → get w.objects k ≡ Some o → StandsBelow w.objects k o.body
   pub blocked : (p : ℕ) → length (filter (λ q. q == p) w.blocked) ≡ (if is_process w is_blocked p then 1 else 0)
   pub peers : (k : ℕ) (o : Object) → get w.objects k ≡ Some o → HasPeer w.objects w.next_koid o.body
   pub raised : (k : ℕ) (o : Object) → get w.objects k ≡ Some o → IsTrue (within o.raised (raisable o.body))
@@ -242,6 +222,7 @@ nearly_sound w s = record {
   processes = s.processes;
   tables = s.tables;
   living = s.living;
+  tree = s.tree;
   blocked = s.blocked;
   peers = s.peers;
   raised = s.raised;
@@ -256,6 +237,7 @@ wholly_sound w live s = record {
   processes = s.processes;
   tables = s.tables;
   living = s.living;
+  tree = s.tree;
   blocked = s.blocked;
   peers = s.peers;
   raised = s.raised;
@@ -273,16 +255,24 @@ kept_by_change start u v before c s = record {
     | new y is n ↦ n.given
   ];
   tables = each_changed _ _ (λ k q. IsSoundTable (runs q.state) q.handles q.last) u.processes v.processes c.processes (λ k x y. by_process start v k x y before) (λ k y n. rw (n.empty, n.nothing_last) (empty_table (runs y.state))) s.tables;
-  living = each_changed _ _ (λ k q. IsTrue (lives q.state) → HasItsObject v.objects k) u.processes v.processes c.processes (λ k x y r has alive. has (lives_before start v k x y r alive)) (λ k y n alive. n.object before)
-      (λ p q there alive. object_stays start u v s.objects c p (s.living p q there alive));
+  living = λ p q there alive. elim (c.processes p) as (λ _. HasItsObject v.objects p) [
+    | same e ↦ object_stays start u v before s.objects c p q there alive (s.living p q (sym e ∙ there) alive)
+    | changed x y was is r ↦ object_stays start u v before s.objects c p q there alive (s.living p x was (lives_before start v p x y r (rw (same_Some y q (sym is ∙ there)) alive)))
+    | new y is n ↦ n.object before
+  ];
+  tree = λ k o at. elim (c.objects k) as (λ _. StandsBelow v.objects k o.body) [
+    | same e ↦ stands_on start u v before s.objects c k o at o.body refl (s.tree k o (sym e ∙ at))
+    | changed x y was is r ↦ stands_on start u v before s.objects c k o at o.body refl (subst (λ (z : Object). StandsBelow u.objects k z.body) (same_Some y o (sym is ∙ at)) (changed_stands start v u.objects k x y r (s.tree k x was)))
+    | new y is n ↦ subst (λ (z : Object). StandsBelow v.objects k z.body) (same_Some y o (sym is ∙ at)) (n.tree before)
+  ];
   blocked = λ p. elim (c.blocked before p) as (λ _. length (filter (λ q. q == p) v.blocked) ≡ (if is_process v is_blocked p then 1 else 0)) [
     | still count state ↦ count ∙ (s.blocked p ∙ ap (λ (b : Bool). if b then 1 else 0) (sym state))
     | awake count state ↦ count ∙ rw state refl
     | asleep count state ↦ count ∙ rw state refl
   ];
-  peers = each_changed _ _ (λ k o. HasPeer v.objects v.next_koid o.body) u.objects v.objects c.objects (λ k. peer_kept start v v.objects v.next_koid) (λ k y n. n.peer) (λ k o there. peer_stays start u v c o.body (s.peers k o there));
+  peers = each_changed _ _ (λ k o. HasPeer v.objects v.next_koid o.body) u.objects v.objects c.objects (λ k. peer_kept start v v.objects v.next_koid k) (λ k y n. n.peer) (λ k o there. peer_stays start u v c o.body (s.peers k o there));
   waits = waits_kept start u v before s.objects c s.waits;
-  raised = each_changed _ _ (λ k o. IsTrue (within o.raised (raisable o.body))) u.objects v.objects c.objects (λ k x y. by_object start v x y before) (λ k y n. rw n.unraised (none_raised (raisable y.body))) s.raised;
+  raised = each_changed _ _ (λ k o. IsTrue (within o.raised (raisable o.body))) u.objects v.objects c.objects (λ k x y. by_object start v k x y before) (λ k y n. rw n.unraised (none_raised (raisable y.body))) s.raised;
 }
 
 -- ---- settling
@@ -320,16 +310,44 @@ module _ (u : World) (K : Koids) (largest : IsLargestHeld u K) (p : ℕ) (x : Pr
       held_is_kept u K largest job (and_from _ _ job_there (or_right _ _ (list_any-get _ u.objects p o at
       (and_from (K p) _ kept_p (rw (is, there, eq-eqb job job refl) alive)))))
 
+-- a job that lives is there still, at its depth
+lives_settled : (m : Map Object) (K : Koids) (k depth : ℕ) → IsTrue (K k) → LivesAt m k depth → LivesAt (where_key K m) k depth
+lives_settled m K k depth kept l = record { parent = l.parent; policy = l.policy; there = ap body_in (get-where_key-in m K k kept) ∙ l.there }
+
 object_kept : (u : World) (K : Koids) → IsLargestHeld u K → IsNearlySound u → (p : ℕ) (x : Process) → get u.processes p ≡ Some x → IsTrue (lives (state_without (K p) x.state)) → HasItsObject (where_key K u.objects) p
 object_kept u K largest s p x there alive =
-    let both = lives_kept u K largest p x there (λ h. let has = s.living p x there h in has_body (get u.objects p) (ProcessBody has.0) has.1) alive in
-    let (job, is, job_there) = s.living p x there both.0 in
-    let kept_job : IsTrue (K job) = by_object job (get u.objects p) refl is job_there both in
-    (job, ap body_in (get-where_key-in u.objects K p both.1) ∙ is, rw (get-where_key-in u.objects K job kept_job) job_there)
+    let both = lives_kept u K largest p x there (λ h. let has = s.living p x there h in has_body (get u.objects p) (ProcessBody has.job) has.there) alive in
+    let has = s.living p x there both.0 in
+    let kept_job : IsTrue (K has.job) = by_object has (get u.objects p) refl has.there both in
+    record { job = has.job; there = ap body_in (get-where_key-in u.objects K p both.1) ∙ has.there; depth = has.depth; lives = lives_settled u.objects K has.job has.depth kept_job has.lives }
   where
-    by_object : (job : ℕ) (o : Option Object) → get u.objects p ≡ o → body_in o ≡ Some (ProcessBody job) → IsTrue (is_job_body (body_in (get u.objects job))) → IsTrue (lives x.state) × IsTrue (K p) → IsTrue (K job)
-    by_object job None at is job_there both = absurd (none-some _ is)
-    by_object job (Some o) at is job_there both = job_kept u K largest p x there job o at (same_Some o.body (ProcessBody job) is) (job_is_there (get u.objects job) job_there) both.0 both.1
+    by_object : (has : HasItsObject u.objects p) (o : Option Object) → get u.objects p ≡ o → body_in o ≡ Some (ProcessBody has.job) → IsTrue (lives x.state) × IsTrue (K p) → IsTrue (K has.job)
+    by_object has None at is both = absurd (none-some _ is)
+    by_object has (Some o) at is both = job_kept u K largest p x there has.job o at (same_Some o.body (ProcessBody has.job) is) (has_body (get u.objects has.job) _ has.lives.there) both.0 both.1
+
+-- the job above a living one that is kept is kept
+parent_kept : (u : World) (K : Koids) → IsLargestHeld u K → (k parent depth above : ℕ) (policy : Map Action) (o : Object) → get u.objects k ≡ Some o → o.body ≡ JobBody parent depth policy false → IsTrue (K k) → LivesAt u.objects parent above → IsTrue (K parent)
+unfolding is_held has_living_child
+parent_kept u K largest k parent depth above policy o at is kept l =
+    held_is_kept u K largest parent (and_from _ _ (has_body (get u.objects parent) _ l.there) (or_right _ _ (list_any-get _ u.objects k o at
+    (and_from (K k) _ kept (or_left (is_job_below parent o.body) _ (below o.body is))))))
+  where
+    below : (b : Body) → b ≡ JobBody parent depth policy false → is_job_below parent b ≡ true
+    below b here = rw (here, eq-eqb parent parent refl) refl
+
+stands_settled : (u : World) (K : Koids) → IsLargestHeld u K → (k : ℕ) (o : Object) → get u.objects k ≡ Some o → IsTrue (K k) → (b : Body) → o.body ≡ b → StandsBelow u.objects k b → StandsBelow (where_key K u.objects) k b
+stands_settled u K largest k o at kept (JobBody parent depth policy true) is h = record { later = h.later; shallow = h.shallow; policy_known = h.policy_known; above = λ e. absurd (true≢false e) }
+stands_settled u K largest k o at kept (JobBody parent depth policy false) is h = record {
+  later = h.later;
+  shallow = h.shallow;
+  policy_known = h.policy_known;
+  above = λ e. elim (h.above refl) as (λ _. IsBelow (where_key K u.objects) parent depth) [
+    | inl root ↦ inl root
+    | inr below ↦ inr (below.0, below.1, lives_settled u.objects K parent below.0 (parent_kept u K largest k parent depth below.0 policy o at is kept below.2) below.2)
+  ];
+}
+stands_settled u K largest k o at kept (ProcessBody job) is h = h
+stands_settled u K largest k o at kept _ is h = tt
 
 pub kept_by_settling : (u v : World) → Settles u v → IsNearlySound u → IsNearlySound v
 unfolding without_others is_process
@@ -340,6 +358,10 @@ kept_by_settling u v (K, largest, e) s = rw e (record {
   processes = λ p h. s.processes p (some_before p (get u.processes p) (sym (ap is_some (get-each u.processes (process_settled K) p)) ∙ h));
   tables = each_changed _ _ (λ k q. IsSoundTable (runs q.state) q.handles q.last) u.processes _ all (λ k x y is t. rw (is, (settled_state (K k) x.state).0) t) (λ k y none. absurd none) s.tables;
   living = λ p q there. by_process p q (get u.processes p) refl (sym (get-each u.processes (process_settled K) p) ∙ there);
+  tree = λ k o there. elim (cases_Bool (K k)) as (λ _. StandsBelow (where_key K u.objects) k o.body) [
+    | inl kept ↦ stands_settled u K largest k o (sym (get-where_key-in u.objects K k kept) ∙ there) kept o.body refl (s.tree k o (sym (get-where_key-in u.objects K k kept) ∙ there))
+    | inr gone ↦ absurd (none-some o (sym (get-where_key-out u.objects K k gone) ∙ there))
+  ];
   blocked = λ p. s.blocked p ∙ ap (λ (b : Bool). if b then 1 else 0) (sym (ap (state_passes is_blocked) (get-each u.processes (process_settled K) p) ∙ blocked_before p (get u.processes p)));
   peers = each_where_key (λ o. HasPeer (where_key K u.objects) u.next_koid o.body) u.objects (λ k o there. peer_settles u.objects u.next_koid K o.body (s.peers k o there)) K;
   waits = waits_settled u K s.waits;

@@ -1,11 +1,12 @@
 -- What steps keep, along runs and histories from a boot world.
-use Rattle.zl_code.proofs.Common.{◌≡◌, ◌<◌, arith, inl, inr, ℕ, false, ◌∙◌, All-nil, HasPeer, IsSoundWait, JobBody, with_object, ◌==◌, List, [], ◌∷◌, refl, subst, IsTrue, Option, Some, None, is_some, list_all, flat_map, cases_Bool, eqb-true, false≢true, none-some, same_Some, within, get, World, Object, is_process, queue_of, Library, Step, pid_of, single, IsLegalHistory, Boots, IsBoot, boot_effect, origin, HasGivenKoids, has_default_rights, HandlesAreSound, HandlesAreNamed, raisable, IsSound, KeepsProcesses, Runs}
+use Rattle.zl_code.proofs.Common.{on_object, ◌≡◌, ◌<◌, arith, inl, inr, ℕ, false, ◌∙◌, All-nil, HasPeer, IsSoundWait, JobBody, with_object, ◌==◌, List, [], ◌∷◌, refl, subst, IsTrue, Option, Some, None, is_some, list_all, flat_map, cases_Bool, eqb-true, false≢true, none-some, same_Some, within, get, World, Object, is_process, queue_of, Library, Step, pid_of, single, IsLegalHistory, Boots, IsBoot, boot_effect, origin, HasGivenKoids, has_default_rights, HandlesAreSound, HandlesAreNamed, raisable, IsSound, KeepsProcesses, Runs}
 use Rattle.zl_code.specs.declared.boot.Statement.{Statement}
 use Rattle.zl_code.specs.declared.history.TraceItem.{TraceItem}
 use Rattle.zl_code.specs.Koids.{KeepsKoids}
+use Rattle.zl_code.specs.Sound.{StandsBelow}
 use Rattle.zl_code.specs.Handles.{Throughout}
 use Rattle.zl_code.proofs.Changes.{Changes, kept}
-use Rattle.zl_code.proofs.StepChanges.{step_changes, settling_changes, boot_changes}
+use Rattle.zl_code.proofs.StepChanges.{NoneKilled, is_killed, boot_kills_none, step_changes, settling_changes, boot_changes}
 use Rattle.zl_code.proofs.StepsBeside.{ActsAndSettles}
 use Rattle.zl_code.proofs.HandlesKept.{sound_change, sound_settled}
 use Rattle.zl_code.proofs.NamesKept.{QueueNames, no_queue, named_change, named_settled}
@@ -64,19 +65,21 @@ settled_sound lib w p x after s step = wholly_sound after (live_settled step.act
 
 -- a boot registers no wait
 no_wait_booted : (lib : Library) (w : World) (s : Statement) (vs : List ℕ) → (boot_effect lib w s vs).waits ≡ w.waits
-unfolding boot_effect with_object
+unfolding boot_effect with_object on_object
 no_wait_booted lib w (statement.Process job program word handles) vs = refl
+no_wait_booted lib w (statement.Job parent) vs = refl
+no_wait_booted lib w (statement.Policy job condition action) vs = refl
 no_wait_booted lib w statement.Event vs = refl
 no_wait_booted lib w statement.Port vs = refl
 no_wait_booted lib w statement.Channel vs = refl
 
-boots_sound : (lib : Library) (w : World) (statements : List Statement) (after : World) → IsSound w → w.waits ≡ [] → Boots lib w statements after → IsSound after
-boots_sound lib w [] after s none e = rw e s
-boots_sound lib w (st ∷ statements) after s none (vs, fine, may, rest) =
+boots_sound : (lib : Library) (w : World) (statements : List Statement) (after : World) → IsSound w → NoneKilled w → w.waits ≡ [] → Boots lib w statements after → IsSound after
+boots_sound lib w [] after s alive none e = rw e s
+boots_sound lib w (st ∷ statements) after s alive none (vs, fine, may, rest) =
     let none_after : (boot_effect lib w st vs).waits ≡ [] = no_wait_booted lib w st vs ∙ none in
     boots_sound lib (boot_effect lib w st vs) statements after
-    (wholly_sound (boot_effect lib w st vs) (live_without (boot_effect lib w st vs) none_after) (nearly_kept w (boot_effect lib w st vs) (boot_changes lib w st vs s.objects fine may) s))
-    none_after rest
+    (wholly_sound (boot_effect lib w st vs) (live_without (boot_effect lib w st vs) none_after) (nearly_kept w (boot_effect lib w st vs) (boot_changes lib w st vs s.objects alive fine may) s))
+    (boot_kills_none lib w st vs alive) none_after rest
 
 -- the root job is alone in the world where a boot begins
 root_alone : (P : ℕ → Object → Type 0) → P 1 (record { body = JobBody 0 1 [] false; raised = 0 }) → (k : ℕ) (o : Object) → get origin.objects k ≡ Some o → P k o
@@ -105,6 +108,7 @@ origin_is_sound = record {
   tables = λ p q there. absurd (none-some q there);
   living = λ p q there. absurd (none-some q there);
   blocked = λ p. refl;
+  tree = root_alone (λ k o. StandsBelow origin.objects k o.body) (record { later = omega arith; shallow = omega arith; policy_known = refl; above = λ e. inl (refl, refl) });
   peers = root_alone (λ k o. HasPeer origin.objects 2 o.body) tt;
   waits = All-nil (IsSoundWait origin);
   raised = root_alone (λ k o. IsTrue (within o.raised (raisable o.body))) (none_raised (raisable (JobBody 0 1 [] false)));
@@ -116,7 +120,7 @@ origin_is_sound = record {
 
 pub boot_sound : (lib : Library) (statements : List Statement) (w : World) → IsBoot lib statements w → IsSound w
 boot_sound lib statements w boot =
-    wholly_sound w (live_settled boot.made w boot.settles) (kept_by_settling boot.made w boot.settles (nearly_sound boot.made (boots_sound lib origin statements boot.made origin_is_sound refl boot.boots)))
+    wholly_sound w (live_settled boot.made w boot.settles) (kept_by_settling boot.made w boot.settles (nearly_sound boot.made (boots_sound lib origin statements boot.made origin_is_sound (root_alone (λ k o. is_killed o.body ≡ false) refl) refl boot.boots)))
 
 -- ---- runs and histories from a boot world
 

@@ -1,5 +1,5 @@
 -- Which changes a step is made of: a call with its answer, a statement of a boot, and waking.
-use Rattle.zl_code.proofs.Common.{◌≡◌, ◌<◌, arith, ℕ, true, false, List, [], ◌∷◌, refl, ap, sym, IsTrue, Option, Some, None, eq-eqb, if◌then◌else◌, is_some, ne_eqb, get, put, World, Process, State, Ready, Blocked, Object, Body, EventBody, PortBody, ProcessBody, runs, wakes, fired, Library, Site, body_in, refusal, with_object, with_effect, gives_ok, gives_refused, taken_handles, may_choose, cpu_answered, replied, taken, ok_outcome, Choice, Refused, WantsMemory, Values, Next, Moves, AtCall, IsStuck, next_for, Acts, Step, boot_fault, boot_effect, is_job_body, IsSound, subst, ◌∙◌, All, and_parts, nat_tests, All-nil, Map, has_key, on_process, insert_all, process_with, has_default_rights, HasGivenKoids, ◌++◌, may_boot, update, meets, SignalOf, PacketAt, Packet, get-put, is_job, handle_given, handles_given, process_with_all, with_process, All-cons, active, packet_values, woken, made_ready, with_body, woken_by_first, woken_by, woken_at_port, woken_from, woken_if_there, after_refusal, after_ok, CallBy, created_process, started_with, fold, list_all, true≢false, IsSoundWait, none-some, slice_index_or, cases_Bool, inl, inr, eqb-true, ◌==◌}
+use Rattle.zl_code.proofs.Common.{◌||◌, on_object, update, not, queue_of, body_of, ◌+◌, ◌≡◌, ◌<◌, arith, ℕ, Bool, true, false, ChannelEnd, JobBody, List, [], ◌∷◌, refl, ap, sym, IsTrue, Option, Some, None, eq-eqb, if◌then◌else◌, is_some, ne_eqb, get, put, World, Process, State, Ready, Blocked, Object, Body, EventBody, PortBody, ProcessBody, runs, wakes, fired, Library, Site, body_in, refusal, with_object, with_effect, gives_ok, gives_refused, taken_handles, may_choose, cpu_answered, replied, taken, ok_outcome, Choice, Refused, WantsMemory, Values, Next, Moves, AtCall, IsStuck, next_for, Acts, Step, boot_fault, boot_effect, is_job_body, IsSound, subst, ◌∙◌, All, and_parts, nat_tests, All-nil, Map, has_key, on_process, insert_all, process_with, has_default_rights, HasGivenKoids, ◌++◌, may_boot, update, meets, SignalOf, PacketAt, Packet, get-put, is_job, handle_given, handles_given, process_with_all, with_process, All-cons, active, packet_values, woken, made_ready, with_body, woken_by_first, woken_by, woken_at_port, woken_from, woken_if_there, after_refusal, after_ok, CallBy, created_process, started_with, fold, list_all, true≢false, IsSoundWait, none-some, slice_index_or, cases_Bool, inl, inr, eqb-true, ◌==◌}
 use Rattle.std.specs.Option.{option_to_list}
 use Rattle.zl_rights.specs.declared.entry.Entry.{Entry}
 use Rattle.zl_rights.specs.declared.status.Status.{Status}
@@ -14,9 +14,17 @@ use Rattle.zl_code.specs.declared.boot.Statement.TheVariants as statement
 use Rattle.zl_code.specs.declared.history.Outcome.{Outcome}
 use Rattle.zl_code.specs.declared.history.Outcome.TheVariants as outcome
 use Rattle.zl_code.specs.declared.history.TraceItem.{TraceItem}
-use Rattle.zl_code.proofs.CanStart.{CanStart, can_start, handles_at_most, started_with_all, started_may_get}
-use Rattle.zl_code.proofs.MapKept.{changed}
-use Rattle.zl_code.proofs.Changes.{AreUnmade, computes, Changes, stays, changes, settles, join, one, process_changes, process_ends, process_wakes, process_blocks, process_is_made, object_is_made, ends_are_made, packet_goes, waits_fire}
+use Rattle.zl_rights.specs.declared.policy.Condition.{Condition}
+use Rattle.zl_code.specs.declared.boot.BootCause.TheVariants as cause
+use Rattle.zl_code.specs.Boot.{lacks_koids, setting}
+use Rattle.zl_code.specs.Jobs.{body_with_policy, has_child, is_dead, is_deepest, job_within, policy_changed}
+use Rattle.zl_code.specs.Sound.{StandsBelow}
+use Rattle.std.proofs.lemmas.Bool.{not-false, or_parts}
+use Rattle.zl_code.proofs.Killing.{new_job_stands}
+use Rattle.zl_code.proofs.CanStart.{none_first, CanStart, can_start, handles_at_most, started_with_all, started_may_get}
+use Rattle.zl_rights.specs.declared.policy.Action.{Action}
+use Rattle.zl_code.proofs.MapKept.{changed, changed_update, each_changed, each_put}
+use Rattle.zl_code.proofs.Changes.{AreUnmade, computes, Changes, stays, changes, settles, join, one, process_changes, process_ends, process_wakes, process_blocks, process_is_made, object_changes, policy_changes, object_is_made, ends_are_made, packet_goes, waits_fire}
 use Rattle.zl_code.proofs.Entering.{IsFine, all_enter, all_leave, left_behind}
 use Rattle.zl_code.proofs.CallLaws.{laws}
 use Rattle.zl_code.proofs.StepsBeside.{ActsAndSettles}
@@ -152,16 +160,79 @@ nothing_made w k v s gone i d inside = one (slice_index_or w.waits i d) (s.waits
       | inr other ↦ rw other refl
     ]
 
-pub boot_changes : (lib : Library) (w : World) (s : Statement) (vs : List ℕ) → HasGivenKoids w → boot_fault lib w s ≡ None → IsTrue (may_boot lib w s vs) → Changes w w (boot_effect lib w s vs)
+-- a job that was killed
+abbrev pub is_killed : Body → Bool
+is_killed (JobBody parent depth policy killed) = killed
+is_killed b = false
+
+-- no job was killed yet
+abbrev pub NoneKilled : World → Type 0
+NoneKilled w = (k : ℕ) (o : Object) → get w.objects k ≡ Some o → is_killed o.body ≡ false
+
+-- a new object that is no killed job leaves it so
+none_killed_beside : (w : World) (b : Body) → is_killed b ≡ false → NoneKilled w → NoneKilled (with_object w b)
+unfolding with_object
+none_killed_beside w b alive none k o there = each_put (λ (x : Object). is_killed x.body ≡ false) w.objects none w.next_koid (record { body = b; raised = 0 }) alive k o there
+
+pub boot_kills_none : (lib : Library) (w : World) (s : Statement) (vs : List ℕ) → NoneKilled w → NoneKilled (boot_effect lib w s vs)
+unfolding boot_effect on_object
+boot_kills_none lib w (statement.Process job program word handles) vs none = none_killed_beside w (ProcessBody job) refl none
+boot_kills_none lib w (statement.Job parent) vs none = none_killed_beside w (job_within parent (body_of w parent)) refl none
+boot_kills_none lib w (statement.Policy job condition action) vs none = λ k o there.
+    each_changed (λ j x y. y ≡ policy_changed (setting condition action) x) (λ j y. ⊥) (λ j x. is_killed x.body ≡ false) w.objects (update w.objects job (policy_changed (setting condition action)))
+    (changed_update _ _ w.objects job (policy_changed (setting condition action)) (λ x at. changed x _ refl refl refl))
+    (λ j x y is alive. rw is (set_alive x.body alive)) (λ j y none2. absurd none2) none k o there
+  where
+    set_alive : (b : Body) → is_killed b ≡ false → is_killed (body_with_policy (setting condition action) b) ≡ false
+    set_alive (JobBody parent depth policy killed) h = h
+    set_alive _ h = refl
+boot_kills_none lib w statement.Event vs none = none_killed_beside w EventBody refl none
+boot_kills_none lib w statement.Port vs none = none_killed_beside w (PortBody []) refl none
+boot_kills_none lib w statement.Channel vs none =
+    none_killed_beside (with_object w (ChannelEnd (w.next_koid + 1) [])) (ChannelEnd w.next_koid []) refl (none_killed_beside w (ChannelEnd (w.next_koid + 1) []) refl none)
+
+-- nothing lives in the job whose policy a statement sets
+no_child_booted : (lib : Library) (w : World) (job : ℕ) (condition : Condition) (action : Action) → boot_fault lib w (statement.Policy job condition action) ≡ None → has_child w job ≡ false
+unfolding boot_fault
+no_child_booted lib w job condition action fine =
+    let first = none_first (not (is_job w job)) cause.Unknown _ fine in
+    (none_first (has_child w job) cause.BadState _ first.1).0
+
+job_is_quiet : (k : ℕ) (above : Option Body) → queue_of (job_within k above) ≡ []
+job_is_quiet k above = refl
+
+-- a job that a statement makes stands below its parent, which lives
+boot_job_stands : (lib : Library) (w : World) (parent : ℕ) → boot_fault lib w (statement.Job parent) ≡ None → NoneKilled w → IsSound w
+    → StandsBelow (with_object w (job_within parent (body_of w parent))).objects w.next_koid (job_within parent (body_of w parent))
+unfolding boot_fault
+boot_job_stands lib w parent fine none s =
+    let first = none_first (not (is_job w parent)) cause.Unknown _ fine in
+    let second = none_first (is_deepest (body_of w parent) || lacks_koids w (statement.Job parent)) cause.Limit _ first.1 in
+    new_job_stands w parent (living (get w.objects parent) refl (not-false _ first.0)) (or_parts (is_deepest (body_of w parent)) _ second.0).0 s
+  where
+    living : (o : Option Object) → get w.objects parent ≡ o → is_job_body (body_in o) ≡ true → is_dead (body_in o) ≡ false
+    living None at h = absurd (true≢false (sym h))
+    living (Some o) at h = by_body o.body refl h
+      where
+        by_body : (b : Body) → o.body ≡ b → is_job_body (Some b) ≡ true → is_dead (Some b) ≡ false
+        by_body (JobBody up depth policy killed) is h2 = sym (ap is_killed is) ∙ none parent o at
+        by_body _ is h2 = absurd (true≢false (sym h2))
+
+pub boot_changes : (lib : Library) (w : World) (s : Statement) (vs : List ℕ) → HasGivenKoids w → NoneKilled w → boot_fault lib w s ≡ None → IsTrue (may_boot lib w s vs) → Changes w w (boot_effect lib w s vs)
 unfolding boot_effect with_object
-boot_changes lib w (statement.Process job program word handles) vs given fine may =
-    changes w made _ (object_is_made w w (ProcessBody job) refl tt)
+boot_changes lib w (statement.Process job program word handles) vs given none fine may =
+    changes w made _ (object_is_made w w (ProcessBody job) refl tt (λ s. given.below job (job_is_there (get w.objects job) can.in_job)))
     (changes made begun _ (process_is_made w made w.next_koid first (record {
       free = λ s. no_process s (get w.processes w.next_koid) refl;
       given = omega arith;
       empty = refl;
       nothing_last = refl;
-      object = λ s. (job, rw (get-put w.objects w.next_koid new_object w.next_koid, eq-eqb w.next_koid w.next_koid refl) refl, rw same_job can.in_job);
+      object = λ s. record {
+        job = job;
+        there = rw (get-put w.objects w.next_koid new_object w.next_koid, eq-eqb w.next_koid w.next_koid refl) refl;
+        depth = alive.0;
+        lives = record { parent = alive.1; policy = alive.2; there = alive.3 };
+      };
     }) refl)
     (subst (λ (x : World). Changes w begun x) (made_with_all made w.next_koid first es vs ∙ ap (with_process made w.next_koid) (started_with_all es vs vs word (created_process lib program)))
     (all_enter w begun w.next_koid first es vs (λ s. there) refl (rw (started_may_get es vs vs word (created_process lib program)) may) (λ s. omega (arith, can.few, handles_at_most w.objects handles)) (record { free = λ s v none. nothing_made w w.next_koid v s (no_process s (get w.processes w.next_koid) refl); last = λ s v is. absurd (none-some v is) })
@@ -196,8 +267,24 @@ boot_changes lib w (statement.Process job program word handles) vs given fine ma
     stays : (k : ℕ) → IsTrue (has_key w.objects k) → get made.objects k ≡ get w.objects k
     stays k old = let below : k < w.next_koid = given.below k old in get-put w.objects w.next_koid new_object k ∙ rw (ne_eqb w.next_koid k (λ e. omega arith)) refl
 
-    same_job : is_job_body (body_in (get made.objects job)) ≡ is_job w job
-    same_job = ap (λ o. is_job_body (body_in o)) (stays job (job_is_there (get w.objects job) can.in_job))
-boot_changes lib w statement.Event vs given fine may = one w w _ (object_is_made w w EventBody refl tt)
-boot_changes lib w statement.Port vs given fine may = one w w _ (object_is_made w w (PortBody []) refl tt)
-boot_changes lib w statement.Channel vs given fine may = one w w _ (ends_are_made w w w.next_koid refl)
+    -- its job is there beside it, and lives
+    alive : (depth : ℕ) × (parent : ℕ) × (policy : Map Action) × (body_in (get made.objects job) ≡ Some (JobBody parent depth policy false))
+    alive = by_object (get w.objects job) refl can.in_job
+      where
+        by_body : (o : Object) (b : Body) → get w.objects job ≡ Some o → o.body ≡ b → IsTrue (is_job_body (Some b))
+            → (depth : ℕ) × (parent : ℕ) × (policy : Map Action) × (body_in (get made.objects job) ≡ Some (JobBody parent depth policy false))
+        by_body o (JobBody parent depth policy false) at is h = (depth, parent, policy, ap body_in (stays job (ap is_some at) ∙ at) ∙ ap Some is)
+        by_body o (JobBody parent depth policy true) at is h = absurd (true≢false (sym (ap is_killed is) ∙ none job o at))
+        by_body o _ at is h = absurd (true≢false (sym h))
+
+        by_object : (o : Option Object) → get w.objects job ≡ o → IsTrue (is_job_body (body_in o))
+            → (depth : ℕ) × (parent : ℕ) × (policy : Map Action) × (body_in (get made.objects job) ≡ Some (JobBody parent depth policy false))
+        by_object None at h = absurd (true≢false (sym h))
+        by_object (Some o) at h = by_body o o.body at refl h
+boot_changes lib w (statement.Job parent) vs given none fine may =
+    one w w _ (object_is_made w w (job_within parent (body_of w parent)) (job_is_quiet parent (body_of w parent)) tt (λ s. boot_job_stands lib w parent fine none s))
+boot_changes lib w (statement.Policy job condition action) vs given none fine may =
+    one w w _ (object_changes w w job (policy_changed (setting condition action)) (λ o at. policy_changes (setting condition action) refl (λ s. no_child_booted lib w job condition action fine)))
+boot_changes lib w statement.Event vs given none fine may = one w w _ (object_is_made w w EventBody refl tt (λ s. tt))
+boot_changes lib w statement.Port vs given none fine may = one w w _ (object_is_made w w (PortBody []) refl tt (λ s. tt))
+boot_changes lib w statement.Channel vs given none fine may = one w w _ (ends_are_made w w w.next_koid refl)

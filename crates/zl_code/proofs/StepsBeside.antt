@@ -8,7 +8,7 @@ use Rattle.zl_code.specs.declared.history.Outcome.{Outcome}
 use Rattle.zl_code.specs.declared.history.Outcome.TheVariants as outcome
 use Rattle.zl_code.specs.declared.history.TraceItem.{TraceItem}
 use Rattle.zl_code.specs.declared.history.TraceItem.TheVariants as item
-use Rattle.zl_code.specs.CallTable.{awaited_by, wait_async, wait_one, port_wait, port_cancel}
+use Rattle.zl_code.specs.CallTable.{awaited_by, wait_async, wait_one, port_wait, port_cancel, task_kill}
 use Rattle.zl_code.specs.Effects.{waiting}
 use Rattle.zl_code.proofs.Waiters.{with_waiters, looks_at_waits, waits_after, blocked_after, is_blocking, refusal_same, awaited_same, chosen_among, call_among, calls_among}
 
@@ -86,6 +86,7 @@ module _ (lib : Library) (w : World) (p : ℕ) (q : Process) (there : get w.proc
   looks_at_none : (r : Request) (awaited : Awaited) → awaited_by w p r ≡ Some awaited → looks_at_waits r ≡ false
   looks_at_none (wait_async h port key mask) awaited is = absurd (none-some awaited is)
   looks_at_none (port_cancel port source key) awaited is = absurd (none-some awaited is)
+  looks_at_none (task_kill task) awaited is = absurd (none-some awaited is)
   looks_at_none _ awaited is = refl
 
   -- the process waits, the last of the blocked

@@ -1,4 +1,4 @@
--- No call but wait_async and port_cancel looks at registered waits or at blocked processes: it does the same whatever waits beside it.
+-- No call but wait_async, port_cancel and task_kill looks at registered waits or at blocked processes: it does the same whatever waits beside it.
 use Rattle.zl_code.proofs.Common.{◌≡◌, ℕ, ℤ, Bool, true, false, not, ◌==◌, ◌&&◌, List, [], ◌∷◌, filter, refl, ap, sym, ◌∙◌, Option, Some, None, true≢false, World, Library, Site, Request, chan_read_etc, close, replace, effect, new_handles, gives_ok, gives_refused, taken_handles, may_choose, replied, taken, with_effect, ok_outcome, after_ok, after_refusal, CallBy, Choice, Refused, WantsMemory, Values, Calls, handles_to, listed, refusal, examined, operand, has_room, has_koids, creates, by_policy, Operand, operand_after, seen_after, handle_operands, first_some, on_process, on_object, with_object, insert_all, remove_all, process_with, process_without, ended, gets_all, is_process, active, has_child_job, has_child_process, get, is_empty, copy_of, entry_at, answer_if, operand_of, by_look_up, faults, ends_if_kill, action_of, parent_of, unless_allowed, contains, bits, within, takes, if◌then◌else◌, Ok, Err}
 use Rattle.zl_rights.specs.declared.entry.Entry.{Entry}
 use Rattle.zl_rights.specs.declared.kind.Kind.{Kind}
@@ -11,7 +11,7 @@ use Rattle.zl_rights.specs.declared.status.Status.TheVariants as status
 use Rattle.zl_rights.specs.World.{Wait}
 use Rattle.zl_code.specs.declared.history.Outcome.{Outcome}
 use Rattle.zl_code.specs.declared.history.Outcome.TheVariants as outcome
-use Rattle.zl_code.specs.CallTable.{awaited_by, choosing, entering_at, outcome_of, stored_by, wait_async, wait_one, wait_poll, port_cancel}
+use Rattle.zl_code.specs.CallTable.{awaited_by, choosing, ends_caller, entering_at, outcome_of, receiver_of, stored_by, task_kill, wait_async, wait_one, wait_poll, port_cancel}
 use Rattle.zl_code.specs.Effects.{storing}
 use Rattle.zl_code.specs.Refusals.{condition_of}
 
@@ -19,10 +19,11 @@ use Rattle.zl_code.specs.Refusals.{condition_of}
 abbrev pub with_waiters : World → (waits : List Wait) (made : ℕ) (blocked : List ℕ) → World
 with_waiters w waits made blocked = record w { waits = waits; waits_made = made; blocked = blocked }
 
--- the calls that look at the waits, or at how many were made
+-- the calls that look at the waits, or at how many were made, or end others that may be blocked
 abbrev pub looks_at_waits : Request → Bool
 looks_at_waits (wait_async h port key mask) = true
 looks_at_waits (port_cancel port source key) = true
+looks_at_waits (task_kill task) = true
 looks_at_waits _ = false
 
 -- ---- its answers
@@ -63,6 +64,14 @@ module _ (lib : Library) (w : World) (p : ℕ) (ws : List Wait) (n : ℕ) (b : L
   unfolding new_handles
   handles_same (close h) = refl
   handles_same _ = refl
+
+  receiver_same : (r : Request) → receiver_of among p r ≡ receiver_of w p r
+  receiver_same (close h) = refl
+  receiver_same _ = refl
+
+  ends_same : (r : Request) → ends_caller among p r ≡ ends_caller w p r
+  ends_same (close h) = refl
+  ends_same _ = refl
 
   choosing_same : (r : Request) → choosing among p r ≡ choosing w p r
   unfolding new_handles
@@ -123,19 +132,20 @@ module _ (p : ℕ) (ws : List Wait) (n : ℕ) (b : List ℕ) where
 
 module _ (lib : Library) (w : World) (p : ℕ) (ws : List Wait) (n : ℕ) (b : List ℕ) where
   -- the effect is the same; of the waits, just replace ends some
-  pub effect_among : (u : World) (r : Request) → looks_at_waits r ≡ false → effect lib (with_waiters w ws n b) (with_waiters u ws n b) p r ≡ with_waiters (effect lib w u p r) (waits_left r p ws) n b
-  unfolding effect on_object with_object
-  effect_among u (wait_async h port key mask) looks = absurd (true≢false looks)
-  effect_among u (port_cancel port source key) looks = absurd (true≢false looks)
-  effect_among u (replace h rights) looks = refl
-  effect_among u _ looks = refl
+  pub effect_among : (u : World) (r : Request) → looks_at_waits r ≡ false → (vs : List ℕ) → effect lib (with_waiters w ws n b) (with_waiters u ws n b) p r vs ≡ with_waiters (effect lib w u p r vs) (waits_left r p ws) n b
+  unfolding effect on_object on_process with_object
+  effect_among u (wait_async h port key mask) looks vs = absurd (true≢false looks)
+  effect_among u (port_cancel port source key) looks vs = absurd (true≢false looks)
+  effect_among u (task_kill task) looks vs = absurd (true≢false looks)
+  effect_among u (replace h rights) looks vs = refl
+  effect_among u _ looks vs = refl
 
   -- so is all that it does but for the answer
   pub with_effect_among : (u : World) (r : Request) (vs : List ℕ) → looks_at_waits r ≡ false
       → with_effect lib (with_waiters w ws n b) (with_waiters u ws n b) p r vs ≡ with_waiters (with_effect lib w u p r vs) (waits_left r p ws) n b
   with_effect_among u r vs looks =
-      (λ i. storing (insert_all (effect_among u r looks i) p (handles_same lib w p ws n b r i) (entering_at r vs)) p (stored_same lib w p ws n b r i))
-      ∙ (ap (λ v. storing v p (stored_by w p r)) (insert_among p (waits_left r p ws) n b (effect lib w u p r) (new_handles w p r) (entering_at r vs))
+      (λ i. storing (insert_all (effect_among u r looks vs i) (receiver_same lib w p ws n b r i) (handles_same lib w p ws n b r i) (entering_at r vs)) p (stored_same lib w p ws n b r i))
+      ∙ (ap (λ v. storing v p (stored_by w p r)) (insert_among (receiver_of w p r) (waits_left r p ws) n b (effect lib w u p r vs) (new_handles w p r) (entering_at r vs))
       ∙ storing_among p (waits_left r p ws) n b _ (stored_by w p r))
 
 -- ---- the call
@@ -247,10 +257,10 @@ module _ (lib : Library) (w : World) (p : ℕ) where
     -- the same values may be chosen
     pub chosen_among : (vs : List ℕ) → may_choose w (taken w p s) p s.request vs ≡ may_choose (with_waiters w ws n b) (taken (with_waiters w ws n b) p s) p s.request vs
     unfolding may_choose
-    chosen_among vs = λ i. gets_all (get (sym taken_among i).processes p) (sym (choosing_same lib w p ws n b s.request) i) vs
+    chosen_among vs = λ i. gets_all (get (sym taken_among i).processes (sym (receiver_same lib w p ws n b s.request) i)) (sym (choosing_same lib w p ws n b s.request) i) vs
 
     outcome_same : ok_outcome w p s.request ≡ ok_outcome (with_waiters w ws n b) p s.request
-    outcome_same = ap (λ a. outcome_of a s.request) (sym (awaited_same lib w p ws n b s.request))
+    outcome_same = λ i. outcome_of (sym (awaited_same lib w p ws n b s.request) i) (sym (ends_same lib w p ws n b s.request) i)
 
     by_among : (choice : Choice) (r : Option Outcome) (o : Outcome) (w2 : World) → refusal lib w p s.request ≡ r → is_blocking o ≡ false → CallBy lib w p s choice r o w2
         → CallBy lib (with_waiters w ws n b) p s choice r o (with_waiters w2 (waits_after s.request o p ws) n (blocked_after o p b))

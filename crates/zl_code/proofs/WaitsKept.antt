@@ -5,23 +5,36 @@ use Rattle.zl_rights.specs.declared.entry.Entry.{Entry}
 use Rattle.zl_rights.specs.World.{Wait}
 use Rattle.zl_rights.specs.Settle.{has_handle}
 use Rattle.zl_rights.proofs.Waking.{turns-later}
+use Rattle.zl_rights.specs.Policies.{Setting}
 use Rattle.zl_code.specs.Effects.{body_with_message, body_after_read}
+use Rattle.zl_code.specs.Jobs.{body_killed, body_with_policy}
 use Rattle.zl_code.specs.Waiting.{is_by_handle}
 use Rattle.zl_code.proofs.MapKept.{same, changed, new}
-use Rattle.zl_code.proofs.Changes.{IsWait, AreUnmade, alike, fewer, begins, ProcessChange, handle_enters, handle_leaves, computes, ends, wakes as wakes_up, blocks, ObjectChange, signals_change, packets_change, message_comes, message_goes, Change}
+use Rattle.zl_code.proofs.Changes.{IsWait, AreUnmade, alike, fewer, begins, ProcessChange, handle_enters, handle_leaves, computes, ends, wakes as wakes_up, starts, blocks, ObjectChange, signals_change, packets_change, message_comes, message_goes, policy_changes, dies, Change}
 
 -- ---- within a step
 
+-- a port has no policy, and isn't killed
+port_set : (s : Option Setting) (b : Body) → IsTrue (is_port_there (Some b)) → IsTrue (is_port_there (Some (body_with_policy s b)))
+port_set s (PortBody packets) h = refl
+port_set s _ h = absurd (false≢true h)
+
+port_killed : (b : Body) → IsTrue (is_port_there (Some b)) → IsTrue (is_port_there (Some (body_killed b)))
+port_killed (PortBody packets) h = refl
+port_killed _ h = absurd (false≢true h)
+
 -- a port stays one
-port_stays : (start after : World) (x y : Object) → ObjectChange start after x y → IsTrue (is_port_there (Some x.body)) → IsTrue (is_port_there (Some y.body))
-port_stays start after x y (signals_change clear set is may) t = rw is t
-port_stays start after x y (packets_change old packets port is) t = rw is refl
-port_stays start after x y (message_comes message is may) t = rw is (sent x.body t)
+port_stays : (start after : World) (k : ℕ) (x y : Object) → ObjectChange start after k x y → IsTrue (is_port_there (Some x.body)) → IsTrue (is_port_there (Some y.body))
+port_stays start after k x y (signals_change clear set is may) t = rw is t
+port_stays start after k x y (packets_change old packets port is) t = rw is refl
+port_stays start after k x y (policy_changes s is may) t = rw is (port_set s x.body t)
+port_stays start after k x y (dies is may) t = rw is (port_killed x.body t)
+port_stays start after k x y (message_comes message is may) t = rw is (sent x.body t)
   where
     sent : (b : Body) → IsTrue (is_port_there (Some b)) → IsTrue (is_port_there (Some (body_with_message message b)))
     sent (PortBody packets) h = refl
     sent _ h = absurd (false≢true h)
-port_stays start after x y (message_goes is) t = rw is (read x.body t)
+port_stays start after k x y (message_goes is) t = rw is (read x.body t)
   where
     read : (b : Body) → IsTrue (is_port_there (Some b)) → IsTrue (is_port_there (Some (body_after_read b)))
     read (PortBody packets) h = refl
@@ -34,7 +47,7 @@ some_port (Some o) h = refl
 port_kept : (start u v : World) → HasGivenKoids u → Change start u v → (k : ℕ) → IsTrue (is_port_there (body_of u k)) → IsTrue (is_port_there (body_of v k))
 port_kept start u v given c k there = elim (c.objects k) as (λ _. IsTrue (is_port_there (body_of v k))) [
   | same e ↦ rw e there
-  | changed x y was is r ↦ rw is (port_stays start v x y r (rw was at there))
+  | changed x y was is r ↦ rw is (port_stays start v k x y r (rw was at there))
   | new y is n ↦ let below : k < u.next_koid = given.below k (some_port (get u.objects k) there) in absurd (omega (arith, n.next))
 ]
 
@@ -54,6 +67,7 @@ entry_before start v p n x y e s (handle_leaves j is there) at made = by_key (n 
 entry_before start v p n x y e s (computes c is) at made = rw is at at
 entry_before start v p n x y e s (ends code is) at made = absurd (none-some e (rw is at at))
 entry_before start v p n x y e s (wakes_up c is running) at made = rw is at at
+entry_before start v p n x y e s (starts c is created) at made = rw is at at
 entry_before start v p n x y e s (blocks awaited ds is running) at made = rw is at at
 
 module _ (start u v : World) (s : IsSound start) (given : HasGivenKoids u) (c : Change start u v) where

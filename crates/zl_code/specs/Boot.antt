@@ -13,9 +13,14 @@ use Rattle.zl_code.specs.declared.boot.Statement.TheVariants as statement
 use Rattle.zl_code.specs.declared.boot.BootCause.{BootCause}
 use Rattle.zl_code.specs.declared.boot.BootCause.TheVariants as cause
 use Rattle.zl_code.specs.Image.{Library}
-use Rattle.zl_code.specs.Tests.{body_in, body_of}
+use Rattle.zl_rights.specs.Policies.{Setting}
+use Rattle.zl_rights.specs.declared.policy.Condition.{Condition}
+use Rattle.zl_rights.specs.declared.policy.Action.{Action}
+use Rattle.zl_rights.specs.declared.policy.Mode.TheVariants as mode
+use Rattle.zl_code.specs.Jobs.{has_child, is_conflict, is_deepest, job_within, policy_changed}
+use Rattle.zl_code.specs.Tests.{body_in, body_of, policy_in}
 use Rattle.zl_code.specs.Handles.{has_default_rights}
-use Rattle.zl_code.specs.Effects.{with_object, with_process, process_with, may_get_all}
+use Rattle.zl_code.specs.Effects.{on_object, with_object, with_process, process_with, may_get_all}
 use Rattle.zl_code.specs.Starting.{created_process, started_with}
 
 -- ---- limits
@@ -74,6 +79,8 @@ is_job w k = is_job_body (body_of w k)
 
 -- how many koids the statement takes: one for each object that it makes
 abbrev pub koids_of : Statement → ℕ
+koids_of (statement.Job parent) = 1
+koids_of (statement.Policy job condition action) = 0
 koids_of (statement.Process job program word handles) = 1
 koids_of statement.Event = 1
 koids_of statement.Port = 1
@@ -83,9 +90,22 @@ koids_of statement.Channel = 2
 abbrev pub lacks_koids : World → Statement → Bool
 lacks_koids w s = nat_lt (MOST_KOIDS + 1) (w.next_koid + koids_of s)
 
--- why the statement can't be done: no such job, program or object; no handles to start with;
--- one process too many, or too few koids are left
+-- what a statement sets in the policy of a job, which it does in the mode that refuses conflicts
+abbrev pub setting : Condition → Action → Option Setting
+setting condition action = Some (record { mode = mode.Absolute; condition = condition; action = action })
+
+-- why the statement can't be done: no such job, program or object; no handles to start with; a child lives in the job
+-- whose policy is set, or the policy has another action; one process or one level of jobs too many, or too few koids are left
 unfoldable pub boot_fault : Library → World → Statement → Option BootCause
+boot_fault lib w (statement.Job parent) = first_some (
+    then_some (not (is_job w parent)) cause.Unknown
+    ∷ then_some (is_deepest (body_of w parent) || lacks_koids w (statement.Job parent)) cause.Limit
+    ∷ [])
+boot_fault lib w (statement.Policy job condition action) = first_some (
+    then_some (not (is_job w job)) cause.Unknown
+    ∷ then_some (has_child w job) cause.BadState
+    ∷ then_some (is_conflict (policy_in (body_of w job)) (setting condition action)) cause.Conflict
+    ∷ [])
 boot_fault lib w (statement.Process job program word handles) = first_some (
     then_some (not (is_job w job && (is_some (slice_get lib program) && all_known w.objects handles))) cause.Unknown
     ∷ then_some (not (may_start_with handles (handles_given w.objects handles))) cause.BadHandleList
@@ -98,6 +118,8 @@ boot_fault lib w statement.Channel = then_some (lacks_koids w statement.Channel)
 -- these values may be given to the handles of the statement, one after another
 abbrev pub may_boot : Library → World → Statement → List ℕ → Bool
 may_boot lib w (statement.Process job program word handles) vs = may_get_all (created_process lib program) (handles_given w.objects handles) vs
+may_boot lib w (statement.Job parent) vs = is_empty vs
+may_boot lib w (statement.Policy job condition action) vs = is_empty vs
 may_boot lib w statement.Event vs = is_empty vs
 may_boot lib w statement.Port vs = is_empty vs
 may_boot lib w statement.Channel vs = is_empty vs
@@ -116,6 +138,8 @@ started_process lib program es vs word = started_with vs word (process_with_all 
 unfoldable pub boot_effect : Library → World → Statement → List ℕ → World
 boot_effect lib w (statement.Process job program word handles) vs =
     with_process (with_object w (ProcessBody job)) w.next_koid (started_process lib program (handles_given w.objects handles) vs word)
+boot_effect lib w (statement.Job parent) vs = with_object w (job_within parent (body_of w parent))
+boot_effect lib w (statement.Policy job condition action) vs = on_object w job (policy_changed (setting condition action))
 boot_effect lib w statement.Event vs = with_object w EventBody
 boot_effect lib w statement.Port vs = with_object w (PortBody [])
 boot_effect lib w statement.Channel vs =
@@ -148,6 +172,8 @@ values_given lib w (s ∷ ss) w2 (vs, fine, may, rest) = vs ∷ values_given lib
 -- the statement gives no handle
 abbrev pub gives_no_handle : Statement → Bool
 gives_no_handle (statement.Process job program word handles) = is_empty handles
+gives_no_handle (statement.Job parent) = true
+gives_no_handle (statement.Policy job condition action) = true
 gives_no_handle statement.Event = true
 gives_no_handle statement.Port = true
 gives_no_handle statement.Channel = true

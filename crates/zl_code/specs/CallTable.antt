@@ -1,21 +1,25 @@
 -- The table of calls, column by column: all that the definitions say of one call alone, beside its row of the table of instructions.
-use Rattle.std.specs.Prelude.{ℕ, ◌+◌, ◌^◌, ◌&&◌, ◌||◌, not, nat_le, List, [], ◌∷◌, ◌++◌, length, Option, Some, None, is_some, slice_get}
-use Rattle.zl_rights.specs.Common.{World, ChannelEnd, EventBody, PortBody, ProcessBody, has_key, is_empty}
+use Rattle.std.specs.Prelude.{ℕ, ℤ, ◌+◌, ◌^◌, ◌&&◌, ◌||◌, not, nat_le, List, [], ◌∷◌, ◌++◌, length, Option, Some, None, is_some, slice_get}
+use Rattle.std.specs.Bool.{then_some}
+use Rattle.std.specs.Option.{option_to_list}
+use Rattle.zl_rights.specs.Common.{World, ChannelEnd, EventBody, PortBody, ProcessBody, has_key, is_empty, is_process}
 use Rattle.zl_rights.specs.declared.kind.Kind.TheVariants as kind
 use Rattle.zl_rights.specs.declared.status.Status.{Status}
 use Rattle.zl_rights.specs.declared.status.Status.TheVariants as status
 use Rattle.zl_rights.specs.declared.entry.Entry.{Entry}
 use Rattle.zl_rights.specs.Counts.{handles_to}
+use Rattle.zl_rights.specs.Numbers.{KILLED}
+use Rattle.zl_rights.specs.Policies.{setting_of}
 use Rattle.zl_rights.specs.World.{Awaited}
 use Rattle.zl_code.specs.declared.history.CallName.{CallName}
 use Rattle.zl_code.specs.declared.history.CallName.TheVariants as name
 use Rattle.zl_code.specs.declared.history.Outcome.{Outcome}
 use Rattle.zl_code.specs.declared.history.Outcome.TheVariants as outcome
 use Rattle.zl_code.specs.Image.{Library}
-use Rattle.zl_code.specs.Tests.{answer_if, entry_at, object_at, body_of, may_change, has_room, has_koids, copy_of, contains, is_too_large, has_place_for, peer_at, queue_at, first_bytes, first_handles, sizes_of, entries_at}
-use Rattle.zl_code.specs.Effects.{on_object, with_object, with_process, new_entry, object_changed, message_sent, message_read, told_of, without_waits, signed_word}
-use Rattle.zl_code.specs.Starting.{created_process}
-use Rattle.zl_code.specs.Jobs.{is_dead, is_deepest, job_within, lacks_need}
+use Rattle.zl_code.specs.Tests.{answer_if, entry_at, object_at, body_of, may_change, has_room, has_koids, copy_of, contains, is_too_large, has_place_for, peer_at, policy_in, queue_at, first_bytes, first_handles, sizes_of, entries_at}
+use Rattle.zl_code.specs.Effects.{on_object, on_process, with_object, with_process, new_entry, object_changed, message_sent, message_read, told_of, without_waits, signed_word}
+use Rattle.zl_code.specs.Starting.{created_process, is_created, program_of, started_with}
+use Rattle.zl_code.specs.Jobs.{is_dead, is_deepest, job_within, lacks_need, misfits, has_child, is_conflict, policy_changed, is_within, with_killed}
 use Rattle.zl_code.specs.Waiting.{is_mask, active_at, is_active_at, signal_awaited, may_register, wait_of, registered, without_keyed, packets_at, is_full, packet_awaited, first_values, source_at, is_cancelled, packet_queued, packet_taken, packets_cancelled}
 
 -- ---- what it asks for
@@ -44,10 +48,16 @@ pub data Request : Type 0 where
   port_cancel : (port source key : ℕ) → Request
   -- a process in the job that is to run the program with this number
   process_create : (job program : ℕ) → Request
+  -- h goes to the process, and so does the word
+  process_start : (process h word : ℕ) → Request
   process_exit : (code : ℕ) → Request
+  -- the task is a process or a job
+  task_kill : (task : ℕ) → Request
   job_create : (j : ℕ) → Request
+  -- mode, condition and action by their numbers
+  job_set_policy : (j mode condition action : ℕ) → Request
 
--- the request of a call, from the values of its operands, the number in the instruction, and the bytes and the handles that a message is to have; a call that isn't listed here isn't built yet
+-- the request of a call, from the values of its operands, the number in the instruction, and the bytes and the handles that a message is to have
 abbrev pub request_of : CallName → List ℕ → ℕ → (bytes hs : List ℕ) → Option Request
 request_of name.Close (h ∷ []) number bytes hs = Some (close h)
 request_of name.Dup (h ∷ []) number bytes hs = Some (dup h number)
@@ -66,7 +76,12 @@ request_of name.PortQueue (port ∷ key ∷ value ∷ []) number bytes hs = Some
 request_of name.PortWait (port ∷ []) number bytes hs = Some (port_wait port)
 request_of name.PortPoll (port ∷ []) number bytes hs = Some (port_poll port)
 request_of name.PortCancel (port ∷ source ∷ key ∷ []) number bytes hs = Some (port_cancel port source key)
+request_of name.ProcessCreate (job ∷ program ∷ []) number bytes hs = Some (process_create job program)
+request_of name.ProcessStart (process ∷ h ∷ word ∷ []) number bytes hs = Some (process_start process h word)
 request_of name.ProcessExit (code ∷ []) number bytes hs = Some (process_exit code)
+request_of name.TaskKill (task ∷ []) number bytes hs = Some (task_kill task)
+request_of name.JobCreate (j ∷ []) number bytes hs = Some (job_create j)
+request_of name.JobSetPolicy (j ∷ mode ∷ condition ∷ action ∷ []) number bytes hs = Some (job_set_policy j mode condition action)
 request_of _ operands number bytes hs = None
 
 -- the row of a request, by its opcode, and the values of its handle operands from left to right, without those of a list
@@ -89,8 +104,11 @@ asks (port_wait port) = (78, port ∷ [])
 asks (port_poll port) = (79, port ∷ [])
 asks (port_cancel port source key) = (80, port ∷ source ∷ [])
 asks (process_create job program) = (81, job ∷ [])
+asks (process_start process h word) = (82, process ∷ h ∷ [])
 asks (process_exit code) = (83, [])
+asks (task_kill task) = (84, task ∷ [])
 asks (job_create j) = (85, j ∷ [])
+asks (job_set_policy j mode condition action) = (86, j ∷ [])
 
 -- the values of the handles in its list, where it has one
 abbrev pub lists : Request → List ℕ
@@ -163,16 +181,26 @@ listed lib w p (process_create job program) =
     ∷ answer_if (lacks_need w (object_at w p job) (slice_get lib program)) status.NotSupported
     ∷ answer_if (not (has_room w p 1 && has_koids w 1)) status.NoResources
     ∷ []
+listed lib w p (process_start process h word) =
+    answer_if (not (is_process w is_created (object_at w p process))) status.BadState
+    ∷ answer_if (misfits (program_of lib w (object_at w p process)) (entry_at w p h)) status.InvalidArgs
+    ∷ []
 listed lib w p (process_exit code) = []
+listed lib w p (task_kill task) = []
 listed lib w p (job_create j) =
     answer_if (is_deepest (body_of w (object_at w p j))) status.OutOfRange
     ∷ answer_if (is_dead (body_of w (object_at w p j))) status.BadState
     ∷ answer_if (not (has_room w p 1 && has_koids w 1)) status.NoResources
     ∷ []
+listed lib w p (job_set_policy j mode condition action) =
+    answer_if (not (is_some (setting_of mode condition action))) status.InvalidArgs
+    ∷ answer_if (is_dead (body_of w (object_at w p j)) || has_child w (object_at w p j)) status.BadState
+    ∷ answer_if (is_conflict (policy_in (body_of w (object_at w p j))) (setting_of mode condition action)) status.AlreadyExists
+    ∷ []
 
 -- ---- the handles that it makes
 
--- the handles that enter the caller's table
+-- the handles that enter a table: the caller's, or that of the process that it starts
 unfoldable pub new_handles : World → ℕ → Request → List Entry
 new_handles w p (dup h rights) = copy_of (entry_at w p h) rights
 new_handles w p (replace h rights) = copy_of (entry_at w p h) rights
@@ -181,11 +209,13 @@ new_handles w p (chan_read_etc c address room places) = first_handles (queue_at 
 new_handles w p event_create = new_entry w.next_koid kind.Event ∷ []
 new_handles w p port_create = new_entry w.next_koid kind.Port ∷ []
 new_handles w p (process_create job program) = new_entry w.next_koid kind.Process ∷ []
+new_handles w p (process_start process h word) = option_to_list (entry_at w p h)
 new_handles w p (job_create j) = new_entry w.next_koid kind.Job ∷ []
 new_handles w p _ = []
 
--- the process whose table new handles enter; the caller's, at each call of today
+-- the process whose table new handles enter
 abbrev pub receiver_of : World → ℕ → Request → ℕ
+receiver_of w p (process_start process h word) = object_at w p process
 receiver_of w p request = p
 
 -- the new handles whose values may be chosen: all but that of replace, which keeps the value
@@ -201,32 +231,36 @@ entering_at request vs = vs
 -- ---- what it does
 
 -- What the call does beside taking handles away, giving handles and writing registers, where it is answered OK.
--- w is the world before it; taken is that world without the operands that are always consumed.
-unfoldable pub effect : Library → World → World → ℕ → Request → World
-effect lib w taken p (close h) = taken
-effect lib w taken p (dup h rights) = taken
-effect lib w taken p (replace h rights) = without_waits taken p h
-effect lib w taken p chan_create =
+-- w is the world before it; taken is that world without the operands that are always consumed; vs are the values of the new handles.
+unfoldable pub effect : Library → World → World → ℕ → Request → (vs : List ℕ) → World
+effect lib w taken p (close h) vs = taken
+effect lib w taken p (dup h rights) vs = taken
+effect lib w taken p (replace h rights) vs = without_waits taken p h
+effect lib w taken p chan_create vs =
     with_object (with_object taken (ChannelEnd (w.next_koid + 1) [])) (ChannelEnd w.next_koid [])
-effect lib w taken p (chan_write c bytes hs) =
+effect lib w taken p (chan_write c bytes hs) vs =
     on_object taken (peer_at w p c) (message_sent (record { bytes = bytes; handles = entries_at w p hs }))
-effect lib w taken p (chan_read_etc c address room places) = on_object taken (object_at w p c) message_read
-effect lib w taken p event_create = with_object taken EventBody
-effect lib w taken p (signal h clear set) = on_object taken (object_at w p h) (object_changed clear set)
-effect lib w taken p (signal_peer h clear set) = on_object taken (peer_at w p h) (object_changed clear set)
-effect lib w taken p (wait_one h mask) = taken
-effect lib w taken p (wait_poll h mask) = taken
-effect lib w taken p (wait_async h port key mask) = registered taken (wait_of w p h port key mask)
-effect lib w taken p port_create = with_object taken (PortBody [])
-effect lib w taken p (port_queue port key value) = on_object taken (object_at w p port) (packet_queued key value)
-effect lib w taken p (port_wait port) = on_object taken (object_at w p port) packet_taken
-effect lib w taken p (port_poll port) = on_object taken (object_at w p port) packet_taken
-effect lib w taken p (port_cancel port source key) =
+effect lib w taken p (chan_read_etc c address room places) vs = on_object taken (object_at w p c) message_read
+effect lib w taken p event_create vs = with_object taken EventBody
+effect lib w taken p (signal h clear set) vs = on_object taken (object_at w p h) (object_changed clear set)
+effect lib w taken p (signal_peer h clear set) vs = on_object taken (peer_at w p h) (object_changed clear set)
+effect lib w taken p (wait_one h mask) vs = taken
+effect lib w taken p (wait_poll h mask) vs = taken
+effect lib w taken p (wait_async h port key mask) vs = registered taken (wait_of w p h port key mask)
+effect lib w taken p port_create vs = with_object taken (PortBody [])
+effect lib w taken p (port_queue port key value) vs = on_object taken (object_at w p port) (packet_queued key value)
+effect lib w taken p (port_wait port) vs = on_object taken (object_at w p port) packet_taken
+effect lib w taken p (port_poll port) vs = on_object taken (object_at w p port) packet_taken
+effect lib w taken p (port_cancel port source key) vs =
     on_object (without_keyed taken p source (object_at w p port) key) (object_at w p port) (packets_cancelled (source_at w p source) key)
-effect lib w taken p (process_create job program) =
+effect lib w taken p (process_create job program) vs =
     with_process (with_object taken (ProcessBody (object_at w p job))) w.next_koid (created_process lib program)
-effect lib w taken p (process_exit code) = taken
-effect lib w taken p (job_create j) = with_object taken (job_within (object_at w p j) (body_of w (object_at w p j)))
+effect lib w taken p (process_start process h word) vs = on_process taken (object_at w p process) (started_with vs word)
+effect lib w taken p (process_exit code) vs = taken
+effect lib w taken p (task_kill task) vs = with_killed taken (object_at w p task)
+effect lib w taken p (job_create j) vs = with_object taken (job_within (object_at w p j) (body_of w (object_at w p j)))
+effect lib w taken p (job_set_policy j mode condition action) vs =
+    on_object taken (object_at w p j) (policy_changed (setting_of mode condition action))
 
 -- the bytes that the call stores in its caller's memory, and the address of the first
 abbrev pub stored_by : World → ℕ → Request → ℕ × List ℕ
@@ -243,6 +277,7 @@ gives_ok w p (wait_one h mask) vs = active_at w p h ∷ []
 gives_ok w p (wait_poll h mask) vs = active_at w p h ∷ []
 gives_ok w p (port_wait port) vs = first_values (packets_at w p port)
 gives_ok w p (port_poll port) vs = first_values (packets_at w p port)
+gives_ok w p (process_start process h word) vs = []
 gives_ok w p request vs = vs
 
 -- the same where it is refused with the status
@@ -257,8 +292,14 @@ awaited_by w p (wait_one h mask) = signal_awaited w p h mask
 awaited_by w p (port_wait port) = packet_awaited (object_at w p port) (packets_at w p port)
 awaited_by w p request = None
 
--- how a call ends that isn't refused: it blocks if there is something to wait for
-abbrev pub outcome_of : Option Awaited → Request → Outcome
-outcome_of (Some awaited) request = outcome.Blocked
-outcome_of None (process_exit code) = outcome.Ended (signed_word code)
-outcome_of None _ = outcome.Answered status.Ok
+-- the code with which the call ends its caller, if it does: that of its exit, or that of the killed
+abbrev pub ends_caller : World → ℕ → Request → Option ℤ
+ends_caller w p (process_exit code) = Some (signed_word code)
+ends_caller w p (task_kill task) = then_some (is_within w.objects (object_at w p task) p) KILLED
+ends_caller w p request = None
+
+-- how a call ends that isn't refused: it blocks if there is something to wait for, or ends its caller, and else is answered OK
+abbrev pub outcome_of : Option Awaited → Option ℤ → Outcome
+outcome_of (Some awaited) ends = outcome.Blocked
+outcome_of None (Some code) = outcome.Ended code
+outcome_of None None = outcome.Answered status.Ok

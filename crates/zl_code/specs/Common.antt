@@ -4,7 +4,7 @@ unfoldable pub use Rattle.zl_rights.specs.Common.{answered, each, fired, get, ha
 pub use Rattle.zl_code.specs.Boot.{Boots, FirstFault, IsBoot, MOST_ITEMS, at_limit, at_statement, is_job_body, may_boot, origin}
 unfoldable pub use Rattle.zl_code.specs.Boot.{boot_effect, boot_fault}
 pub use Rattle.zl_code.specs.CallNames.{call_name}
-pub use Rattle.zl_code.specs.CallTable.{Request, chan_create, chan_read_etc, chan_write, close, dup, event_create, job_create, port_cancel, port_create, port_poll, port_queue, port_wait, process_create, process_exit, replace, signal, signal_peer, wait_async, wait_one, wait_poll}
+pub use Rattle.zl_code.specs.CallTable.{Request, chan_create, chan_read_etc, chan_write, close, dup, event_create, job_create, job_set_policy, port_cancel, port_create, port_poll, port_queue, port_wait, process_create, process_exit, process_start, replace, signal, signal_peer, task_kill, wait_async, wait_one, wait_poll}
 unfoldable pub use Rattle.zl_code.specs.CallTable.{effect, gives_ok, gives_refused, listed, new_handles}
 pub use Rattle.zl_code.specs.Calls.{Calls, Choice, Refused, Values, WantsMemory, cpu_answered, grows, ok_outcome, taken, with_effect}
 unfoldable pub use Rattle.zl_code.specs.Calls.{may_choose, replied, taken_handles}

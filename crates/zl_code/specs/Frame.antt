@@ -1,10 +1,13 @@
 -- What the step of one process can do to the others, and to the policies of the jobs that they are in.
-use Rattle.std.specs.Prelude.{ℕ, ◌≡◌, Bool, false, ◌==◌, List, Option, Some, None, IsTrue}
-use Rattle.zl_rights.specs.Common.{Map, get, World, Process, Created, Ready, Blocked, Gone, Object, Body, JobBody, ProcessBody, lives, answered}
+use Rattle.std.specs.Prelude.{ℕ, ◌≡◌, Bool, false, ◌==◌, List, [], ◌∷◌, Option, Some, None, IsTrue}
+use Rattle.zl_rights.specs.Common.{Map, get, World, Process, Created, Ready, Blocked, Ended, Gone, Object, Body, JobBody, ProcessBody, lives, answered}
+use Rattle.zl_rights.specs.Numbers.{KILLED}
 use Rattle.zl_rights.specs.World.{Awaited}
 use Rattle.zl_rights.specs.declared.policy.Action.{Action}
 use Rattle.zl_rights.specs.declared.entry.Entry.{Entry}
+use Rattle.zl_code.specs.Effects.{process_with}
 use Rattle.zl_code.specs.Handles.{names_its_object}
+use Rattle.zl_code.specs.Starting.{started_with}
 
 -- what the step of another process can make of a living process x
 pub data OthersMake (x y : Process) : Type 0 where
@@ -13,6 +16,10 @@ pub data OthersMake (x y : Process) : Type 0 where
   -- it was blocked, and what it waits for is there
   woken : (awaited : Awaited) (destinations values : List ℕ) → x.state ≡ Blocked awaited destinations
       → y ≡ record x { state = Ready; cpu = answered x.cpu destinations values } → OthersMake x y
+  -- it was not started yet, and starts with a handle at a value, and a word
+  was_started : (e : Entry) (v word : ℕ) → x.state ≡ Created → y ≡ process_with v e (started_with (v ∷ []) word x) → OthersMake x y
+  -- it was killed, and its handles closed
+  was_killed : y ≡ record x { state = Ended KILLED; handles = []; last = None } → OthersMake x y
   -- it was never started, and nothing holds it any more
   dropped : x.state ≡ Created → y ≡ record x { state = Gone } → OthersMake x y
 
@@ -39,11 +46,12 @@ abbrev pub policy_of : Body → Option (Map Action)
 policy_of (JobBody parent depth policy killed) = Some policy
 policy_of b = None
 
--- A step of p leads from w to after. It leaves the other living processes alone but for waking and dropping
--- them, keeps the objects that their tables name, and changes the policy of no job that they are in.
+-- A step of p leads from w to after. It leaves the other living processes alone but for starting, waking, killing
+-- and dropping them, keeps the objects that their tables name while they live, and changes the policy of no job
+-- that they are in.
 pub record LeavesOthers (w : World) (p : ℕ) (after : World) : Type 0 where
   pub processes : (q : ℕ) (x : Process) → (p == q) ≡ false → get w.processes q ≡ Some x → IsTrue (lives x.state)
       → (y : Process) × (get after.processes q ≡ Some y) × OthersMake x y
-  pub objects : (q v : ℕ) (x : Process) (e : Entry) → (p == q) ≡ false → get w.processes q ≡ Some x → IsTrue (lives x.state)
-      → get x.handles v ≡ Some e → names_its_object after.objects e
+  pub objects : (q v : ℕ) (x y : Process) (e : Entry) → (p == q) ≡ false → get w.processes q ≡ Some x → IsTrue (lives x.state)
+      → get after.processes q ≡ Some y → IsTrue (lives y.state) → get x.handles v ≡ Some e → names_its_object after.objects e
   pub policies : (j : ℕ) (o o2 : Object) → HasLiving w j → get w.objects j ≡ Some o → get after.objects j ≡ Some o2 → policy_of o2.body ≡ policy_of o.body

@@ -1,13 +1,15 @@
 -- What is true of every world of a run from a boot world, and what no step changes of a process.
-use Rattle.std.specs.Prelude.{ℕ, ◌≡◌, ◌≤◌, ◌<◌, ⊤, Bool, true, false, ◌&&◌, ◌==◌, nat_lt, [], length, Option, Some, None, if◌then◌else◌, IsTrue}
-use Rattle.zl_rights.specs.Common.{within, Map, get, has_key, World, Process, State, Blocked, Object, Body, ChannelEnd, PortBody, ProcessBody, lives, runs, is_process}
-use Rattle.std.specs.List.{All, filter}
+use Rattle.std.specs.Prelude.{ℕ, ◌+◌, ◌≡◌, ◌≤◌, ◌<◌, ◌⊎◌, ⊤, Bool, true, false, ◌&&◌, ◌==◌, nat_lt, [], length, Option, Some, None, is_some, if◌then◌else◌, IsTrue}
+use Rattle.zl_rights.specs.Common.{within, Map, get, has_key, World, Process, State, Blocked, Object, Body, ChannelEnd, PortBody, JobBody, ProcessBody, lives, runs, is_process}
+use Rattle.std.specs.List.{All, filter, list_all}
 use Rattle.zl_rights.specs.World.{Wait}
+use Rattle.zl_rights.specs.Policies.{condition_numbered}
 use Rattle.zl_rights.specs.declared.entry.Entry.{Entry}
+use Rattle.zl_rights.specs.declared.policy.Action.{Action}
 use Rattle.zl_code.specs.Tests.{body_in, body_of, entry_at, settable_of}
-use Rattle.zl_code.specs.Boot.{is_job_body}
 use Rattle.zl_code.specs.Koids.{HasGivenKoids}
-use Rattle.zl_code.specs.Handles.{HandlesAreSound, HandlesAreNamed}
+use Rattle.zl_code.specs.Handles.{HandlesAreSound, HandlesAreNamed, in_order}
+use Rattle.zl_code.specs.Jobs.{MOST_DEPTH}
 
 -- a value that a handle may have: 16 bits, and not 0
 abbrev pub is_value : ℕ → Bool
@@ -29,9 +31,41 @@ abbrev pub is_blocked : State → Bool
 is_blocked (Blocked awaited destinations) = true
 is_blocked _ = false
 
--- p is the koid of a process object, in a job that is there
-abbrev pub HasItsObject : Map Object → ℕ → Type 0
-HasItsObject objects p = (job : ℕ) × (body_in (get objects p) ≡ Some (ProcessBody job)) × IsTrue (is_job_body (body_in (get objects job)))
+-- the job j is there, lives, and stands at this depth
+pub record LivesAt (objects : Map Object) (j depth : ℕ) : Type 0 where
+  pub parent : ℕ
+  pub policy : Map Action
+  pub there : body_in (get objects j) ≡ Some (JobBody parent depth policy false)
+
+-- p is the koid of a process object, in a job that lives
+pub record HasItsObject (objects : Map Object) (p : ℕ) : Type 0 where
+  pub job : ℕ
+  pub there : body_in (get objects p) ≡ Some (ProcessBody job)
+  pub depth : ℕ
+  pub lives : LivesAt objects job depth
+
+-- the root job has no parent and is the first level; above any other job one lives, a level higher
+abbrev pub IsBelow : Map Object → (parent depth : ℕ) → Type 0
+IsBelow objects parent depth = ((parent ≡ 0) × (depth ≡ 1)) ⊎ ((above : ℕ) × (depth ≡ above + 1) × LivesAt objects parent above)
+
+-- it has actions for conditions alone, in the order of their numbers
+abbrev pub is_policy : Map Action → Bool
+is_policy policy = list_all (λ e. is_some (condition_numbered e.0)) policy && in_order policy
+
+-- What is true of the job k that is there, where killed says whether it was killed.
+pub record IsSoundJob (objects : Map Object) (k parent depth : ℕ) (policy : Map Action) (killed : Bool) : Type 0 where
+  -- it was made after the job above it
+  pub later : parent < k
+  pub shallow : depth ≤ MOST_DEPTH
+  pub policy_known : IsTrue (is_policy policy)
+  -- while it lives, so does the job above it
+  pub above : killed ≡ false → IsBelow objects parent depth
+
+-- What is true of what stands in the tree of jobs; a process was made after its job.
+abbrev pub StandsBelow : Map Object → ℕ → Body → Type 0
+StandsBelow objects k (JobBody parent depth policy killed) = IsSoundJob objects k parent depth policy killed
+StandsBelow objects k (ProcessBody job) = job < k
+StandsBelow objects k _ = ⊤
 
 -- the signals that may be raised at an object: none at a port, else those that calls may set
 abbrev pub raisable : Body → ℕ
@@ -73,8 +107,10 @@ pub record IsSound (w : World) : Type 0 where
   pub processes : (p : ℕ) → IsTrue (has_key w.processes p) → p < w.next_koid
   -- the tables of processes
   pub tables : (p : ℕ) (q : Process) → get w.processes p ≡ Some q → IsSoundTable (runs q.state) q.handles q.last
-  -- a process that lives has its object, in a job that is there
+  -- a process that lives has its object, in a job that lives
   pub living : (p : ℕ) (q : Process) → get w.processes p ≡ Some q → IsTrue (lives q.state) → HasItsObject w.objects p
+  -- jobs and processes stand below living jobs, so that nothing lives below a dead one
+  pub tree : (k : ℕ) (o : Object) → get w.objects k ≡ Some o → StandsBelow w.objects k o.body
   -- the list of the blocked has each blocked process once, and nothing else
   pub blocked : (p : ℕ) → length (filter (λ q. q == p) w.blocked) ≡ (if is_process w is_blocked p then 1 else 0)
   -- the peers of channel ends

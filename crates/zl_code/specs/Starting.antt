@@ -1,6 +1,6 @@
 -- What a process begins with, whether boot makes it or a call.
-use Rattle.std.specs.Prelude.{ℕ, ◌+◌, List, [], ◌∷◌, replicate, map, Option, Some, None, slice_get, slice_set}
-use Rattle.zl_rights.specs.Common.{Cpu, Process, Created, Ready}
+use Rattle.std.specs.Prelude.{ℕ, ◌+◌, Bool, true, false, List, [], ◌∷◌, replicate, map, Option, Some, None, slice_get, slice_set}
+use Rattle.zl_rights.specs.Common.{get, World, Cpu, Process, State, Created, Ready}
 use Rattle.zl_code.specs.Image.{Library, Program}
 
 -- ---- a process that isn't started yet
@@ -26,6 +26,20 @@ created_process lib program = record {
 }
 
 -- ---- its start
+
+-- made, and not started yet
+abbrev pub is_created : State → Bool
+is_created Created = true
+is_created _ = false
+
+-- the program of the process that was found
+abbrev pub program_in : Library → Option Process → Option Program
+program_in lib None = None
+program_in lib (Some q) = slice_get lib q.program
+
+-- the program that the process k of the world runs, or is to run
+abbrev pub program_of : Library → World → ℕ → Option Program
+program_of lib w k = program_in lib (get w.processes k)
 
 -- the registers with these values, from number n on
 abbrev pub set_from : ℕ → List ℕ → List ℕ → List ℕ

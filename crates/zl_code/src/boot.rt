@@ -2,7 +2,7 @@ ghost use Rattle.std.specs.Prelude.{◌≡◌, ◌++◌, ◌∷◌, [], OnOk, On
 
 use std::alloc::{AllocFailed, Global};
 use std::marker::Model;
-use zl_rights::Koid;
+use zl_rights::{Action, Condition, Koid};
 
 /// What a scenario says of the world before its first step; statements are done in order. Own
 /// profile.
@@ -19,9 +19,19 @@ impl Boot {
 }
 
 /// One statement. Each object that it makes gets the next koid, and is gone after the boot unless a
-/// handle names it; a process stays, as it is started. Own profile.
+/// handle names it or, for a job, something lives in it; a process stays, as it is started. Own profile.
 #[derive(Drop)]
 pub enum Statement {
+    /// A job in this one, with the policy that this has now.
+    Job {
+        parent: Koid,
+    },
+    /// Sets what the job decides for the condition, in the mode `Absolute`.
+    Policy {
+        job: Koid,
+        condition: Condition,
+        action: Action,
+    },
     /// An event.
     Event,
     /// A port without packets.
@@ -112,16 +122,15 @@ pub enum BootCause {
     /// The program was checked, and the policy of the job forbids it to make what it needs. Not
     /// yet: a boot doesn't look at needs.
     NeedDenied,
-    /// Too many processes, too few koids left for what the statement makes, or too high a limit of
-    /// the trace; not yet too many levels of jobs, as no statement makes a job.
+    /// Too many processes, too many levels of jobs, too few koids left for what the statement makes,
+    /// or too high a limit of the trace.
     Limit,
     /// Memory was refused.
     NoMemory,
     /// A koid that is no object of the named kind, or no program of that number.
     Unknown,
-    /// A policy for a job that has children already. Not yet: no statement sets a policy.
+    /// A policy for a job in which a job or a process lives already.
     BadState,
-    /// A second action for a condition of the job, unlike the first. Not yet: no statement sets a
-    /// policy.
+    /// A second action for a condition of the job, unlike the first.
     Conflict,
 }

@@ -32,10 +32,10 @@ pub fn a_ready_process_has_a_step()
         → (x : TraceItem) × (after : World) × Step lib w p x after }
 {}
 
-/// A ready process has a step that isn't a call answered NO_MEMORY.
+/// In a sound world a ready process has a step that isn't a call answered NO_MEMORY.
 pub fn a_ready_process_has_a_step_with_memory()
     ensures { (lib : Library) (w : World) (p : ℕ) (process : Process)
-        → get w.processes p ≡ Some process → process.state ≡ Ready
+        → IsSound w → get w.processes p ≡ Some process → process.state ≡ Ready
         → (x : TraceItem) × (after : World)
         × ((pid : ℕ) (call : CallName) → x ≢ item.Call pid call (outcome.Answered status.NoMemory))
         × Step lib w p x after }

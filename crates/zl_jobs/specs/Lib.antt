@@ -1,2 +1,1 @@
-pub mod Tree
-pub mod Members
+pub mod Jobs

@@ -1,15 +1,13 @@
-//! The tree of jobs, with the processes that live in them.
+//! One job: where it stands, its policy, and what may be made in it.
 //!
-//! It stands on `zl_policy` and `zl_rights`. It promises that jobs and processes are added just
-//! where that is allowed, that `below` lists each descendant once, that a kill marks the job and
-//! all jobs below it, and that nothing but making the tree and adding takes memory. Where a method
-//! names no source, that of its type is meant.
+//! It stands on `zl_policy` and `zl_rights`. The tree of jobs is among the objects of `zl_objects`,
+//! each of which that is a job holds one of these. It promises the exact outcome of each operation,
+//! and takes no memory. Where a method names no source, that of its type is meant.
 #![tactic(auto)]
 
-mod member;
-mod tree;
+mod job;
 
-pub use tree::{AddFault, JobTree};
+pub use job::{Job, JobFault};
 
 #[cfg(test)]
 mod tests;

@@ -1,47 +1,41 @@
-use crate::{AddFault, JobTree};
+use crate::{Job, JobFault};
 use std::test::Fail;
 use zl_rights::{Action, Condition, Mode};
 
 #[test]
-fn a_job_stands_below_the_root(rt: HostRuntime) -> Result<(), Fail> {
-    let mut tree = JobTree::new(rt.alloc())?;
-    assert!(rt; tree.add_job(1, 2).is_ok());
-    assert_eq!(rt; tree.depth(2), 2);
-    assert_eq!(rt; tree.below(1, 0), Some(2));
-    assert_eq!(rt; tree.below(1, 1), None);
-    assert!(rt; tree.is_below(1, 2));
-    assert_eq!(rt; tree.has_children(1), (true, false));
-    let set = tree.set_policy(2, Condition::NewEvent, Action::Deny, Mode::Absolute);
-    assert!(rt; set.is_ok());
-    assert!(rt; matches!(tree.policy(2).action(Condition::NewEvent), Action::Deny));
-    assert!(rt; matches!(tree.policy(1).action(Condition::NewEvent), Action::Allow));
-    tree.kill(1);
-    assert!(rt; tree.is_killed(2));
-    tree.remove(2);
-    assert_eq!(rt; tree.has_children(1), (false, false));
-    Ok(())
-}
-
-#[test]
-fn a_process_stands_below_the_root(rt: HostRuntime) -> Result<(), Fail> {
-    let mut tree = JobTree::new(rt.alloc())?;
-    assert!(rt; tree.add_process(1, 2).is_ok());
-    assert_eq!(rt; tree.below(1, 0), Some(2));
-    assert_eq!(rt; tree.has_children(1), (false, true));
-    tree.remove(2);
-    assert_eq!(rt; tree.has_children(1), (false, false));
-    Ok(())
-}
-
-/// Under `rt try --test --fail-alloc N` the Nth allocation is refused; else the first call succeeds.
-#[test]
-fn a_refused_job_is_added_once_more(rt: HostRuntime) -> Result<(), Fail> {
-    let mut tree = JobTree::new(rt.alloc())?;
-    match tree.add_job(1, 2) {
-        Ok(()) => {}
-        Err(AddFault::NoMemory) => assert!(rt; tree.add_job(1, 2).is_ok()),
-        Err(_) => return Err(Fail::new("the job was refused for itself")),
+fn jobs_stand_at_most_16_deep(rt: HostRuntime) -> Result<(), Fail> {
+    let mut job = Job::root();
+    for n in 1..16 {
+        job = match job.below(n) {
+            Ok(below) => below,
+            Err(_) => return Err(Fail::new("the job may have no job in it")),
+        };
     }
-    assert_eq!(rt; tree.depth(2), 2);
+    assert_eq!(rt; job.depth(), 16);
+    assert_eq!(rt; job.parent(), 15);
+    assert!(rt; matches!(job.below(17), Err(JobFault::OutOfRange)));
+    job.kill();
+    assert!(rt; matches!(job.below(17), Err(JobFault::OutOfRange)));
+    Ok(())
+}
+
+#[test]
+fn a_job_is_made_with_the_policy_of_its_parent(rt: HostRuntime) -> Result<(), Fail> {
+    let mut root = Job::root();
+    assert!(rt; !root.has_policy());
+    let set = root.set_policy(Condition::NewEvent, Action::Deny, Mode::Absolute);
+    assert!(rt; set.is_ok());
+    let Ok(mut below) = root.below(1) else {
+        return Err(Fail::new("the root job may have no job in it"));
+    };
+    assert!(rt; below.has_policy());
+    assert!(rt; matches!(below.action(Condition::NewEvent), Action::Deny));
+    let set = below.set_policy(Condition::NewPort, Action::Kill, Mode::Absolute);
+    assert!(rt; set.is_ok());
+    assert!(rt; matches!(root.action(Condition::NewPort), Action::Allow));
+    root.kill();
+    assert!(rt; root.is_killed());
+    assert!(rt; !below.is_killed());
+    assert!(rt; matches!(root.below(1), Err(JobFault::BadState)));
     Ok(())
 }

@@ -1,5 +1,5 @@
 -- Objects that are the same but for waits and reserved places: what doesn't see these.
-use Rattle.zl_rights.proofs.Common.{◌≡◌, ℕ, ◌&&◌, ◌||◌, List, [], ◌∷◌, length, map, refl, sym, ap, ◌∙◌, subst, cond, Option, Some, None, arith, nat_lt, is_some, not, suc, option_map, count_by, sum_by-cons, below_all, is_sorted, nat_cmp, none-some, same_Some, Map, get, has_key, each}
+use Rattle.zl_rights.proofs.Common.{◌≡◌, ℕ, ◌&&◌, ◌||◌, List, [], ◌∷◌, length, map, refl, sym, ap, ◌∙◌, subst, cond, Option, Some, None, arith, nat_lt, is_some, suc, option_map, count_by, sum_by-cons, below_all, is_sorted, nat_cmp, none-some, same_Some, Map, get, has_key, each}
 use Rattle.std.specs.Ordering.{is_lt}
 use Rattle.zl_rights.specs.World.{World}
 use Rattle.zl_rights.proofs.MapLaws.{get-each}
@@ -7,12 +7,13 @@ use Rattle.zl_rights.proofs.MapTests.{list_any-each}
 use Rattle.zl_objects.specs.declared.object.Body.{Body}
 use Rattle.zl_objects.specs.declared.object.Body.TheVariants as body
 use Rattle.zl_objects.specs.declared.object.Object.{Object}
-use Rattle.zl_objects.specs.Objects.{has_living_child, is_job_at, is_job_in, is_job_body, is_kept, lives_below, stays_alone}
+use Rattle.zl_objects.specs.Objects.{has_living_child, is_child, is_job_at, is_job_in, is_job_body, is_kept, stays_alone}
 use Rattle.zl_objects.specs.Dying.{is_named}
 use Rattle.zl_objects.specs.Ports.{unreserved}
 use Rattle.zl_objects.specs.Release.{AreKeptBut}
 use Rattle.zl_objects.specs.Seen.{Agrees, body_value, is_in_job, object_entry}
 use Rattle.zl_objects.specs.Waits.{AreSameButWaits, bare}
+use Rattle.zl_objects.proofs.Bodies.{same_in_job}
 
 -- the objects without waits and reserved places
 abbrev all_bare : Map Object → Map Object
@@ -23,7 +24,7 @@ pub of_body : {X : Type 0} (f : Body → X) → ((packets : _) (reserved : ℕ) 
 of_body f port b c same = sym (bare_body b) ∙ (ap f same ∙ bare_body c)
   where
     bare_body : (b : Body) → f (unreserved b) ≡ f b
-    bare_body body.RootJob = refl
+    bare_body (body.Job own) = refl
     bare_body (body.Process job lives) = refl
     bare_body body.Event = refl
     bare_body (body.ChannelEnd peer queue) = refl
@@ -34,14 +35,14 @@ pub agrees_same : (w : World) (k : ℕ) (b c : Body) → unreserved b ≡ unrese
 agrees_same w k b c same agrees = back b (subst (Agrees w k) (sym same) (there c agrees))
   where
     there : (b : Body) → Agrees w k b → Agrees w k (unreserved b)
-    there body.RootJob h = h
+    there (body.Job own) h = h
     there (body.Process job lives) h = h
     there body.Event h = h
     there (body.ChannelEnd peer queue) h = h
     there (body.Port p) h = h
 
     back : (b : Body) → Agrees w k (unreserved b) → Agrees w k b
-    back body.RootJob h = h
+    back (body.Job own) h = h
     back (body.Process job lives) h = h
     back body.Event h = h
     back (body.ChannelEnd peer queue) h = h
@@ -55,7 +56,7 @@ seen_bare [] = refl
 seen_bare (e ∷ m) = λ i. (e.0, record { body = by_body e.1.body i; raised = e.1.signals.raised }) ∷ seen_bare m i
   where
     by_body : (b : Body) → body_value (unreserved b) ≡ body_value b
-    by_body body.RootJob = refl
+    by_body (body.Job own) = refl
     by_body (body.Process job lives) = refl
     by_body body.Event = refl
     by_body (body.ChannelEnd peer queue) = refl
@@ -83,10 +84,10 @@ named_bare (e ∷ m) = omega (arith, sum_by-cons (λ x. cond (is_named x) 1 0) (
 
 child_bare : (m : Map Object) (k : ℕ) → has_living_child (all_bare m) k ≡ has_living_child m k
 unfolding has_living_child
-child_bare m k = list_any-each (λ e. lives_below k e.1.body) (λ j. bare) (λ j o. by_body o.body) m
+child_bare m k = list_any-each (λ e. is_child k e.1.body) (λ j. bare) (λ j o. by_body o.body) m
   where
-    by_body : (b : Body) → lives_below k (unreserved b) ≡ lives_below k b
-    by_body body.RootJob = refl
+    by_body : (b : Body) → is_child k (unreserved b) ≡ is_child k b
+    by_body (body.Job own) = refl
     by_body (body.Process job lives) = refl
     by_body body.Event = refl
     by_body (body.ChannelEnd peer queue) = refl
@@ -103,7 +104,7 @@ job_bare : (m : Map Object) (k : ℕ) → is_job_at (all_bare m) k ≡ is_job_at
 job_bare m k = ap is_job_in (get-each m (λ j. bare) k) ∙ by_object (get m k)
   where
     by_body : (b : Body) → is_job_body (unreserved b) ≡ is_job_body b
-    by_body body.RootJob = refl
+    by_body (body.Job own) = refl
     by_body (body.Process job lives) = refl
     by_body body.Event = refl
     by_body (body.ChannelEnd peer queue) = refl
@@ -146,21 +147,14 @@ module _ (m m2 : Map Object) (same : AreSameButWaits m m2) where
   alone_same k b c is = by_body b ∙ of_body (stays_alone m k) (λ packets reserved. refl) b c is
     where
       by_body : (b : Body) → stays_alone m2 k b ≡ stays_alone m k b
-      by_body body.RootJob = carried (λ n. has_living_child n k) (λ n. child_bare n k)
+      by_body (body.Job own) = carried (λ n. has_living_child n k) (λ n. child_bare n k)
       by_body (body.Process job lives) = refl
       by_body body.Event = refl
       by_body (body.ChannelEnd peer queue) = refl
       by_body (body.Port p) = refl
 
   pub in_job_same : (b c : Body) → unreserved b ≡ unreserved c → is_in_job m2 b ≡ is_in_job m c
-  in_job_same b c is = by_body b ∙ of_body (is_in_job m) (λ packets reserved. refl) b c is
-    where
-      by_body : (b : Body) → is_in_job m2 b ≡ is_in_job m b
-      by_body body.RootJob = refl
-      by_body (body.Process job lives) = ap (λ j. not lives || j) (carried (λ n. is_job_at n job) (λ n. job_bare n job))
-      by_body body.Event = refl
-      by_body (body.ChannelEnd peer queue) = refl
-      by_body (body.Port p) = refl
+  in_job_same b c is = same_in_job m m2 (λ job. carried (λ n. is_job_at n job) (λ n. job_bare n job)) b ∙ of_body (is_in_job m) (λ packets reserved. refl) b c is
 
   pub alike : (k : ℕ) (o : Object) → get m2 k ≡ Some o → IsAlike m k o
   alike k o at = by_object (get m k) refl

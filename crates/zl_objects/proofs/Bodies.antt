@@ -1,13 +1,13 @@
 -- What keeps objects, once one of them was changed or has gone.
-use Rattle.zl_rights.proofs.Common.{◌≡◌, ℕ, Bool, true, false, ◌&&◌, ◌||◌, ◌==◌, [], ◌∷◌, refl, sym, ap, ◌∙◌, Option, Some, None, inl, inr, IsTrue, nat_lt, if◌then◌else◌, is_some, list_any, option_map, nat_cmp, is_sorted, cases_Bool, eqb-true, false≢true, none-some, same_Some, Map, get, has_key, update, without}
-use Rattle.std.proofs.lemmas.Bool.{or_parts}
+use Rattle.zl_rights.proofs.Common.{◌≡◌, ℕ, Bool, true, false, ◌||◌, ◌==◌, [], ◌∷◌, refl, sym, ap, ◌∙◌, Option, Some, None, inl, inr, IsTrue, if◌then◌else◌, is_some, list_any, option_map, nat_cmp, is_sorted, cases_Bool, eqb-true, false≢true, or_left, or_right, none-some, same_Some, Map, get, has_key, update, without}
+use Rattle.std.proofs.lemmas.Bool.{or_cases}
 use Rattle.zl_rights.proofs.MapLaws.{get-update}
 use Rattle.zl_table.proofs.MapEdits.{get-without, sorted_parts, without_lower}
 use Rattle.zl_objects.specs.declared.object.Body.{Body}
 use Rattle.zl_objects.specs.declared.object.Body.TheVariants as body
 use Rattle.zl_objects.specs.declared.object.Object.{Object}
-use Rattle.zl_objects.specs.Objects.{has_living_child, is_job_at, is_job_in, is_kept, lives_below, stays_alone}
-use Rattle.zl_objects.specs.Seen.{is_in_job}
+use Rattle.zl_objects.specs.Objects.{has_living_child, is_child, is_job_at, is_job_in, keeper_of, stays_alone}
+use Rattle.zl_objects.specs.Seen.{is_above, is_in_job}
 
 -- ---- one object was changed
 
@@ -34,13 +34,13 @@ module _ (f : Object → Object) (same : (o : Object) → (f o).body ≡ o.body)
   child_updated : (m : Map Object) (k job : ℕ) → has_living_child (update m k f) job ≡ has_living_child m job
   unfolding update has_living_child
   child_updated [] k job = refl
-  child_updated (e ∷ m) k job = elim (cases_Bool (e.0 == k)) as (λ _. list_any (λ x. lives_below job x.1.body) (update (e ∷ m) k f) ≡ list_any (λ x. lives_below job x.1.body) (e ∷ m)) [
+  child_updated (e ∷ m) k job = elim (cases_Bool (e.0 == k)) as (λ _. list_any (λ x. is_child job x.1.body) (update (e ∷ m) k f) ≡ list_any (λ x. is_child job x.1.body) (e ∷ m)) [
     | inl here ↦ rw (here, same e.1) refl
-    | inr apart ↦ rw apart (ap (λ b. lives_below job e.1.body || b) (child_updated m k job))
+    | inr apart ↦ rw apart (ap (λ b. is_child job e.1.body || b) (child_updated m k job))
   ]
 
   pub alone_updated : (m : Map Object) (k j : ℕ) (b : Body) → stays_alone (update m k f) j b ≡ stays_alone m j b
-  alone_updated m k j body.RootJob = child_updated m k j
+  alone_updated m k j (body.Job own) = child_updated m k j
   alone_updated m k j (body.Process job lives) = refl
   alone_updated m k j body.Event = refl
   alone_updated m k j (body.Port port) = refl
@@ -76,34 +76,40 @@ any_without_at {X} test (e ∷ m) k x sorted there out = elim (cases_Bool (e.0 =
   | inr apart ↦ rw apart (ap (λ b. test e || b) (any_without_at test m k x (sorted_parts e m sorted).1 (rw apart at there) out))
 ]
 
-module _ (m : Map Object) (sorted : IsTrue (is_sorted nat_cmp m)) (k : ℕ) (o : Object) (there : get m k ≡ Some o) (unkept : is_kept m k o ≡ false) where
-  -- it was no living child
-  not_living : (j : ℕ) → lives_below j o.body ≡ false
-  not_living j = by_body o.body (or_parts (nat_lt 0 o.handles) (stays_alone m k o.body) unkept).1
-    where
-      by_body : (b : Body) → stays_alone m k b ≡ false → lives_below j b ≡ false
-      by_body body.RootJob off = refl
-      by_body (body.Process job alive) off = rw off (and_no (job == j))
-        where
-          and_no : (b : Bool) → (b && false) ≡ false
-          and_no true = refl
-          and_no false = refl
-      by_body body.Event off = refl
-      by_body (body.Port port) off = refl
-      by_body (body.ChannelEnd p queue) off = refl
-
-  child_left : (j : ℕ) → has_living_child (without m k) j ≡ has_living_child m j
+module _ (m : Map Object) (sorted : IsTrue (is_sorted nat_cmp m)) (k : ℕ) (o : Object) (there : get m k ≡ Some o) (j : ℕ) (apart : is_child j o.body ≡ false) where
+  -- another job has its living children
+  child_left : has_living_child (without m k) j ≡ has_living_child m j
   unfolding has_living_child
-  child_left j = any_without_at (λ e. lives_below j e.1.body) m k o sorted there (not_living j)
+  child_left = any_without_at (λ e. is_child j e.1.body) m k o sorted there apart
 
-  pub alone_left : (j : ℕ) (b : Body) → stays_alone (without m k) j b ≡ stays_alone m j b
-  alone_left j body.RootJob = child_left j
-  alone_left j (body.Process job alive) = refl
-  alone_left j body.Event = refl
-  alone_left j (body.Port port) = refl
-  alone_left j (body.ChannelEnd p queue) = refl
+  pub alone_left : (b : Body) → stays_alone (without m k) j b ≡ stays_alone m j b
+  alone_left (body.Job own) = child_left
+  alone_left (body.Process job life) = refl
+  alone_left body.Event = refl
+  alone_left (body.Port port) = refl
+  alone_left (body.ChannelEnd p queue) = refl
 
 -- ---- jobs and bodies
+
+module _ (m n : Map Object) where
+  -- the same jobs
+  pub same_in_job : ((j : ℕ) → is_job_at n j ≡ is_job_at m j) → (b : Body) → is_in_job n b ≡ is_in_job m b
+  same_in_job same b = above (keeper_of b)
+    where
+      above : (q : Option ℕ) → is_above n q ≡ is_above m q
+      above None = refl
+      above (Some job) = ap (λ j. (job == 0) || j) (same job)
+
+  -- more jobs
+  pub more_in_job : ((j : ℕ) → IsTrue (is_job_at m j) → IsTrue (is_job_at n j)) → (b : Body) → IsTrue (is_in_job m b) → IsTrue (is_in_job n b)
+  more_in_job more b = above (keeper_of b)
+    where
+      above : (q : Option ℕ) → IsTrue (is_above m q) → IsTrue (is_above n q)
+      above None h = refl
+      above (Some job) h = elim (or_cases (job == 0) (is_job_at m job) h) as (λ _. IsTrue (is_above n (Some job))) [
+        | inl none ↦ or_left (job == 0) _ none
+        | inr there ↦ or_right (job == 0) _ (more job there)
+      ]
 
 module _ (f : Object → Object) (same : (o : Object) → (f o).body ≡ o.body) where
   pub changed_body : (m : Map Object) (k j : ℕ) (q : Object) → (c : Changed f m k j q) → q.body ≡ c.before.body
@@ -120,8 +126,4 @@ module _ (f : Object → Object) (same : (o : Object) → (f o).body ≡ o.body)
       by_object (Some o) = rw (same o) refl
 
   pub in_job_updated : (m : Map Object) (k : ℕ) (b : Body) → is_in_job (update m k f) b ≡ is_in_job m b
-  in_job_updated m k body.RootJob = refl
-  in_job_updated m k (body.Process job lives) = rw (job_updated m k job) refl
-  in_job_updated m k body.Event = refl
-  in_job_updated m k (body.Port port) = refl
-  in_job_updated m k (body.ChannelEnd p queue) = refl
+  in_job_updated m k b = same_in_job m (update m k f) (job_updated m k) b

@@ -2,32 +2,33 @@
 use Rattle.zl_rights.proofs.Common.{◌≡◌, ◌+◌, ◌<◌, ◌≤◌, ℕ, true, false, ◌||◌, ◌==◌, List, [], ◌∷◌, ◌++◌, length, refl, sym, ap, ◌∙◌, cond, Option, Some, None, inl, inr, ◌⊎◌, IsTrue, arith, eq-eqb, nat_lt, if◌then◌else◌, count_by, drop, filter, get_or, has_key, is_some, list_any, map-append, slice_get, take, take_more, length-append, append_assoc, cases_Bool, eqb-true, false≢true, or_left, or_right, nat_tests, none-some, same_Some, Map, get, update, without}
 use Rattle.std.proofs.lemmas.Bool.{or_cases, or_parts}
 use Rattle.std.proofs.lemmas.List.Concat.{flat_map-cons}
+use Rattle.std.specs.Option.{option_to_list}
 use Rattle.zl_rights.specs.declared.entry.Entry.{Entry}
 use Rattle.zl_rights.specs.World.{Message}
 use Rattle.zl_table.proofs.MapEdits.{is_sorted-update, sorted_without}
 use Rattle.zl_objects.specs.declared.object.Body.{Body}
 use Rattle.zl_objects.specs.declared.object.Body.TheVariants as body
 use Rattle.zl_objects.specs.declared.object.Object.{Object}
-use Rattle.zl_objects.specs.Objects.{held_once_less, is_kept, queue_of, stays_alone}
+use Rattle.zl_objects.specs.Objects.{held_once_less, is_child, is_kept, is_koid, keeper_of, queue_of, stays_alone}
 use Rattle.zl_objects.specs.Release.{koids_of, named_in, let_go, goes, waits_end, AreKeptBut}
 use Rattle.zl_objects.specs.Dying.{is_last, is_named, is_unkept, budget, left_at, unkept_at, LetsGo, Thins}
 use Rattle.zl_objects.specs.Waits.{AreSameButWaits, ending_waits}
-use Rattle.zl_objects.proofs.Bare.{has_same, named_same, still_kept}
+use Rattle.zl_objects.proofs.Bare.{has_same, length_same, named_same, still_kept}
 use Rattle.zl_objects.proofs.Ending.{ending_bare, ending_gone, ending_places, ending_thins}
 use Rattle.zl_objects.proofs.Places.{places_updated}
-use Rattle.zl_objects.proofs.Sums.{sum_fewer, sum_no_more, sum_left}
+use Rattle.zl_objects.proofs.Sums.{count_but_one, length_out, sum_fewer, sum_no_more, sum_left}
 use Rattle.zl_objects.proofs.Bodies.{Changed, changed, alone_updated, alone_left, found_left}
 
 -- ---- lists of what was noted
 
-noted_left : (k : ℕ) (xs ys : List ℕ) → IsTrue (list_any (λ x. x == k) xs) → IsTrue (list_any (λ x. x == k) (xs ++ ys))
+pub noted_left : (k : ℕ) (xs ys : List ℕ) → IsTrue (list_any (λ x. x == k) xs) → IsTrue (list_any (λ x. x == k) (xs ++ ys))
 noted_left k [] ys h = absurd (false≢true h)
 noted_left k (x ∷ xs) ys h = elim (or_cases (x == k) _ h) as (λ _. IsTrue (list_any (λ y. y == k) (x ∷ xs ++ ys))) [
   | inl here ↦ or_left (x == k) _ here
   | inr later ↦ or_right (x == k) _ (noted_left k xs ys later)
 ]
 
-noted_last : (k : ℕ) (xs : List ℕ) → IsTrue (list_any (λ x. x == k) (xs ++ k ∷ []))
+pub noted_last : (k : ℕ) (xs : List ℕ) → IsTrue (list_any (λ x. x == k) (xs ++ k ∷ []))
 noted_last k [] = or_left (k == k) _ (eq-eqb k k refl)
 noted_last k (x ∷ xs) = or_right (x == k) _ (noted_last k xs)
 
@@ -37,6 +38,19 @@ noted_before k j (x ∷ xs) apart h = elim (or_cases (x == k) _ h) as (λ _. IsT
   | inl here ↦ or_left (x == k) _ here
   | inr later ↦ or_right (x == k) _ (noted_before k j xs apart later)
 ]
+
+noted_right : (k : ℕ) (xs ys : List ℕ) → IsTrue (list_any (λ x. x == k) ys) → IsTrue (list_any (λ x. x == k) (xs ++ ys))
+noted_right k [] ys h = h
+noted_right k (x ∷ xs) ys h = or_right (x == k) _ (noted_right k xs ys h)
+
+-- the job that was found is noted
+keeper_noted : (k : ℕ) (o : Option ℕ) → IsTrue (is_koid k o) → IsTrue (list_any (λ x. x == k) (option_to_list o))
+keeper_noted k None h = absurd (false≢true h)
+keeper_noted k (Some j) h = or_left (j == k) _ h
+
+few_keepers : (o : Option ℕ) → length (option_to_list o) ≤ 1
+few_keepers None = omega arith
+few_keepers (Some j) = omega arith
 
 -- ---- one handle less
 
@@ -171,16 +185,14 @@ module _ (m : Map Object) (d : List ℕ) (k : ℕ) where
     thins = λ j o at. thin_refl m j o at;
   }
 
-  -- nothing keeps it, and the waits that end with it have ended
-  pub unkept_went : (o : Object) (m2 : Map Object) (d2 : List ℕ) → get m k ≡ Some o → is_kept m k o ≡ false → LetsGo (named_in (queue_of o.body)) (ending_waits k o (without m k)) d m2 d2 → LetsGo [] m (d ++ k ∷ []) m2 d2
+  -- nothing keeps it, the waits that end with it have ended, and the job was noted of which it was a living child
+  pub unkept_went : (o : Object) (m2 : Map Object) (d2 : List ℕ) → get m k ≡ Some o → is_kept m k o ≡ false → LetsGo (named_in (queue_of o.body)) (ending_waits k o (without m k)) (d ++ option_to_list (keeper_of o.body)) m2 d2 → LetsGo [] m (d ++ k ∷ []) m2 d2
   unfolding budget
   unkept_went o m2 d2 there unkept queue = record {
-    cheap = omega (arith, longer, queue.cheap, sum_left (λ e. cond (is_named e) 1 0) m k, named_same (without m k) mid same);
-    notes = λ others old. queue.notes others (still_kept (without m k) mid same (others ++ d) (record {
+    cheap = omega (arith, queue.cheap, length-append d (k ∷ []), length-append d keeper, few_keepers (keeper_of o.body), sum_left (λ e. cond (is_named e) 1 0) m k, named_same (without m k) mid same);
+    notes = λ others old. queue.notes others (still_kept (without m k) mid same (others ++ (d ++ keeper)) (record {
       in_order = sorted_without m k old.in_order;
-      noted = λ j q at loose.
-          let was = found_left m k j q at in
-          noted_before j k (others ++ d) was.0 (rw (append_assoc others d (k ∷ [])) (old.noted j q was.1 (rw (← alone_left m old.in_order k o there unkept j q.body) loose)));
+      noted = λ j q at loose. by_child others old j q (found_left m k j q at) loose (cases_Bool (is_child j o.body));
     }));
     leads = λ rest m3 tail. goes k o rest m m3 there unkept (waits_end (named_in (queue_of o.body) ++ rest) (without m k) mid m3 same (queue.leads rest m3 tail));
     places = λ have. queue.places (ending_places m k o there have);
@@ -190,13 +202,63 @@ module _ (m : Map Object) (d : List ℕ) (k : ℕ) where
       mid : Map Object
       mid = ending_waits k o (without m k)
 
+      keeper : List ℕ
+      keeper = option_to_list (keeper_of o.body)
+
       same : AreSameButWaits (without m k) mid
       same = ending_bare k o (without m k)
 
+      by_child : (others : List ℕ) → AreKeptBut (others ++ (d ++ k ∷ [])) m → (j : ℕ) (q : Object) → ((k == j) ≡ false) × (get m j ≡ Some q) → is_kept (without m k) j q ≡ false → IsTrue (is_child j o.body) ⊎ (is_child j o.body ≡ false) → IsTrue (list_any (λ x. x == j) (others ++ (d ++ keeper)))
+      by_child others old j q was loose (inl child) = noted_right j others (d ++ keeper) (noted_right j d keeper (keeper_noted j (keeper_of o.body) child))
+      by_child others old j q was loose (inr apart) = rw (← append_assoc others d keeper) (noted_left j (others ++ d) keeper
+          (noted_before j k (others ++ d) was.0 (rw (append_assoc others d (k ∷ [])) (old.noted j q was.1 (rw (← alone_left m old.in_order k o there j apart q.body) loose)))))
+
   -- what it takes is no more
-  pub less_ending : (o : Object) → budget (ending_waits k o (without m k)) d ≤ budget m d
+  pub less_ending : (o : Object) → budget (ending_waits k o (without m k)) (d ++ option_to_list (keeper_of o.body)) ≤ budget m (d ++ k ∷ [])
   unfolding budget
-  less_ending o = omega (arith, sum_left (λ e. cond (is_named e) 1 0) m k, named_same (without m k) (ending_waits k o (without m k)) (ending_bare k o (without m k)))
+  less_ending o = omega (arith, length-append d (k ∷ []), length-append d (option_to_list (keeper_of o.body)), few_keepers (keeper_of o.body), sum_left (λ e. cond (is_named e) 1 0) m k, named_same (without m k) (ending_waits k o (without m k)) (ending_bare k o (without m k)))
+
+  -- and there is one object less
+  pub fewer_ending : (o : Object) → get m k ≡ Some o → length (ending_waits k o (without m k)) < length m
+  fewer_ending o there = omega (arith, length_out m k o there, length_same (without m k) (ending_waits k o (without m k)) (ending_bare k o (without m k)))
+
+  -- where nothing goes, the noted one is fewer
+  pub less_noted : budget m d + length m < budget m (d ++ k ∷ []) + length m
+  unfolding budget
+  less_noted = omega (arith, length-append d (k ∷ []))
+
+  -- there is room for what is noted in its place
+  pub room_noted : (cap : ℕ) → budget m (d ++ k ∷ []) ≤ cap → length d < cap
+  unfolding budget
+  room_noted cap fits = omega (arith, fits, length-append d (k ∷ []))
+
+-- what nothing keeps can be noted, where there is room for each object
+pub unkept_fits : (m : Map Object) (k : ℕ) (o : Object) → get m k ≡ Some o → is_kept m k o ≡ false → budget m (k ∷ []) ≤ length m
+unfolding budget
+unkept_fits m k o there unkept = omega (arith, count_but_one is_named m k o there (or_parts (nat_lt 0 o.handles) (stays_alone m k o.body) unkept).0)
+
+pub test_fits : (m : Map Object) (k : ℕ) → IsTrue (is_unkept m k (get m k)) → budget m (k ∷ []) ≤ length m
+test_fits m k unkept = by_object (get m k) refl unkept
+  where
+    by_object : (q : Option Object) → get m k ≡ q → IsTrue (is_unkept m k q) → budget m (k ∷ []) ≤ length m
+    by_object None is h = absurd (false≢true h)
+    by_object (Some o) is h = elim (cases_Bool (is_kept m k o)) as (λ _. budget m (k ∷ []) ≤ length m) [
+      | inl kept ↦ absurd (false≢true (rw kept at h))
+      | inr loose ↦ unkept_fits m k o is loose
+    ]
+
+-- what something keeps stays
+pub test_kept : (m : Map Object) (k : ℕ) → is_unkept m k (get m k) ≡ false → LetsGo [] m (k ∷ []) m []
+test_kept m k out = kept_went m [] k (λ o at. by_test o (cases_Bool (is_kept m k o)) (rw at at out))
+  where
+    by_test : (o : Object) → IsTrue (is_kept m k o) ⊎ (is_kept m k o ≡ false) → is_unkept m k (Some o) ≡ false → IsTrue (is_kept m k o)
+    by_test o (inl kept) h = kept
+    by_test o (inr loose) h = absurd (false≢true (sym h ∙ rw loose refl))
+
+-- one place is taken where there is room for each object
+pub none_noted : (m : Map Object) (k cap : ℕ) (d : List ℕ) → IsTrue (is_unkept m k (get m k)) → d ≡ [] → length m ≤ cap → length d < cap
+unfolding budget
+none_noted m k cap d unkept empty room = rw empty (omega (arith, test_fits m k unkept, room))
 
 -- ---- what was taken out
 
@@ -259,7 +321,7 @@ first_shorter (x ∷ q) q2 first there rest = let left : q2 ≡ q = rest in rw l
 
 -- an object without a queue
 pub no_queue : (b : Body) → ((peer : ℕ) (queue : List Message) → b ≡ body.ChannelEnd peer queue → ⊥) → queue_of b ≡ []
-no_queue body.RootJob none = refl
+no_queue (body.Job own) none = refl
 no_queue (body.Process job lives) none = refl
 no_queue body.Event none = refl
 no_queue (body.Port port) none = refl

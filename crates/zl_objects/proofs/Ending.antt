@@ -39,7 +39,7 @@ port_bare : (o : Object) → bare (at_port without_place o) ≡ bare o
 port_bare o = ap (λ (b : Body). record (bare o) { body = b }) (by_body o.body)
   where
     by_body : (b : Body) → unreserved (changed_port without_place b) ≡ unreserved b
-    by_body body.RootJob = refl
+    by_body (body.Job own) = refl
     by_body (body.Process job lives) = refl
     by_body body.Event = refl
     by_body (body.ChannelEnd peer queue) = refl
@@ -160,7 +160,7 @@ reserved_back m p j = ap reserved_in (get-update m p (at_port without_place) j) 
 ]
   where
     by_body : (b : Body) → reserved_of (changed_port without_place b) ≡ reserved_of b - 1
-    by_body body.RootJob = refl
+    by_body (body.Job own) = refl
     by_body (body.Process job lives) = refl
     by_body body.Event = refl
     by_body (body.ChannelEnd peer queue) = refl

@@ -18,6 +18,7 @@ use Rattle.zl_objects.specs.Release.{Cascades}
 use Rattle.zl_objects.specs.Waits.{HavePlaces, unwatched, waits_in, watched}
 use Rattle.zl_objects.proofs.Listed.{inserted_listed, left_listed, none_listed, popped_listed, unwatched_listed, updated_listed, updated_or_listed, watched_listed}
 use Rattle.zl_objects.proofs.Released.{waits_left, whole_left}
+use Rattle.zl_objects.proofs.Tasks.{killed_kept, started_kept}
 use Rattle.zl_objects.proofs.Whole.{below_first, changed_whole, channel_whole, end_of, gone_whole, inserted_whole, made_whole, more_quiet, more_whole, none_out_whole, none_whole, popped_whole, port_or_same_whole, port_whole, received_whole, roomy_whole, sent_or_same_whole, stopped_whole, watched_whole}
 
 pub none_kept : (m : Map Object) (next room : ℕ) (d : List ℕ) (waits : List WaitValue) → m ≡ [] → d ≡ [] → waits ≡ [] → IsKept None m next d room waits
@@ -136,4 +137,4 @@ module _ {waits : List WaitValue} where
   }
 
 -- what the methods of objects cite
-pub ruleset kept = (none_kept, more_kept, changed_kept, stopped_kept, received_kept, inserted_kept, roomy_kept)
+pub ruleset kept = (none_kept, more_kept, changed_kept, started_kept, stopped_kept, killed_kept, received_kept, inserted_kept, roomy_kept)

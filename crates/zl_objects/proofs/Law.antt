@@ -1,5 +1,5 @@
 -- Once no handle is left to go and nothing is left that nothing keeps, the largest held set is left.
-use Rattle.zl_rights.proofs.Common.{◌≡◌, ◌+◌, ◌<◌, ℕ, Bool, true, false, not, ◌&&◌, ◌||◌, ◌==◌, List, [], ◌∷◌, ◌++◌, map, refl, sym, ap, ◌∙◌, subst, cond, Option, Some, None, inl, inr, ◌⊎◌, IsTrue, arith, eq-eqb, nat_lt, is_some, list_any, count_by, sum_by, option_map, sum_by-cons, cases_Bool, eqb-true, false≢true, or_left, or_right, and_parts, and_from, nat_tests, Map, get, has_key, update, without, World, State, Created, Ready, Blocked, Ended, Gone, Process, is_process, runs, lives, state_passes, Koids, Settles, is_held, in_table, in_queue, has_living_child as living_child, queue_of as queue_value, ChannelEnd, EventBody, PortBody, JobBody, ProcessBody}
+use Rattle.zl_rights.proofs.Common.{◌≡◌, ◌+◌, ◌<◌, ℕ, Bool, true, false, not, ◌&&◌, ◌||◌, ◌==◌, List, [], ◌∷◌, ◌++◌, map, refl, sym, ap, ◌∙◌, subst, cond, if◌then◌else◌, Option, Some, None, inl, inr, ◌⊎◌, IsTrue, arith, eq-eqb, nat_lt, is_some, list_any, count_by, sum_by, option_map, sum_by-cons, cases_Bool, eqb-true, false≢true, or_left, or_right, and_parts, and_from, nat_tests, Map, get, has_key, update, without, World, State, Created, Ready, Blocked, Ended, Gone, Process, is_process, runs, lives, state_passes, Koids, Settles, is_held, in_table, in_queue, has_living_child as living_child, queue_of as queue_value, ChannelEnd, EventBody, PortBody, JobBody, ProcessBody}
 use Rattle.std.proofs.lemmas.List.Sums.{sum_by-append}
 use Rattle.std.proofs.lemmas.List.Concat.{flat_map-cons}
 use Rattle.std.proofs.lemmas.Bool.{or_cases, or_parts}
@@ -12,10 +12,10 @@ use Rattle.zl_table.proofs.MapEdits.{get-without, sorted_without, is_sorted-upda
 use Rattle.zl_objects.specs.declared.object.Body.{Body}
 use Rattle.zl_objects.specs.declared.object.Body.TheVariants as body
 use Rattle.zl_objects.specs.declared.object.Object.{Object}
-use Rattle.zl_objects.specs.Objects.{Objects, has_living_child, held_once_less, is_job_at, is_job_body, is_kept, lives_below, queue_of, stays_alone}
+use Rattle.zl_objects.specs.Objects.{Objects, has_living_child, held_once_less, is_alive, is_child, is_job_at, is_job_body, is_kept, is_koid, keeper_of, queue_of, stays_alone}
 use Rattle.zl_objects.specs.Release.{koids_of, named_in, Cascades, none_left, let_go, goes, waits_end, AreKeptBut, Releases}
 use Rattle.zl_objects.specs.Waits.{AreSameButWaits}
-use Rattle.zl_objects.specs.Seen.{body_value, object_value, object_entry, with_objects, with_all, Agrees, is_in_job, IsExact, LeavesLargest}
+use Rattle.zl_objects.specs.Seen.{body_value, object_value, object_entry, with_objects, with_all, Agrees, is_above, is_in_job, IsExact, LeavesLargest}
 use Rattle.zl_objects.proofs.Sums.{sum_without, any_summed, summed_any, any_counted, count_none, positive_part, any_there}
 use Rattle.zl_objects.proofs.Bare.{IsAlike, agrees_same, alike, has_same, in_job_same, seen_same, sorted_same}
 use Rattle.zl_objects.proofs.Bodies.{Changed, changed, changed_body, in_job_updated, found_left, has_left}
@@ -106,11 +106,45 @@ one_queue k (m ∷ ms) = rw (flat_map-cons (λ (x : Message). koids_of x.handles
 
 -- what the queue of an object counts, once its handles have left
 queue_moved : (k : ℕ) (b : Body) → queued_to k (body_value b) ≡ count_by (λ j. j == k) (named_in (queue_of b))
-queue_moved k body.RootJob = refl
-queue_moved k (body.Process job lives_on) = refl
+queue_moved k (body.Job own) = refl
+queue_moved k (body.Process job life) = refl
 queue_moved k body.Event = refl
 queue_moved k (body.Port port) = refl
 queue_moved k (body.ChannelEnd peer queue) = one_queue k queue
+
+-- ---- children
+
+-- the world sees a living child where the object is one
+pub seen_child : (w : World) (k j : ℕ) (b : Body) → Agrees w j b → (is_job_below k (body_value b) || (is_process_of k (body_value b) && is_process w lives j)) ≡ is_child k b
+seen_child w k j (body.Job own) agrees = by_state own.killed
+  where
+    never : (b : Bool) → ((b && false) || false) ≡ false
+    never true = refl
+    never false = refl
+
+    always : (b : Bool) → ((b && true) || false) ≡ b
+    always true = refl
+    always false = refl
+
+    by_state : (killed : Bool) → (((own.parent == k) && not killed) || false) ≡ is_koid k (if killed then None else Some own.parent)
+    by_state true = never (own.parent == k)
+    by_state false = always (own.parent == k)
+seen_child w k j (body.Process job life) agrees = ap (λ b. (job == k) && b) (sym agrees.living) ∙ by_state (is_alive life)
+  where
+    never : (b : Bool) → (b && false) ≡ false
+    never true = refl
+    never false = refl
+
+    always : (b : Bool) → (b && true) ≡ b
+    always true = refl
+    always false = refl
+
+    by_state : (alive : Bool) → ((job == k) && alive) ≡ is_koid k (if alive then Some job else None)
+    by_state true = always (job == k)
+    by_state false = never (job == k)
+seen_child w k j body.Event agrees = refl
+seen_child w k j (body.Port port) agrees = refl
+seen_child w k j (body.ChannelEnd p queue) agrees = refl
 
 -- ---- the law, after each change
 
@@ -179,34 +213,39 @@ module _ (w : World) (ks : List ℕ) (m : Map Object) (exact : IsExact w ks m) w
     nothing : ◌≡◌ {A = ℕ} o.handles 0
     nothing = let no_handle : nat_lt 0 o.handles ≡ false = parts.0 in grind (arith, nat_tests, no_handle)
 
-    -- a living process of the job k would keep it
-    no_living : (j : ℕ) (q : Object) (job : ℕ) → get m j ≡ Some q → q.body ≡ body.Process job true → IsTrue (job == k) → ⊥
+    -- a living child of the job k would keep it
+    no_living : (j : ℕ) (q : Object) → get m j ≡ Some q → IsTrue (is_child k q.body) → ⊥
     unfolding has_living_child
-    no_living j q job at is of =
-        let in_job : IsTrue (is_job_at m job) = rw is at (exact.in_jobs j q at) in
-        let job_is : IsTrue (is_job_body o.body) = rw (eqb-true job k of, there) at in_job in
-        by_body o.body parts.1 job_is
+    no_living j q at of = by_keeper (keeper_of q.body) (exact.in_jobs j q at) of
       where
         child : IsTrue (has_living_child m k)
-        child = any_at (λ e. lives_below k e.1.body) m j q at (rw (is, of) refl)
+        child = any_at (λ e. is_child k e.1.body) m j q at of
 
         by_body : (b : Body) → stays_alone m k b ≡ false → IsTrue (is_job_body b) → ⊥
-        by_body body.RootJob off h = false≢true (sym off ∙ child)
-        by_body (body.Process j2 alive) off h = false≢true h
+        by_body (body.Job own) off h = false≢true (sym off ∙ child)
+        by_body (body.Process own life) off h = false≢true h
         by_body body.Event off h = false≢true h
         by_body (body.Port port) off h = false≢true h
         by_body (body.ChannelEnd p queue) off h = false≢true h
 
-    job_left : (j : ℕ) (q : Object) (b : Body) → q.body ≡ b → get m j ≡ Some q → IsTrue (is_in_job m b) → IsTrue (is_in_job (without m k) b)
-    job_left j q body.RootJob is at h = refl
-    job_left j q (body.Process job false) is at h = refl
-    job_left j q (body.Process job true) is at h = elim (cases_Bool (k == job)) as (λ _. IsTrue (is_job_at (without m k) job)) [
-      | inl here ↦ absurd (no_living j q job at is (eq-eqb job k (sym (eqb-true k job here))))
-      | inr apart ↦ rw (get-without m k job, apart) h
-    ]
-    job_left j q body.Event is at h = refl
-    job_left j q (body.Port port) is at h = refl
-    job_left j q (body.ChannelEnd p queue) is at h = refl
+        by_keeper : (o2 : Option ℕ) → IsTrue (is_above m o2) → IsTrue (is_koid k o2) → ⊥
+        by_keeper None above here = false≢true here
+        by_keeper (Some job) above here =
+            let key : job ≡ k = eqb-true job k here in
+            elim (or_cases (job == 0) (is_job_at m job) above) as (λ _. ⊥) [
+              | inl zero ↦ let none : job ≡ 0 = eqb-true job 0 zero in omega (arith, key, none, exact.no_zero k (rw there refl))
+              | inr in_job ↦ by_body o.body parts.1 (rw (key, there) at in_job)
+            ]
+
+    job_left : (j : ℕ) (q : Object) → get m j ≡ Some q → IsTrue (is_in_job m q.body) → IsTrue (is_in_job (without m k) q.body)
+    job_left j q at in_job = by_keeper (keeper_of q.body) refl in_job
+      where
+        by_keeper : (o2 : Option ℕ) → keeper_of q.body ≡ o2 → IsTrue (is_above m o2) → IsTrue (is_above (without m k) o2)
+        by_keeper None is above = refl
+        by_keeper (Some job) is above = elim (cases_Bool (k == job)) as (λ _. IsTrue (is_above (without m k) (Some job))) [
+          | inl here ↦ absurd (no_living j q at (rw is (eq-eqb job k (sym (eqb-true k job here)))))
+          | inr apart ↦ rw (get-without m k job, apart) above
+        ]
 
     pub left_exact : IsExact w (named_in (queue_of o.body) ++ ks) (without m k)
     unfolding handles_to
@@ -216,7 +255,7 @@ module _ (w : World) (ks : List ℕ) (m : Map Object) (exact : IsExact w ks m) w
       counted = λ j q at. omega (arith, exact.counted j q (found_left m k j q at).1, moved j);
       named = λ j some. by_key j (omega (arith, some, moved j)) (cases_Bool (k == j));
       agrees = λ j q at. exact.agrees j q (found_left m k j q at).1;
-      in_jobs = λ j q at. job_left j q q.body refl (found_left m k j q at).1 (exact.in_jobs j q (found_left m k j q at).1);
+      in_jobs = λ j q at. job_left j q (found_left m k j q at).1 (exact.in_jobs j q (found_left m k j q at).1);
     }
       where
         moved : (j : ℕ) → handles_to (with_objects w m) j + count_by (λ i. i == j) ks ≡ handles_to (with_objects w (without m k)) j + count_by (λ i. i == j) (named_in (queue_of o.body) ++ ks)
@@ -252,8 +291,8 @@ module _ (w : World) (ks : List ℕ) (m : Map Object) (exact : IsExact w ks m) w
     not_running = by_body o.body parts.1 (exact.agrees k o there)
       where
         by_body : (b : Body) → stays_alone m k b ≡ false → Agrees w k b → is_process w runs k ≡ false
-        by_body body.RootJob off agrees = agrees
-        by_body (body.Process job alive) off agrees = sym agrees.running ∙ off
+        by_body (body.Job own) off agrees = agrees
+        by_body (body.Process job life) off agrees = sym agrees.running ∙ off
         by_body body.Event off agrees = agrees
         by_body (body.Port port) off agrees = agrees
         by_body (body.ChannelEnd p queue) off agrees = agrees
@@ -268,24 +307,10 @@ module _ (w : World) (ks : List ℕ) (m : Map Object) (exact : IsExact w ks m) w
         test : ℕ × ObjectValue → Bool
         test x = has_key (map object_entry m) x.0 && (is_job_below k x.1.body || (is_process_of k x.1.body && is_process w lives x.0))
 
-        by_body : (j : ℕ) (q : Object) (b : Body) → q.body ≡ b → get m j ≡ Some q → IsTrue (is_job_below k (body_value b) || (is_process_of k (body_value b) && is_process w lives j)) → ⊥
-        by_body j q body.RootJob is at passes = elim (or_cases ((0 == k) && true) false passes) as (λ _. ⊥) [
-          | inl zero ↦ let key : 0 ≡ k = eqb-true 0 k (and_parts (0 == k) true zero).0 in omega (arith, key, exact.no_zero k (rw there refl))
-          | inr other ↦ false≢true other
-        ]
-        by_body j q (body.Process job alive) is at passes =
-            let both = and_parts (job == k) (is_process w lives j) passes in
-            let agrees : Agrees w j (body.Process job alive) = subst (Agrees w j) is (exact.agrees j q at) in
-            let alive_is : alive ≡ true = agrees.living ∙ both.1 in
-            no_living j q job at (is ∙ ap (λ (b : Bool). body.Process job b) alive_is) both.0
-        by_body j q body.Event is at passes = false≢true passes
-        by_body j q (body.Port port) is at passes = false≢true passes
-        by_body j q (body.ChannelEnd p queue) is at passes = false≢true passes
-
         found : IsTrue (living_child (with_objects w m) (has_key (map object_entry m)) k) → ⊥
         found some =
             let f : Found (λ e. test (object_entry e)) m = any_found (λ e. test (object_entry e)) m exact.in_order (sym (any_seen test m) ∙ some) in
-            by_body f.key f.value f.value.body refl f.at (and_parts (has_key (map object_entry m) f.key) _ f.passes).1
+            no_living f.key f.value f.at (sym (seen_child w k f.key f.value.body (exact.agrees f.key f.value f.at)) ∙ (and_parts (has_key (map object_entry m) f.key) (is_job_below k (body_value f.value.body) || (is_process_of k (body_value f.value.body) && is_process w lives f.key)) f.passes).1)
 
     not_held : is_held (with_objects w m) (has_key (map object_entry m)) k ≡ false
     unfolding is_held is_process
@@ -347,21 +372,10 @@ module _ (w : World) (m : Map Object) (exact : IsExact w [] m) (kept : (k : ℕ)
   child_held : (k : ℕ) → IsTrue (has_living_child m k) → IsTrue (living_child wm all k)
   unfolding has_living_child living_child is_process
   child_held k some =
-      let found : Found (λ e. lives_below k e.1.body) m = any_found (λ e. lives_below k e.1.body) m exact.in_order some in
-      by_body found.key found.value found.value.body refl found.at found.passes
-    where
-      by_body : (j : ℕ) (o : Object) (b : Body) → o.body ≡ b → get m j ≡ Some o → IsTrue (lives_below k o.body)
-          → IsTrue (list_any (λ x. all x.0 && (is_job_below k x.1.body || (is_process_of k x.1.body && is_process w lives x.0))) (map object_entry m))
-      by_body j o body.RootJob is at passes = absurd (false≢true (rw is at passes))
-      by_body j o body.Event is at passes = absurd (false≢true (rw is at passes))
-      by_body j o (body.Port port) is at passes = absurd (false≢true (rw is at passes))
-      by_body j o (body.ChannelEnd p queue) is at passes = absurd (false≢true (rw is at passes))
-      by_body j o (body.Process job alive) is at passes =
-          let both = and_parts (job == k) alive (rw is at passes) in
-          let agrees : Agrees w j (body.Process job alive) = subst (Agrees w j) is (exact.agrees j o at) in
-          let seen : get (map object_entry m) j ≡ Some (object_value o) = get_seen m j ∙ rw at refl in
-          any_at (λ x. all x.0 && (is_job_below k x.1.body || (is_process_of k x.1.body && is_process w lives x.0))) (map object_entry m) j (object_value o) seen
-          (rw (seen, is, both.0, sym agrees.living ∙ both.1) refl)
+      let found : Found (λ e. is_child k e.1.body) m = any_found (λ e. is_child k e.1.body) m exact.in_order some in
+      let seen : get (map object_entry m) found.key ≡ Some (object_value found.value) = get_seen m found.key ∙ rw found.at refl in
+      any_at (λ x. all x.0 && (is_job_below k x.1.body || (is_process_of k x.1.body && is_process w lives x.0))) (map object_entry m) found.key (object_value found.value) seen
+      (and_from (all found.key) _ (rw seen refl) (seen_child w k found.key found.value.body (exact.agrees found.key found.value found.at) ∙ found.passes))
 
   pub all_held : IsHeld wm all
   unfolding is_held handles_to in_table in_queue is_process
@@ -377,9 +391,9 @@ module _ (w : World) (m : Map Object) (exact : IsExact w [] m) (kept : (k : ℕ)
               (summed_any (λ e. queued_to k e.1.body) (λ e. names k (queue_value e.1.body)) (λ e none. named_queue k e.1.body none) (map object_entry m) queues))))
 
           alone : (b : Body) → o.body ≡ b → IsTrue (stays_alone m k b) → IsHeldBy k
-          alone body.RootJob is stays = or_right _ _ (child_held k stays)
-          alone (body.Process job alive) is stays =
-              let agrees : Agrees w k (body.Process job alive) = subst (Agrees w k) is (exact.agrees k o there) in
+          alone (body.Job own) is stays = or_right _ _ (child_held k stays)
+          alone (body.Process job life) is stays =
+              let agrees : Agrees w k (body.Process job life) = subst (Agrees w k) is (exact.agrees k o there) in
               or_left _ _ (or_right _ _ (sym agrees.running ∙ stays))
           alone body.Event is stays = absurd (false≢true stays)
           alone (body.Port port) is stays = absurd (false≢true stays)

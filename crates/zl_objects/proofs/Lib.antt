@@ -2,6 +2,7 @@ pub mod Bare
 pub mod Bodies
 pub mod Budget
 pub mod ByKoid
+pub mod Climbing
 pub mod Ending
 pub mod Found
 pub mod Kept
@@ -14,5 +15,8 @@ pub mod Released
 pub mod Removing
 pub mod Showing
 pub mod Sums
+pub mod Sweeps
+pub mod Tasks
+pub mod Walks
 pub mod Whole
 pub mod Worked

@@ -88,7 +88,7 @@ places_used f less x m have j = elim (cases_Bool (x.port == j)) as (λ _. waits_
 ]
   where
     by_body : (b : Body) → reserved_of (changed_port f b) ≡ reserved_of b - 1
-    by_body body.RootJob = refl
+    by_body (body.Job own) = refl
     by_body (body.Process job lives) = refl
     by_body body.Event = refl
     by_body (body.ChannelEnd peer queue) = refl
@@ -116,7 +116,7 @@ places_made x m port have j = elim (cases_Bool (x.port == j)) as (λ _. waits_at
     by_object (Some o) h = by_body o.body h
       where
         by_body : (b : Body) → IsTrue (is_port_in (Some (record o { body = b }))) → reserved_of (changed_port with_place b) ≡ reserved_of b + 1
-        by_body body.RootJob no_port = absurd (false≢true no_port)
+        by_body (body.Job own) no_port = absurd (false≢true no_port)
         by_body (body.Process job lives) no_port = absurd (false≢true no_port)
         by_body body.Event no_port = absurd (false≢true no_port)
         by_body (body.ChannelEnd peer queue) no_port = absurd (false≢true no_port)
@@ -151,7 +151,7 @@ place_there x m have = by_object (get m x.port) refl
         here = eq-eqb x.port x.port refl
 
         by_body : (b : Body) → o.body ≡ b → IsTrue (has_place_in (Some (record o { body = b })))
-        by_body body.RootJob same = refl
+        by_body (body.Job own) same = refl
         by_body (body.Process job lives) same = refl
         by_body body.Event same = refl
         by_body (body.ChannelEnd peer queue) same = refl
@@ -171,7 +171,7 @@ place_back (e ∷ m) p = elim (cases_Bool (e.0 == p)) as (λ _. update (update (
 ]
   where
     same_body : (b : Body) → changed_port without_place (changed_port with_place b) ≡ b
-    same_body body.RootJob = refl
+    same_body (body.Job own) = refl
     same_body (body.Process job lives) = refl
     same_body body.Event = refl
     same_body (body.ChannelEnd peer queue) = refl

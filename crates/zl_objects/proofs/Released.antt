@@ -1,21 +1,20 @@
 -- What is left of the objects once handles have gone: each as it was, and the invariant holds.
-use Rattle.zl_rights.proofs.Common.{◌≡◌, ◌<◌, ◌≤◌, ℕ, true, false, sym, ◌||◌, ◌==◌, ◌⊎◌, List, [], ◌∷◌, ◌++◌, length, if◌then◌else◌, refl, ap, ◌∙◌, subst, Option, Some, None, inl, inr, IsTrue, arith, is_some, list_any, append-nil, append_assoc, same_Some, or_left, or_right, cases_Bool, false≢true, Map, get, has_key, update, without}
-use Rattle.std.proofs.lemmas.Bool.{or_cases}
+use Rattle.zl_rights.proofs.Common.{◌≡◌, ◌<◌, ◌≤◌, ℕ, true, false, sym, ◌||◌, ◌==◌, ◌⊎◌, List, [], ◌∷◌, ◌++◌, length, if◌then◌else◌, refl, ap, ◌∙◌, subst, Option, Some, None, inl, inr, IsTrue, arith, cond, count_by, nat_tests, is_some, list_any, append-nil, append_assoc, same_Some, or_left, or_right, cases_Bool, false≢true, Map, get, has_key, update, without}
 use Rattle.std.proofs.lemmas.List.Sums.{count_by-le-length}
 use Rattle.zl_rights.specs.World.{Wait}
 use Rattle.zl_table.proofs.MapEdits.{is_sorted-update, length-update}
 use Rattle.zl_objects.specs.declared.object.Body.{Body}
 use Rattle.zl_objects.specs.declared.object.Body.TheVariants as body
 use Rattle.zl_objects.specs.declared.object.Object.{Object}
-use Rattle.zl_objects.specs.Objects.{Objects, has_living_child, held_once_less, is_end_at, is_end_body, is_kept, job_in, job_of, lives_below, queue_of, stays_alone, stopped, stopped_body, stopping}
+use Rattle.zl_objects.specs.Objects.{Objects, has_living_child, held_once_less, is_alive, is_child, is_end_at, is_end_body, is_kept, is_koid, job_in, job_of, queue_of, stays_alone, stopped, stopped_body, stopping}
 use Rattle.zl_objects.specs.Release.{named_in, AreKeptBut, Cascades, none_left, let_go, goes, waits_end, Releases}
 use Rattle.zl_objects.specs.Dying.{HasPeer, IsWhole, LetsGo, Thins, budget, is_named}
 use Rattle.zl_objects.specs.Ports.{unreserved}
 use Rattle.zl_objects.specs.Seen.{body_value}
 use Rattle.zl_objects.specs.Waits.{HavePlaces, KeepsWaits}
-use Rattle.zl_objects.proofs.Bare.{IsAlike, alike, length_same, of_body}
+use Rattle.zl_objects.proofs.Bare.{IsAlike, alike, length_same, named_same, of_body}
 use Rattle.zl_objects.proofs.Ending.{all_ports_there}
-use Rattle.zl_objects.proofs.Sums.{length_left}
+use Rattle.zl_objects.proofs.Sums.{length_left, sum_left, sum_no_more}
 use Rattle.zl_objects.proofs.Bodies.{Changed, changed, changed_body, found_left}
 use Rattle.zl_objects.proofs.Budget.{thin_then}
 
@@ -60,11 +59,21 @@ cascaded_was _ _ _ (waits_end ks m mid m2 same more) j o at =
     let old : IsAlike m j was.before = alike m mid same j was.before was.there in
     record { before = old.before; there = old.there; body = was.body ∙ old.body; raised = was.raised ∙ old.raised }
 
-cascaded_shorter : (ks : List ℕ) (m m2 : Map Object) → Cascades ks m m2 → length m2 ≤ length m
+pub cascaded_shorter : (ks : List ℕ) (m m2 : Map Object) → Cascades ks m m2 → length m2 ≤ length m
 cascaded_shorter _ _ _ (none_left m) = omega arith
 cascaded_shorter _ _ _ (let_go k ks m m2 more) = omega (arith, cascaded_shorter ks (update m k held_once_less) m2 more, length-update m k held_once_less)
 cascaded_shorter _ _ _ (goes k gone ks m m2 there unkept more) = omega (arith, cascaded_shorter _ (without m k) m2 more, length_left m k)
 cascaded_shorter _ _ _ (waits_end ks m mid m2 same more) = omega (arith, cascaded_shorter ks mid m2 more, length_same m mid same)
+
+-- no more objects are named than before
+pub cascaded_named : (ks : List ℕ) (m m2 : Map Object) → Cascades ks m m2 → count_by is_named m2 ≤ count_by is_named m
+cascaded_named _ _ _ (none_left m) = omega arith
+cascaded_named _ _ _ (let_go k ks m m2 more) = omega (arith, cascaded_named ks (update m k held_once_less) m2 more, sum_no_more (λ e. cond (is_named e) 1 0) m k held_once_less (lower k))
+  where
+    lower : (j : ℕ) (o : Object) → cond (is_named (j, held_once_less o)) 1 0 ≤ cond (is_named (j, o)) 1 0
+    lower j o = grind (arith, nat_tests)
+cascaded_named _ _ _ (goes k gone ks m m2 there unkept more) = omega (arith, cascaded_named _ (without m k) m2 more, sum_left (λ e. cond (is_named e) 1 0) m k)
+cascaded_named _ _ _ (waits_end ks m mid m2 same more) = omega (arith, cascaded_named ks mid m2 more, named_same m mid same)
 
 -- ---- the invariant
 
@@ -96,7 +105,7 @@ whole_left ks m m2 next room room2 d d2 cascades places whole none same = record
         rw is (of_body is_end_body (λ packets reserved. refl) o.body old.before.body old.body ∙ (rw old.there at was_end))
 
     by_body : (b : Body) → HasPeer m next b → HasPeer m2 next b
-    by_body body.RootJob has = has
+    by_body (body.Job own) has = has
     by_body (body.Process job lives) has = has
     by_body body.Event has = has
     by_body (body.Port port) has = has
@@ -108,14 +117,14 @@ whole_left ks m m2 next room room2 d d2 cascades places whole none same = record
         from_bare o.body (subst (HasPeer m2 next) (sym old.body) (to_bare old.before.body (by_body old.before.body (whole.peers k old.before old.there))))
       where
         to_bare : (b : Body) → HasPeer m2 next b → HasPeer m2 next (unreserved b)
-        to_bare body.RootJob h = h
+        to_bare (body.Job own) h = h
         to_bare (body.Process job lives) h = h
         to_bare body.Event h = h
         to_bare (body.Port port) h = h
         to_bare (body.ChannelEnd p queue) h = h
 
         from_bare : (b : Body) → HasPeer m2 next (unreserved b) → HasPeer m2 next b
-        from_bare body.RootJob h = h
+        from_bare (body.Job own) h = h
         from_bare (body.Process job lives) h = h
         from_bare body.Event h = h
         from_bare (body.Port port) h = h
@@ -148,44 +157,22 @@ waits_left ks m m2 cascades have thins k o at =
       waits = sym (all_ports_there m2 have k o at) ∙ thin.waits (λ x. has_key m2 x.port) (λ x there. there);
     }
 
--- the same koids are noted in another order
-pub noted_last : (others d : List ℕ) (j : ℕ) (m : Map Object) → AreKeptBut ((others ++ j ∷ []) ++ d) m → AreKeptBut (others ++ (d ++ j ∷ [])) m
-noted_last others d j m kept = record { in_order = kept.in_order; noted = λ k o at unkept. behind k others (kept.noted k o at unkept) }
-  where
-    moved : (k : ℕ) (d : List ℕ) → IsTrue (list_any (λ x. x == k) (j ∷ d)) → IsTrue (list_any (λ x. x == k) (d ++ j ∷ []))
-    moved k [] h = h
-    moved k (x ∷ d) h = elim (or_cases (j == k) _ h) as (λ _. IsTrue (list_any (λ y. y == k) (x ∷ d ++ j ∷ []))) [
-      | inl first ↦ or_right (x == k) _ (moved k d (or_left (j == k) _ first))
-      | inr later ↦ elim (or_cases (x == k) _ later) as (λ _. IsTrue (list_any (λ y. y == k) (x ∷ d ++ j ∷ []))) [
-        | inl here ↦ or_left (x == k) _ here
-        | inr behind ↦ or_right (x == k) _ (moved k d (or_right (j == k) _ behind))
-      ]
-    ]
-
-    behind : (k : ℕ) (xs : List ℕ) → IsTrue (list_any (λ x. x == k) ((xs ++ j ∷ []) ++ d)) → IsTrue (list_any (λ x. x == k) (xs ++ (d ++ j ∷ [])))
-    behind k [] h = moved k d h
-    behind k (x ∷ xs) h = elim (or_cases (x == k) _ h) as (λ _. IsTrue (list_any (λ y. y == k) (x ∷ xs ++ (d ++ j ∷ [])))) [
-      | inl here ↦ or_left (x == k) _ here
-      | inr later ↦ or_right (x == k) _ (behind k xs later)
-    ]
-
 -- a process that has ended and then its job are looked at
-pub both_released : (m m1 m2 m3 : Map Object) (next made pid job : ℕ) (waits waits2 : List Wait) (d d1 d2 d3 : List ℕ) → d ≡ [] → d3 ≡ [] → LetsGo [] m (d ++ pid ∷ []) m1 d1 → LetsGo [] m1 (d1 ++ job ∷ []) m2 d2 → LetsGo [] m2 d2 m3 d3
-    → Releases [] (job ∷ pid ∷ []) (record { objects = m; next_koid = next; waits = waits; waits_made = made }) (record { objects = m3; next_koid = next; waits = waits2; waits_made = made })
-both_released m m1 m2 m3 next made pid job waits waits2 d d1 d2 d3 empty none first second rest = record {
-  cascades = first.leads [] m3 (second.leads [] m3 (rest.leads [] m3 (none_left m3)));
-  keeps = λ others kept. rw (none, append-nil others) at
-      (rest.notes others (second.notes others (noted_last others d1 job m1 (first.notes (others ++ job ∷ []) (rw (empty, append_assoc others (job ∷ []) (pid ∷ [])) kept)))));
-  koids = refl;
-}
+module _ (m m1 m2 : Map Object) (pid job : ℕ) (first : LetsGo [] m (pid ∷ []) m1 []) (second : LetsGo [] m1 (job ∷ []) m2 []) where
+  pub both_released : (next made : ℕ) (waits waits2 : List Wait) → Releases [] (job ∷ pid ∷ []) (record { objects = m; next_koid = next; waits = waits; waits_made = made }) (record { objects = m2; next_koid = next; waits = waits2; waits_made = made })
+  both_released next made waits waits2 = record {
+    cascades = first.leads [] m2 (second.leads [] m2 (none_left m2));
+    keeps = λ others kept. rw (append-nil others) at
+        (second.notes others (rw (append-nil (others ++ job ∷ [])) at (first.notes (others ++ job ∷ []) (rw (append_assoc others (job ∷ []) (pid ∷ [])) kept))));
+    koids = refl;
+  }
 
--- the places and the waits once all three are through
-module _ (m m1 m2 m3 : Map Object) (pid job : ℕ) (d d1 d2 d3 : List ℕ) (first : LetsGo [] m (d ++ pid ∷ []) m1 d1) (second : LetsGo [] m1 (d1 ++ job ∷ []) m2 d2) (rest : LetsGo [] m2 d2 m3 d3) where
-  pub all_places : HavePlaces m → HavePlaces m3
-  all_places have = rest.places (second.places (first.places have))
+  -- the places and the waits once both are through
+  pub all_places : HavePlaces m → HavePlaces m2
+  all_places have = second.places (first.places have)
 
-  pub all_thin : (k : ℕ) (o : Object) → get m3 k ≡ Some o → Thins m m3 k o
-  all_thin = thin_then m m2 m3 (thin_then m m1 m2 first.thins second.thins) rest.thins
+  pub all_thin : (k : ℕ) (o : Object) → get m2 k ≡ Some o → Thins m m2 k o
+  all_thin = thin_then m m1 m2 first.thins second.thins
 
 -- ---- for callers
 
@@ -210,14 +197,14 @@ module _ (r : Objects) (pid job : ℕ) (of : job_in (get r.objects pid) ≡ Some
   other_child : (k : ℕ) → (job == k) ≡ false → (m : Map Object) → job_in (get m pid) ≡ Some job → has_living_child (update m pid stopped) k ≡ has_living_child m k
   unfolding get update has_living_child
   other_child k apart [] is = refl
-  other_child k apart (e ∷ m) is = elim (cases_Bool (e.0 == pid)) as (λ _. list_any (λ x. lives_below k x.1.body) (update (e ∷ m) pid stopped) ≡ list_any (λ x. lives_below k x.1.body) (e ∷ m)) [
+  other_child k apart (e ∷ m) is = elim (cases_Bool (e.0 == pid)) as (λ _. list_any (λ x. is_child k x.1.body) (update (e ∷ m) pid stopped) ≡ list_any (λ x. is_child k x.1.body) (e ∷ m)) [
     | inl here ↦ rw (here, by_body e.1.body (rw here at is)) refl
-    | inr there ↦ rw there (ap (λ b. lives_below k e.1.body || b) (other_child k apart m (rw there at is)))
+    | inr there ↦ rw there (ap (λ b. is_child k e.1.body || b) (other_child k apart m (rw there at is)))
   ]
     where
-      by_body : (b : Body) → job_of b ≡ Some job → lives_below k (stopped_body b) ≡ lives_below k b
-      by_body body.RootJob h = refl
-      by_body (body.Process j lives) h = rw (same_Some j job h, apart) refl
+      by_body : (b : Body) → job_of b ≡ Some job → is_child k (stopped_body b) ≡ is_child k b
+      by_body (body.Job own) h = refl
+      by_body (body.Process j life) h = elim (is_alive life) as (λ b. false ≡ is_koid k (if b then Some j else None)) [ true ↦ rw (same_Some j job h, apart) refl | false ↦ refl ]
       by_body body.Event h = refl
       by_body (body.Port port) h = refl
       by_body (body.ChannelEnd p queue) h = refl
@@ -229,7 +216,7 @@ module _ (r : Objects) (pid job : ℕ) (of : job_in (get r.objects pid) ≡ Some
   }
     where
       alone : (k : ℕ) (b : Body) → (job == k) ≡ false → stays_alone (update r.objects pid stopped) k b ≡ stays_alone r.objects k b
-      alone k body.RootJob apart = other_child k apart r.objects of
+      alone k (body.Job own) apart = other_child k apart r.objects of
       alone k (body.Process j lives) apart = refl
       alone k body.Event apart = refl
       alone k (body.Port port) apart = refl

@@ -1,13 +1,13 @@
 -- What the objects show of active signals.
-use Rattle.zl_rights.proofs.Common.{◌≡◌, ◌<◌, ℕ, Bool, true, false, not, ◌&&◌, ◌==◌, [], ◌∷◌, map, refl, sym, ap, ◌∙◌, subst, Option, Some, None, IsTrue, arith, list_any, nat_tests, Map, get, World, is_process, lives}
+use Rattle.zl_rights.proofs.Common.{◌≡◌, ℕ, Bool, true, false, not, ◌&&◌, ◌||◌, ◌==◌, [], ◌∷◌, refl, sym, ap, ◌∙◌, subst, Option, Some, None, IsTrue, list_any, Map, get, World, is_process, lives}
 use Rattle.std.specs.Prelude.{bit_or}
-use Rattle.zl_rights.specs.Numbers.{NO_JOBS, NO_PROCESSES}
-use Rattle.zl_rights.specs.Signals.{active, has_child_job, has_child_process, implied as implied_in, is_job_below, is_process_of, signal_if}
+use Rattle.zl_rights.specs.Numbers.{NO_JOBS, NO_PROCESSES, TERMINATED}
+use Rattle.zl_rights.specs.Signals.{active, has_child_job, has_child_process, implied as implied_in, is_job_below as is_job_of, is_process_of, signal_if}
 use Rattle.zl_objects.specs.declared.object.Body.{Body}
 use Rattle.zl_objects.specs.declared.object.Body.TheVariants as body
 use Rattle.zl_objects.specs.declared.object.Object.{Object}
-use Rattle.zl_objects.specs.Objects.{has_living_child, lives_below}
-use Rattle.zl_objects.specs.Seen.{body_value, object_entry, with_objects}
+use Rattle.zl_objects.specs.Jobs.{has_job_below, has_process_below, is_job_below, is_process_below}
+use Rattle.zl_objects.specs.Seen.{body_value, with_objects}
 use Rattle.zl_objects.specs.Signals.{Shows, ShowStates, AreActive, implied, signals_at, signals_in}
 use Rattle.zl_objects.proofs.Found.{Found, any_found, any_at}
 use Rattle.zl_objects.proofs.Law.{get_seen, has_seen, any_seen}
@@ -19,39 +19,37 @@ same_tests false true f g = g refl
 same_tests false false f g = refl
 
 module _ (w : World) (m : Map Object) (shows : ShowStates w m) (k : ℕ) where
-  -- no job stands below another yet
-  no_job : 0 < k → has_child_job (with_objects w m) k ≡ false
-  unfolding has_child_job
-  no_job positive = none_of m
+  -- a living job stands below the job k where the objects say so
+  pub job_shown : has_child_job (with_objects w m) k ≡ has_job_below m k
+  unfolding has_child_job has_job_below
+  job_shown = any_seen (λ e. is_job_of k e.1.body) m ∙ each_same m
     where
-      zero_apart : (0 == k) ≡ false
-      zero_apart = grind (arith, nat_tests, positive)
-
-      by_body : (b : Body) → is_job_below k (body_value b) ≡ false
-      by_body body.RootJob = rw zero_apart refl
-      by_body (body.Process job lives_on) = refl
+      by_body : (b : Body) → is_job_of k (body_value b) ≡ is_job_below k b
+      by_body (body.Job own) = refl
+      by_body (body.Process job life) = refl
       by_body body.Event = refl
       by_body (body.Port port) = refl
       by_body (body.ChannelEnd peer queue) = refl
 
-      none_of : (n : Map Object) → list_any (λ e. is_job_below k e.1.body) (map object_entry n) ≡ false
-      none_of [] = refl
-      none_of (e ∷ n) = rw (by_body e.1.body, none_of n) refl
+      each_same : (n : Map Object) → list_any (λ e. is_job_of k (body_value e.1.body)) n ≡ list_any (λ e. is_job_below k e.1.body) n
+      each_same [] = refl
+      each_same (e ∷ n) = λ i. by_body e.1.body i || each_same n i
 
-  child_shown : has_child_process (with_objects w m) k ≡ has_living_child m k
-  unfolding has_child_process has_living_child is_process
-  child_shown = any_seen (λ e. is_process_of k e.1.body && is_process w lives e.0) m ∙ same_tests (list_any seen m) (list_any below m) there back
+  -- the same of a living process
+  pub process_shown : has_child_process (with_objects w m) k ≡ has_process_below m k
+  unfolding has_child_process has_process_below is_process
+  process_shown = any_seen (λ e. is_process_of k e.1.body && is_process w lives e.0) m ∙ same_tests (list_any seen m) (list_any below m) there back
     where
       seen : ℕ × Object → Bool
       seen e = is_process_of k (body_value e.1.body) && is_process w lives e.0
 
       below : ℕ × Object → Bool
-      below e = lives_below k e.1.body
+      below e = is_process_below k e.1.body
 
-      same : (j : ℕ) (o : Object) (b : Body) → o.body ≡ b → get m j ≡ Some o → (is_process_of k (body_value b) && is_process w lives j) ≡ lives_below k b
-      same j o body.RootJob is at = refl
-      same j o (body.Process job lives_on) is at =
-          let shown : Shows w j (body.Process job lives_on) = subst (Shows w j) is (shows.shown j o at) in
+      same : (j : ℕ) (o : Object) (b : Body) → o.body ≡ b → get m j ≡ Some o → (is_process_of k (body_value b) && is_process w lives j) ≡ is_process_below k b
+      same j o (body.Job own) is at = refl
+      same j o (body.Process job life) is at =
+          let shown : Shows w j (body.Process job life) = subst (Shows w j) is (shows.shown j o at) in
           ap (λ b. (job == k) && b) (sym shown.living)
       same j o body.Event is at = refl
       same j o (body.Port port) is at = refl
@@ -69,10 +67,10 @@ module _ (w : World) (m : Map Object) (shows : ShowStates w m) (k : ℕ) where
 
   implied_shown : (o : Object) (b : Body) → o.body ≡ b → get m k ≡ Some o → implied m k b ≡ implied_in (with_objects w m) k (body_value b)
   unfolding is_process
-  implied_shown o body.RootJob is at = rw (no_job (shows.no_zero k (rw at refl)), child_shown) (elim (has_living_child m k) as (λ b. bit_or NO_JOBS (signal_if NO_PROCESSES (not b)) ≡ bit_or 0 (bit_or NO_JOBS (signal_if NO_PROCESSES (not b)))) [ true ↦ refl | false ↦ refl ])
-  implied_shown o (body.Process job lives_on) is at =
-      let shown : Shows w k (body.Process job lives_on) = subst (Shows w k) is (shows.shown k o at) in
-      ap (signal_if 8) shown.over
+  implied_shown o (body.Job own) is at = λ i. bit_or (signal_if TERMINATED own.killed) (bit_or (signal_if NO_JOBS (not (sym job_shown i))) (signal_if NO_PROCESSES (not (sym process_shown i))))
+  implied_shown o (body.Process job life) is at =
+      let shown : Shows w k (body.Process job life) = subst (Shows w k) is (shows.shown k o at) in
+      ap (signal_if TERMINATED) shown.over
   implied_shown o body.Event is at = refl
   implied_shown o (body.Port port) is at = refl
   implied_shown o (body.ChannelEnd peer queue) is at = rw (has_seen m peer) refl

@@ -40,7 +40,7 @@ module _ (f : Object → Object) (ends : (o : Object) → is_end_body (f o).body
 
   still : (m : Map Object) (k next : ℕ) (b : Body) → HasPeer m next b → HasPeer (update m k f) next b
   still m k next (body.ChannelEnd p queue) has = (has.0, λ there. end_updated m k p ∙ has.1 (sym (has_key-update m k f p) ∙ there))
-  still m k next body.RootJob has = has
+  still m k next (body.Job own) has = has
   still m k next (body.Process job lives) has = has
   still m k next body.Event has = has
   still m k next (body.Port port) has = has
@@ -96,14 +96,14 @@ changed_whole m n next room k clear set d whole is = placed_whole f (λ o. refl)
     f = raised_changed clear set
 
 same_end : (g : Port → Port) (b : Body) → is_end_body (changed_port g b) ≡ is_end_body b
-same_end g body.RootJob = refl
+same_end g (body.Job own) = refl
 same_end g (body.Process job lives) = refl
 same_end g body.Event = refl
 same_end g (body.Port port) = refl
 same_end g (body.ChannelEnd p queue) = refl
 
 same_other : (g : Port → Port) (m : Map Object) (next : ℕ) (b : Body) → HasPeer m next b → HasPeer m next (changed_port g b)
-same_other g m next body.RootJob has = has
+same_other g m next (body.Job own) has = has
 same_other g m next (body.Process job lives) has = has
 same_other g m next body.Event has = has
 same_other g m next (body.Port port) has = has
@@ -117,7 +117,7 @@ pub port_whole : (g : Port → Port) → ((p : Port) → (g p).reserved ≡ p.re
 port_whole g same m n next room k d whole is = at_port_whole g None None m n next room k d whole is (places_updated (at_port g) (λ j o. omega arith) (λ o. by_body o.body) None m k whole.places)
   where
     by_body : (b : Body) → reserved_of (changed_port g b) ≡ reserved_of b
-    by_body body.RootJob = refl
+    by_body (body.Job own) = refl
     by_body (body.Process job lives) = refl
     by_body body.Event = refl
     by_body (body.Port port) = same port
@@ -144,21 +144,21 @@ pub stopped_whole : (m n : Map Object) (next room k : ℕ) (d : List ℕ) → Is
 stopped_whole = updated_whole stopped (λ o. ends o.body) (λ m next o. peer m next o.body) (λ o. refl) (λ o. same o.body)
   where
     ends : (b : Body) → is_end_body (stopped (record { body = b; signals = record { raised = 0; waits = [] }; handles = 0 })).body ≡ is_end_body b
-    ends body.RootJob = refl
+    ends (body.Job own) = refl
     ends (body.Process job lives) = refl
     ends body.Event = refl
     ends (body.Port port) = refl
     ends (body.ChannelEnd p queue) = refl
 
     same : (b : Body) → reserved_of (stopped (record { body = b; signals = record { raised = 0; waits = [] }; handles = 0 })).body ≡ reserved_of b
-    same body.RootJob = refl
+    same (body.Job own) = refl
     same (body.Process job lives) = refl
     same body.Event = refl
     same (body.Port port) = refl
     same (body.ChannelEnd p queue) = refl
 
     peer : (m : Map Object) (next : ℕ) (b : Body) → HasPeer m next b → HasPeer m next (stopped (record { body = b; signals = record { raised = 0; waits = [] }; handles = 0 })).body
-    peer m next body.RootJob has = has
+    peer m next (body.Job own) has = has
     peer m next (body.Process job lives) has = has
     peer m next body.Event has = has
     peer m next (body.Port port) has = has
@@ -169,21 +169,21 @@ pub sent_whole : (m n : Map Object) (next room k : ℕ) (d : List ℕ) (message 
 sent_whole m n next room k d message = updated_whole (sent message) (λ o. ends o.body) (λ m next o. peer m next o.body) (λ o. refl) (λ o. same o.body) m n next room k d
   where
     ends : (b : Body) → is_end_body (sent message (record { body = b; signals = record { raised = 0; waits = [] }; handles = 0 })).body ≡ is_end_body b
-    ends body.RootJob = refl
+    ends (body.Job own) = refl
     ends (body.Process job lives) = refl
     ends body.Event = refl
     ends (body.Port port) = refl
     ends (body.ChannelEnd p queue) = refl
 
     same : (b : Body) → reserved_of (sent message (record { body = b; signals = record { raised = 0; waits = [] }; handles = 0 })).body ≡ reserved_of b
-    same body.RootJob = refl
+    same (body.Job own) = refl
     same (body.Process job lives) = refl
     same body.Event = refl
     same (body.Port port) = refl
     same (body.ChannelEnd p queue) = refl
 
     peer : (m : Map Object) (next : ℕ) (b : Body) → HasPeer m next b → HasPeer m next (sent message (record { body = b; signals = record { raised = 0; waits = [] }; handles = 0 })).body
-    peer m next body.RootJob has = has
+    peer m next (body.Job own) has = has
     peer m next (body.Process job lives) has = has
     peer m next body.Event has = has
     peer m next (body.Port port) has = has
@@ -194,21 +194,21 @@ pub received_whole : (m n : Map Object) (next room k : ℕ) (d : List ℕ) → I
 received_whole = updated_whole received (λ o. ends o.body) (λ m next o. peer m next o.body) (λ o. refl) (λ o. same o.body)
   where
     ends : (b : Body) → is_end_body (received (record { body = b; signals = record { raised = 0; waits = [] }; handles = 0 })).body ≡ is_end_body b
-    ends body.RootJob = refl
+    ends (body.Job own) = refl
     ends (body.Process job lives) = refl
     ends body.Event = refl
     ends (body.Port port) = refl
     ends (body.ChannelEnd p queue) = refl
 
     same : (b : Body) → reserved_of (received (record { body = b; signals = record { raised = 0; waits = [] }; handles = 0 })).body ≡ reserved_of b
-    same body.RootJob = refl
+    same (body.Job own) = refl
     same (body.Process job lives) = refl
     same body.Event = refl
     same (body.Port port) = refl
     same (body.ChannelEnd p queue) = refl
 
     peer : (m : Map Object) (next : ℕ) (b : Body) → HasPeer m next b → HasPeer m next (received (record { body = b; signals = record { raised = 0; waits = [] }; handles = 0 })).body
-    peer m next body.RootJob has = has
+    peer m next (body.Job own) has = has
     peer m next (body.Process job lives) has = has
     peer m next body.Event has = has
     peer m next (body.Port port) has = has
@@ -217,7 +217,7 @@ received_whole = updated_whole received (λ o. ends o.body) (λ m next o. peer m
 -- ---- one object more
 
 later_peer : (m : Map Object) (next : ℕ) (o : Object) (b : Body) → ((j : ℕ) → IsTrue (has_key m j) → j < next) → HasPeer m next b → HasPeer (put m next o) (next + 1) b
-later_peer m next o body.RootJob below has = has
+later_peer m next o (body.Job own) below has = has
 later_peer m next o (body.Process job lives) below has = has
 later_peer m next o body.Event below has = has
 later_peer m next o (body.Port port) below has = has
@@ -240,7 +240,7 @@ inserted_whole m n next room room2 d d2 o whole alone fresh same more into = rw 
 }
   where
     no_end : (b : Body) → is_end_body b ≡ false → HasPeer (put m next o) (next + 1) b
-    no_end body.RootJob h = tt
+    no_end (body.Job own) h = tt
     no_end (body.Process job lives) h = tt
     no_end body.Event h = tt
     no_end (body.Port port) h = tt
@@ -442,7 +442,7 @@ popped_whole m n next koid room d (Some p) whole newest alone unreserved there f
     end_left q (Some o) is end at = rw is (rw (was q o is) at (end (rw (was q o is) refl)))
 
     by_body : (b : Body) → HasPeer m.entries next b → HasPeer n.entries koid b
-    by_body body.RootJob has = has
+    by_body (body.Job own) has = has
     by_body (body.Process job lives) has = has
     by_body body.Event has = has
     by_body (body.Port port) has = has

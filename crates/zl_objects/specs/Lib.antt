@@ -1,4 +1,6 @@
 pub mod Objects
+pub mod Jobs
+pub mod Walks
 pub mod Release
 pub mod Seen
 pub mod Dying

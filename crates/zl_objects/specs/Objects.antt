@@ -1,14 +1,17 @@
 -- The objects by koid, each with its count of handles, and what each operation makes of them.
-use Rattle.std.specs.Prelude.{ℕ, ◌+◌, ◌-◌, ◌^◌, Bool, true, false, ◌&&◌, ◌||◌, ◌==◌, nat_le, nat_lt, List, [], ◌∷◌, ◌++◌, Option, Some, None, drop, length, take, if◌then◌else◌}
+use Rattle.std.specs.Prelude.{ℕ, ◌+◌, ◌-◌, ◌^◌, Bool, true, false, ◌||◌, ◌==◌, nat_le, nat_lt, List, [], ◌∷◌, ◌++◌, Option, Some, None, drop, length, take, if◌then◌else◌}
 use Rattle.std.specs.List.{list_any}
 use Rattle.std.specs.Option.{option_map}
 use Rattle.zl_rights.specs.declared.kind.Kind.{Kind}
 use Rattle.zl_rights.specs.declared.kind.Kind.TheVariants as kind
 use Rattle.zl_rights.specs.Map.{Map, get, update, has_key}
 use Rattle.zl_rights.specs.World.{Message, Wait}
+use Rattle.zl_jobs.specs.Jobs.{root_job}
 use Rattle.zl_signals.specs.Waits.{with_changed}
 use Rattle.zl_objects.specs.declared.object.Body.{Body}
 use Rattle.zl_objects.specs.declared.object.Body.TheVariants as body
+use Rattle.zl_objects.specs.declared.object.Life.{Life}
+use Rattle.zl_objects.specs.declared.object.Life.TheVariants as life
 use Rattle.zl_objects.specs.declared.object.Object.{Object}
 
 -- the objects by koid, the least koid that was not given yet, all registered waits, the earliest first, and how many ever were
@@ -45,9 +48,9 @@ held_once_less o = record o { handles = o.handles - 1 }
 
 -- ---- jobs and processes
 
--- a job; the root job is the only one yet
+-- a job
 abbrev pub is_job_body : Body → Bool
-is_job_body body.RootJob = true
+is_job_body (body.Job job) = true
 is_job_body _ = false
 
 -- the object that was found is a job
@@ -61,7 +64,7 @@ is_job_at objects k = is_job_in (get objects k)
 
 -- the job of a process
 abbrev pub job_of : Body → Option ℕ
-job_of (body.Process job lives) = Some job
+job_of (body.Process job l) = Some job
 job_of _ = None
 
 -- the job of the process that was found
@@ -69,9 +72,33 @@ abbrev pub job_in : Option Object → Option ℕ
 job_in None = None
 job_in (Some o) = job_of o.body
 
+-- started, and not over yet
+abbrev pub is_running : Life → Bool
+is_running life.Running = true
+is_running _ = false
+
+-- not over yet
+abbrev pub is_alive : Life → Bool
+is_alive life.Ended = false
+is_alive _ = true
+
+-- a process that was made is started, and no other
+abbrev pub started_life : Life → Life
+started_life life.Created = life.Running
+started_life l = l
+
+-- what a process is once it was started; nothing else changes
+abbrev pub started_body : Body → Body
+started_body (body.Process job l) = body.Process job (started_life l)
+started_body b = b
+
+-- the object of a process that was started
+abbrev pub started : Object → Object
+started o = record o { body = started_body o.body }
+
 -- what a process is once it has ended; nothing else changes
 abbrev pub stopped_body : Body → Body
-stopped_body (body.Process job lives) = body.Process job false
+stopped_body (body.Process job l) = body.Process job life.Ended
 stopped_body b = b
 
 -- the object of a process that has ended
@@ -145,8 +172,8 @@ received o = record o { body = received_body o.body }
 
 -- the kind of an object with this body
 abbrev pub kind_in : Body → Kind
-kind_in body.RootJob = kind.Job
-kind_in (body.Process job lives) = kind.Process
+kind_in (body.Job job) = kind.Job
+kind_in (body.Process job l) = kind.Process
 kind_in body.Event = kind.Event
 kind_in (body.ChannelEnd peer queue) = kind.Channel
 kind_in (body.Port port) = kind.Port
@@ -157,19 +184,34 @@ kind_at objects k = option_map (λ o. kind_in o.body) (get objects k)
 
 -- ---- what keeps an object
 
--- a living process of the job k
-abbrev pub lives_below : ℕ → Body → Bool
-lives_below k (body.Process job lives) = (job == k) && lives
-lives_below k _ = false
+-- the job of which it is a living child, if it is one: a job that isn't killed, or a process that isn't over
+abbrev pub keeper_of : Body → Option ℕ
+keeper_of (body.Job job) = if job.killed then None else Some job.parent
+keeper_of (body.Process job l) = if is_alive l then Some job else None
+keeper_of _ = None
 
--- the job k has a process that lives
+-- the job of which the object that was found is a living child, if it is one
+abbrev pub keeper_in : Option Object → Option ℕ
+keeper_in None = None
+keeper_in (Some o) = keeper_of o.body
+
+-- it was found, and is k
+abbrev pub is_koid : ℕ → Option ℕ → Bool
+is_koid k None = false
+is_koid k (Some j) = j == k
+
+-- a living child of the job k
+abbrev pub is_child : ℕ → Body → Bool
+is_child k b = is_koid k (keeper_of b)
+
+-- the job k has a living child
 unfoldable pub has_living_child : Map Object → ℕ → Bool
-has_living_child objects k = list_any (λ e. lives_below k e.1.body) objects
+has_living_child objects k = list_any (λ e. is_child k e.1.body) objects
 
 -- an object that stays without a handle
 abbrev pub stays_alone : Map Object → ℕ → Body → Bool
-stays_alone objects k body.RootJob = has_living_child objects k
-stays_alone objects k (body.Process job lives) = lives
+stays_alone objects k (body.Job job) = has_living_child objects k
+stays_alone objects k (body.Process job l) = is_running l
 stays_alone objects k _ = false
 
 -- a handle names the object, or it stays without one
@@ -191,7 +233,7 @@ with_new r body handles = record r {
 
 -- the root job alone
 abbrev pub root_alone : Objects
-root_alone = record { objects = (1, new_object body.RootJob 0) ∷ []; next_koid = 2; waits = []; waits_made = 0 }
+root_alone = record { objects = (1, new_object (body.Job root_job) 0) ∷ []; next_koid = 2; waits = []; waits_made = 0 }
 
 -- the objects with both ends of a new channel, which are peers of each other; the first has the lower koid
 abbrev pub with_channel : Objects → ℕ → Objects
@@ -213,6 +255,10 @@ raised_changed clear set o = record o { signals = with_changed o.signals clear s
 -- the objects, where the signals of the object k were changed
 abbrev pub changing : Objects → ℕ → ℕ → ℕ → Objects
 changing r k clear set = record r { objects = update r.objects k (raised_changed clear set) }
+
+-- the objects, where the process k was started, if it was made and not started yet
+abbrev pub starting : Objects → ℕ → Objects
+starting r k = record r { objects = update r.objects k started }
 
 -- the objects, where the process k has ended
 abbrev pub stopping : Objects → ℕ → Objects

@@ -18,6 +18,10 @@ koids_of es = map (λ (e : Entry). e.koid) es
 abbrev pub named_in : List Message → List ℕ
 named_in ms = flat_map (λ (m : Message). koids_of m.handles) ms
 
+-- the koids of all objects
+abbrev pub all_koids : Map Object → List ℕ
+all_koids m = map (λ e. e.0) m
+
 -- handles to these koids have gone; where an object goes, so do the handles in its queue, and waits may end
 pub data Cascades : List ℕ → Map Object → Map Object → Type 0 where
   none_left : (m : Map Object) → Cascades [] m m

@@ -1,5 +1,5 @@
 -- What the definitions of settling and of active signals see of the objects.
-use Rattle.std.specs.Prelude.{ℕ, ◌≡◌, ◌+◌, ◌<◌, IsTrue, Bool, true, false, not, ◌||◌, ◌==◌, List, [], map, Some}
+use Rattle.std.specs.Prelude.{ℕ, ◌≡◌, ◌+◌, ◌<◌, IsTrue, Bool, true, false, not, ◌||◌, ◌==◌, List, [], map, Option, Some, None}
 use Rattle.std.specs.List.{count_by}
 use Rattle.std.specs.Ordering.{nat_cmp}
 use Rattle.std.specs.FinMap.Entries.{is_sorted}
@@ -10,16 +10,17 @@ use Rattle.zl_rights.specs.Signals.{has_ended, is_process, lives, runs}
 use Rattle.zl_rights.specs.Settle.{Settles, without_others}
 use Rattle.zl_objects.specs.declared.object.Body.{Body}
 use Rattle.zl_objects.specs.declared.object.Body.TheVariants as body
+use Rattle.zl_objects.specs.declared.object.Life.{Life}
 use Rattle.zl_objects.specs.declared.object.Object.{Object}
-use Rattle.zl_objects.specs.Objects.{Objects, is_job_at}
+use Rattle.zl_objects.specs.Objects.{Objects, is_alive, is_job_at, is_running, keeper_of}
 use Rattle.zl_objects.specs.Release.{AreKeptBut}
 
 -- ---- views
 
--- what an object is; the root job has no parent, and no policy is set in it yet
+-- what an object is
 abbrev pub body_value : Body → BodyValue
-body_value body.RootJob = JobBody 0 1 [] false
-body_value (body.Process job lives) = ProcessBody job
+body_value (body.Job job) = JobBody job.parent job.depth job.policy job.killed
+body_value (body.Process job l) = ProcessBody job
 body_value body.Event = EventBody
 body_value (body.ChannelEnd peer queue) = ChannelEnd peer queue
 body_value (body.Port port) = PortBody port.packets
@@ -42,20 +43,24 @@ with_all w m = without_others (with_objects w m) (has_key (map object_entry m))
 
 -- ---- worlds that the objects fit
 
--- the object of a process says whether the process runs, which lives only where it runs and else has ended; nothing else runs
-pub record AgreesOn (w : World) (k : ℕ) (lives_on : Bool) : Type 0 where
-  pub running : lives_on ≡ is_process w runs k
-  pub living : lives_on ≡ is_process w lives k
-  pub over : not lives_on ≡ is_process w has_ended k
+-- the object of a process says whether the process runs, whether it lives, and else it has ended; nothing else runs
+pub record AgreesOn (w : World) (k : ℕ) (l : Life) : Type 0 where
+  pub running : is_running l ≡ is_process w runs k
+  pub living : is_alive l ≡ is_process w lives k
+  pub over : not (is_alive l) ≡ is_process w has_ended k
 
 abbrev pub Agrees : World → ℕ → Body → Type 0
-Agrees w k (body.Process job lives_on) = AgreesOn w k lives_on
+Agrees w k (body.Process job l) = AgreesOn w k l
 Agrees w k _ = is_process w runs k ≡ false
 
--- the object of a process that lives names its job
+-- the job is there; above the root job, whose parent is 0, there is none
+abbrev pub is_above : Map Object → Option ℕ → Bool
+is_above objects None = true
+is_above objects (Some job) = (job == 0) || is_job_at objects job
+
+-- the object of a process that lives, or of a job that isn't killed, names the job in which it is
 abbrev pub is_in_job : Map Object → Body → Bool
-is_in_job objects (body.Process job lives_on) = not lives_on || is_job_at objects job
-is_in_job objects _ = true
+is_in_job objects b = is_above objects (keeper_of b)
 
 -- the counts are right and each handle names an object, where handles to ks have gone and still count
 pub record IsExact (w : World) (ks : List ℕ) (m : Map Object) : Type 0 where

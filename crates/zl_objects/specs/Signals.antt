@@ -1,5 +1,5 @@
 -- What is active at an object, by the objects alone.
-use Rattle.std.specs.Prelude.{ℕ, ◌≡◌, ◌<◌, IsTrue, Bool, not, Option, Some, None, if◌then◌else◌, bit_or}
+use Rattle.std.specs.Prelude.{ℕ, ◌≡◌, ◌<◌, IsTrue, not, Option, Some, None, if◌then◌else◌, bit_or}
 use Rattle.std.specs.Ordering.{nat_cmp}
 use Rattle.std.specs.FinMap.Entries.{is_sorted}
 use Rattle.zl_rights.specs.Map.{Map, get, has_key}
@@ -8,14 +8,18 @@ use Rattle.zl_rights.specs.Signals.{active, has_ended, is_empty, is_process, liv
 use Rattle.zl_rights.specs.World.{World}
 use Rattle.zl_objects.specs.declared.object.Body.{Body}
 use Rattle.zl_objects.specs.declared.object.Body.TheVariants as body
+use Rattle.zl_objects.specs.declared.object.Life.{Life}
 use Rattle.zl_objects.specs.declared.object.Object.{Object}
-use Rattle.zl_objects.specs.Objects.{has_living_child}
+use Rattle.zl_objects.specs.Objects.{is_alive}
+use Rattle.zl_objects.specs.Jobs.{has_job_below, has_process_below}
 use Rattle.zl_objects.specs.Seen.{with_objects}
 
--- the signals of the object k that follow from the objects; no job stands below the root job yet
+-- the signals of the object k that follow from the objects
 abbrev pub implied : Map Object → ℕ → Body → ℕ
-implied m k body.RootJob = bit_or NO_JOBS (signal_if NO_PROCESSES (not (has_living_child m k)))
-implied m k (body.Process job lives_on) = signal_if TERMINATED (not lives_on)
+implied m k (body.Job job) =
+    bit_or (signal_if TERMINATED job.killed)
+    (bit_or (signal_if NO_JOBS (not (has_job_below m k))) (signal_if NO_PROCESSES (not (has_process_below m k))))
+implied m k (body.Process job l) = signal_if TERMINATED (not (is_alive l))
 implied m k body.Event = 0
 implied m k (body.Port port) = 0
 implied m k (body.ChannelEnd peer queue) =
@@ -31,12 +35,12 @@ abbrev pub signals_at : Map Object → ℕ → ℕ
 signals_at m k = signals_in m k (get m k)
 
 -- the object of a process says whether the process lives, and else it has ended
-pub record ShowsState (w : World) (k : ℕ) (lives_on : Bool) : Type 0 where
-  pub living : lives_on ≡ is_process w lives k
-  pub over : not lives_on ≡ is_process w has_ended k
+pub record ShowsState (w : World) (k : ℕ) (l : Life) : Type 0 where
+  pub living : is_alive l ≡ is_process w lives k
+  pub over : not (is_alive l) ≡ is_process w has_ended k
 
 abbrev pub Shows : World → ℕ → Body → Type 0
-Shows w k (body.Process job lives_on) = ShowsState w k lives_on
+Shows w k (body.Process job l) = ShowsState w k l
 Shows w k _ = Unit {0}
 
 -- the objects show the states of the processes

@@ -1,13 +1,16 @@
 //! The objects of a running lab by koid, each with its count of handles.
 //!
-//! It stands on `zl_rights`, `zl_channel`, `zl_signals` and `zl_port`; of `zl_table` just proofs
-//! cite lemmas on maps. It promises the exact change of each operation, that `release` leaves the
-//! largest held set and nothing else in every world that the objects fit, that just those waits are
-//! left whose object and port are, that the list of all waits has those of each object in their
-//! order, and that nothing but making an object, sending, registering a wait and queueing a packet
-//! of a call takes memory. Where a method names no source, that of its type is meant.
+//! It stands on `zl_rights`, `zl_channel`, `zl_signals`, `zl_port` and `zl_jobs`; of `zl_policy`
+//! just contracts cite words, and of `zl_table` just proofs lemmas on maps. The jobs among the
+//! objects are the tree of jobs. It promises the exact change of each operation, that `release`,
+//! `end` and `kill` leave the largest held set and nothing else in every world that the objects
+//! fit, that just those waits are left whose object and port are, that the list of all waits has
+//! those of each object in their order, and that nothing but making an object, sending, registering
+//! a wait and queueing a packet of a call takes memory. Where a method names no source, that of its type is meant.
 #![tactic(auto)]
 
+mod jobs;
+mod killing;
 mod listing;
 mod object;
 mod objects;
@@ -17,7 +20,7 @@ mod signals;
 mod wait;
 mod waits;
 
-pub use object::{Body, Object};
+pub use object::{Body, Life, Object};
 pub use objects::Objects;
 pub use wait::Wait;
 

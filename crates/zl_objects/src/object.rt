@@ -2,24 +2,64 @@
 
 ghost use Rattle.std.specs.Prelude.{◌≡◌, ◌↔◌, IsTrue, IfErr, OnErr, OnOk, Err, Some, slice_get};
 ghost use Rattle.zl_objects.specs.Dying.{is_last};
-ghost use Rattle.zl_objects.specs.Objects.{has_place, held_once_more, held_once_less, is_end_body, job_of, kind_in, lives_below, peer_of, queue_of, raised_changed, received, sent, stopped};
+ghost use Rattle.zl_objects.specs.Objects.{has_place, held_once_more, held_once_less, is_alive, is_end_body, is_running, job_of, kind_in, peer_of, queue_of, raised_changed, received, sent, started, started_life, stopped};
 ghost use Rattle.zl_channel.specs.Queue.{is_too_large, refused_message, front_sizes, front_entry};
 
 use crate::objects::Objects;
 use zl_channel::{ChannelEnd, Message, PushFault};
+use zl_jobs::Job;
 use zl_port::Port;
 use zl_rights::{Entry, Kind, Koid, Signals};
 use zl_signals::SignalState;
+
+/// How far a process has come in its life.
+///
+/// Source: the page "Process" of the Fuchsia documentation.
+#[derive(Clone, Copy, PartialEq, Eq, Debug)]
+pub enum Life {
+    /// It was made, and not started yet.
+    Created,
+    /// It was started, and isn't over yet.
+    Running,
+    /// It is over.
+    Ended,
+}
+
+impl Life {
+    /// Whether it isn't over yet.
+    pub fn is_alive(self) -> bool
+        ensures { result ≡ is_alive self }
+    {
+        !matches!(self, Life::Ended)
+    }
+
+    /// Whether it was started, and isn't over yet.
+    pub fn is_running(self) -> bool
+        ensures { result ≡ is_running self }
+    {
+        matches!(self, Life::Running)
+    }
+
+    /// What was made is started.
+    fn started(self) -> Life
+        ensures { result ≡ started_life self }
+    {
+        match self {
+            Life::Created => Life::Running,
+            Life::Running | Life::Ended => self,
+        }
+    }
+}
 
 /// What an object is.
 ///
 /// Source: the page "Kernel objects" of the Fuchsia documentation.
 #[derive(Drop)]
 pub enum Body {
-    /// The job above all others.
-    RootJob,
-    /// A process of a job, living or ended.
-    Process { job: Koid, lives: bool },
+    /// A job, with the job above it, its policy, and whether it was killed.
+    Job(Job),
+    /// A process of a job.
+    Process { job: Koid, life: Life },
     /// An event, of which signals are all there is.
     Event,
     /// One end of a channel, with what is to be read at it.
@@ -67,12 +107,21 @@ impl Object {
         self.signals.change(clear, set);
     }
 
-    /// A process doesn't live any more.
+    /// A process that was made is started.
+    pub(crate) fn start(&mut self)
+        ensures { self.new ≡ started self.old }
+    {
+        if let Body::Process { life, .. } = &mut self.body {
+            *life = life.started();
+        }
+    }
+
+    /// A process is over.
     pub(crate) fn stop(&mut self)
         ensures { self.new ≡ stopped self.old }
     {
-        if let Body::Process { lives, .. } = &mut self.body {
-            *lives = false;
+        if let Body::Process { life, .. } = &mut self.body {
+            *life = Life::Ended;
         }
     }
 
@@ -109,7 +158,7 @@ impl Body {
         ensures { result ≡ kind_in self.now }
     {
         match self {
-            Body::RootJob => Kind::Job,
+            Body::Job(_) => Kind::Job,
             Body::Process { .. } => Kind::Process,
             Body::Event => Kind::Event,
             Body::ChannelEnd { .. } => Kind::Channel,
@@ -124,16 +173,6 @@ impl Body {
         match self {
             Body::Process { job, .. } => Some(*job),
             _ => None,
-        }
-    }
-
-    /// Whether it is a process of the job that lives.
-    pub(crate) fn lives_below(&self, parent: Koid) -> bool
-        ensures { result ≡ lives_below parent self.now }
-    {
-        match self {
-            Body::Process { job, lives } => *job == parent && *lives,
-            _ => false,
         }
     }
 

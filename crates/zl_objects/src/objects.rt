@@ -1,21 +1,24 @@
 ghost use Rattle.std.specs.Prelude.{[], Err, Some, false, ◌≡◌, ◌↔◌, ◌+◌, ◌<◌, ◌^◌, ◌∷◌, IsTrue, IfErr, IfOk, IfSome, OnErr, OnOk, slice_get};
 ghost use Rattle.zl_rights.specs.Map.{get, has_key};
-ghost use Rattle.zl_objects.specs.Objects.{changing, has_koids, has_place, holding, is_end_at, is_end_body, is_job_at, job_in, kind_at, new_object, next_of, peer_at, queue_in, receiving, root_alone, sending, stopping, with_channel, with_new, without_newest};
+ghost use Rattle.zl_objects.specs.Objects.{changing, has_koids, has_place, holding, is_end_at, is_end_body, is_job_at, job_in, kind_at, new_object, next_of, peer_at, queue_in, receiving, root_alone, sending, starting, stopping, with_channel, with_new, without_newest};
 ghost use Rattle.zl_channel.specs.Queue.{front_entry, front_sizes, is_too_large, refused_message};
 ghost use Rattle.zl_objects.specs.Ports.{reserved_in, reserved_of};
-ghost use Rattle.zl_objects.specs.Release.{Ends, Releases};
+ghost use Rattle.zl_objects.specs.Jobs.{killing};
+ghost use Rattle.zl_objects.specs.Release.{all_koids, Ends, Releases};
 ghost use Rattle.zl_objects.specs.Seen.{LeavesLargest};
 ghost use Rattle.zl_objects.specs.Listed.{LeavesListed};
 ghost use Rattle.zl_objects.specs.Waits.{waits_in, LeavesWaits};
 
+use crate::killing::kill_all;
 use crate::listing::keep_there;
 use crate::object::{Body, Object};
-use crate::releasing::{let_go, remove_dying, remove_unkept};
+use crate::releasing::{let_go, remove_dying, remove_unkept, sweep};
 use crate::wait::Wait;
 use std::alloc::{AllocError, Global};
 use std::collections::{BTreeMap, VecDeque};
 use std::marker::Model;
 use zl_channel::{ChannelEnd, Message, PushFault};
+use zl_jobs::Job;
 use zl_rights::{Entry, Kind, Koid, Signals};
 use zl_signals::SignalState;
 
@@ -74,7 +77,7 @@ impl Objects {
             waits: VecDeque::new(alloc),
             waits_made: 0,
         };
-        objects.create(Body::RootJob, 0)?;
+        objects.create(Body::Job(Job::root()), 0)?;
         Ok(objects)
     }
 
@@ -193,7 +196,7 @@ impl Objects {
         ensures { result ≡ is_job_at self.now.objects koid }
     {
         match self.by_koid.get(&koid) {
-            Some(object) => matches!(object.body, Body::RootJob),
+            Some(object) => matches!(object.body, Body::Job(_)),
             None => false,
         }
     }
@@ -320,7 +323,6 @@ impl Objects {
         ensures listed { LeavesListed self.old self.new }
     {
         remove_unkept(&mut self.by_koid, &mut self.dying, koid);
-        remove_dying(&mut self.by_koid, &mut self.dying);
         keep_there(&mut self.waits, &self.by_koid);
     }
 
@@ -336,12 +338,48 @@ impl Objects {
             self.stop(pid);
             remove_unkept(&mut self.by_koid, &mut self.dying, pid);
             remove_unkept(&mut self.by_koid, &mut self.dying, job);
-            remove_dying(&mut self.by_koid, &mut self.dying);
             keep_there(&mut self.waits, &self.by_koid);
         }
     }
 
-    /// The process doesn't live any more.
+    /// The job is killed, and each job below it, and the processes below it are over; or the
+    /// process is over, if it is one. What isn't held any more goes, with the waits as in `release`.
+    /// It takes no memory. The handles of the processes are to be closed by `release`.
+    ///
+    /// Source: the page "zx_task_kill" of the Fuchsia documentation.
+    pub fn kill(&mut self, task: Koid)
+        ensures releases { Releases [] (all_koids self.old.objects)
+            (killing self.old task) self.new }
+        ensures largest { LeavesLargest [] (all_koids self.old.objects)
+            (killing self.old task) self.new }
+        ensures waits { LeavesWaits (killing self.old task) self.new }
+        ensures listed { LeavesListed self.old self.new }
+    {
+        self.mark_killed(task);
+        sweep(&mut self.by_koid, &mut self.dying, self.next_koid);
+        keep_there(&mut self.waits, &self.by_koid);
+    }
+
+    /// The job or the process is killed, and what stands below it. All objects stay.
+    fn mark_killed(&mut self, task: Koid)
+        ensures { self.new ≡ killing self.old task }
+    {
+        kill_all(&mut self.by_koid, task, self.next_koid);
+    }
+
+    /// The process is started, if it was made and not started yet.
+    ///
+    /// Source: the page "zx_process_start" of the Fuchsia documentation.
+    pub fn start(&mut self, pid: Koid)
+        ensures { self.new ≡ starting self.old pid }
+    {
+        let Some(object) = self.by_koid.get_mut(&pid) else {
+            return;
+        };
+        object.start();
+    }
+
+    /// The process is over.
     fn stop(&mut self, pid: Koid)
         ensures { self.new ≡ stopping self.old pid }
     {

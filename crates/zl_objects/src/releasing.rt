@@ -3,14 +3,16 @@
 //! An object that may have to go is noted in `dying`, which has room for each object. It stays with
 //! its queue until it is looked at again.
 
-ghost use Rattle.std.specs.Prelude.{◌≡◌, ◌≤◌, ◌++◌, ◌∷◌, [], nat_lt, vec_capacity};
-ghost use Rattle.zl_rights.specs.Map.{each, get, update};
-ghost use Rattle.zl_objects.specs.Objects.{has_living_child, held_once_less, is_kept};
-ghost use Rattle.zl_objects.specs.Release.{koids_of, named_in};
+ghost use Rattle.std.specs.Prelude.{◌≡◌, ◌≤◌, ◌<◌, ◌+◌, ◌++◌, ◌∷◌, [], length, nat_lt, ℕ, vec_capacity, IsTrue};
+ghost use Rattle.std.specs.Option.{option_to_list};
+ghost use Rattle.zl_rights.specs.Map.{each, get, has_key, update};
+ghost use Rattle.zl_objects.specs.Objects.{has_living_child, held_once_less, is_kept, keeper_in};
+ghost use Rattle.zl_objects.specs.Release.{all_koids, koids_of, named_in};
 ghost use Rattle.zl_objects.specs.Dying.{budget, is_last, is_unkept, left_at, unkept_at, LetsGo};
 ghost use Rattle.zl_objects.specs.Ports.{reserved_in};
 ghost use Rattle.zl_objects.specs.Waits.{ending_port, giving_back, without_port_waits};
 
+use crate::killing::next_from;
 use crate::object::{Body, Object};
 use crate::waits::give_back;
 use std::collections::BTreeMap;
@@ -66,14 +68,14 @@ fn let_go_queue(by_koid: &mut BTreeMap<Koid, Object>, dying: &mut Vec<Koid>, mut
     }
 }
 
-/// Whether a process of the job lives.
-pub fn has_living_child(by_koid: &BTreeMap<Koid, Object>, job: Koid) -> bool
+/// Whether the job has a living child.
+fn has_living_child(by_koid: &BTreeMap<Koid, Object>, job: Koid) -> bool
     ensures { result ≡ has_living_child by_koid.now.entries job }
 {
-    by_koid.values().any(|object| object.body.lives_below(job))
+    by_koid.values().any(|object| object.body.is_child(job))
 }
 
-/// Whether a handle names the object, or it is a process that lives or a job with one.
+/// Whether a handle names the object, or it is a process that runs or a job with a living child.
 fn is_kept(by_koid: &BTreeMap<Koid, Object>, koid: Koid, object: &Object) -> bool
     ensures { result ≡ is_kept by_koid.now.entries koid object.now }
 {
@@ -81,8 +83,8 @@ fn is_kept(by_koid: &BTreeMap<Koid, Object>, koid: Koid, object: &Object) -> boo
         return true;
     }
     match &object.body {
-        Body::RootJob => has_living_child(by_koid, koid),
-        Body::Process { lives, .. } => *lives,
+        Body::Job(_) => has_living_child(by_koid, koid),
+        Body::Process { life, .. } => life.is_running(),
         Body::Event | Body::ChannelEnd { .. } | Body::Port(_) => false,
     }
 }
@@ -154,21 +156,44 @@ fn end_waits(by_koid: &mut BTreeMap<Koid, Object>, koid: Koid, reserved: bool, s
     }
 }
 
-/// The object goes with its queue and its waits, unless something keeps it.
-pub fn remove_unkept(by_koid: &mut BTreeMap<Koid, Object>, dying: &mut Vec<Koid>, koid: Koid)
-    requires fits { budget by_koid.old.entries dying.old.items ≤ vec_capacity dying.old }
+/// The job of which the object is a living child, if it is one.
+#[tactic(auto, using(crate::proofs::ByKoid::by_koid))]
+fn keeper_at(by_koid: &BTreeMap<Koid, Object>, koid: Koid) -> Option<Koid>
+    ensures { result ≡ keeper_in (get by_koid.now.entries koid) }
+{
+    by_koid.get(&koid)?.body.keeper()
+}
+
+/// The job that was found is noted, if there is one.
+fn note_keeper(dying: &mut Vec<Koid>, keeper: Option<Koid>)
+    requires room { length dying.old.items < vec_capacity dying.old }
+    ensures noted { dying.new.items ≡ dying.old.items ++ option_to_list keeper }
+    ensures capacity { vec_capacity dying.new ≡ vec_capacity dying.old }
+{
+    if let Some(job) = keeper {
+        dying.push_reserved(job);
+    }
+}
+
+/// The object that was noted goes with its queue and its waits, unless something keeps it, and the
+/// job of which it was a living child is noted.
+fn remove_noted(by_koid: &mut BTreeMap<Koid, Object>, dying: &mut Vec<Koid>, koid: Koid)
+    requires fits { budget by_koid.old.entries (dying.old.items ++ koid ∷ [])
+        ≤ vec_capacity dying.old }
     ensures goes { LetsGo [] by_koid.old.entries (dying.old.items ++ koid ∷ [])
         by_koid.new.entries dying.new.items }
-    ensures less { budget by_koid.new.entries dying.new.items
-        ≤ budget by_koid.old.entries dying.old.items }
+    ensures less { budget by_koid.new.entries dying.new.items + length by_koid.new.entries
+        < budget by_koid.old.entries (dying.old.items ++ koid ∷ []) + length by_koid.old.entries }
     ensures capacity { vec_capacity dying.new ≡ vec_capacity dying.old }
 {
     let reserved = has_reserved(by_koid, koid);
+    let keeper = keeper_at(by_koid, koid);
     let Some(gone) = take_unkept(by_koid, koid) else {
         return;
     };
     let Object { body, signals, .. } = gone;
     end_waits(by_koid, koid, reserved, signals);
+    note_keeper(dying, keeper);
     if let Body::ChannelEnd { queue, .. } = body {
         let_go_queue(by_koid, dying, queue);
     }
@@ -183,6 +208,37 @@ pub fn remove_dying(by_koid: &mut BTreeMap<Koid, Object>, dying: &mut Vec<Koid>)
     ensures capacity { vec_capacity dying.new ≡ vec_capacity dying.old }
 {
     while let Some(koid) = dying.pop() {
+        remove_noted(by_koid, dying, koid);
+    }
+}
+
+/// The object goes, unless something keeps it, and what goes with it.
+pub fn remove_unkept(by_koid: &mut BTreeMap<Koid, Object>, dying: &mut Vec<Koid>, koid: Koid)
+    requires none { dying.old.items ≡ [] }
+    requires room { length by_koid.old.entries ≤ vec_capacity dying.old }
+    ensures goes { LetsGo [] by_koid.old.entries (koid ∷ []) by_koid.new.entries [] }
+    ensures none { dying.new.items ≡ [] }
+    ensures capacity { vec_capacity dying.new ≡ vec_capacity dying.old }
+{
+    if is_unkept(by_koid, koid) {
+        dying.push_reserved(koid);
+        remove_dying(by_koid, dying);
+    }
+}
+
+/// Each object that nothing keeps goes, and what goes with it. All koids lie below the end.
+pub fn sweep(by_koid: &mut BTreeMap<Koid, Object>, dying: &mut Vec<Koid>, end: Koid)
+    requires below { (k : ℕ) → IsTrue (has_key by_koid.old.entries k) → k < end }
+    requires none { dying.old.items ≡ [] }
+    requires room { length by_koid.old.entries ≤ vec_capacity dying.old }
+    ensures goes { LetsGo [] by_koid.old.entries (all_koids by_koid.old.entries)
+        by_koid.new.entries [] }
+    ensures none { dying.new.items ≡ [] }
+    ensures capacity { vec_capacity dying.new ≡ vec_capacity dying.old }
+{
+    let mut from = 0;
+    while let Some(koid) = next_from(by_koid, from) {
         remove_unkept(by_koid, dying, koid);
+        from = koid + 1;
     }
 }

@@ -1,11 +1,12 @@
 //! What is active at an object.
 
 ghost use Rattle.std.specs.Prelude.{◌≡◌};
+ghost use Rattle.zl_rights.specs.Signals.{signal_if};
 ghost use Rattle.zl_objects.specs.Signals.{implied, signals_at, AreActive};
 
+use crate::jobs::{has_job_below, has_process_below};
 use crate::object::Body;
 use crate::objects::Objects;
-use crate::releasing::has_living_child;
 use bitflags::Flags;
 use zl_rights::{Koid, Signals};
 
@@ -14,8 +15,9 @@ impl Objects {
     /// The signals that are active at the object, none where it isn't there. It takes no memory.
     ///
     /// An end of a channel is readable while its queue isn't empty, writable while its peer is an
-    /// object, and else its peer is closed. A process is terminated once it has ended. The root job
-    /// has no jobs, and no processes while none in it lives.
+    /// object, and else its peer is closed. A process is terminated once it has ended, and a job
+    /// once it was killed. A job has no jobs while none directly in it lives, and no processes
+    /// likewise.
     /// Source: the page "Signals" of the Fuchsia documentation.
     pub fn signals_of(&self, koid: Koid) -> Signals
         ensures signals { result.0 ≡ signals_at self.now.objects koid }
@@ -35,20 +37,16 @@ impl Objects {
         ensures { result.0 ≡ implied self.now.objects koid body.now }
     {
         match body {
-            Body::RootJob => {
-                if has_living_child(&self.by_koid, koid) {
-                    Signals::NO_JOBS
-                } else {
-                    Signals::NO_JOBS.union(Signals::NO_PROCESSES)
-                }
+            Body::Job(job) => {
+                let terminated = signal_if(Signals::TERMINATED, job.is_killed());
+                let no_jobs = signal_if(Signals::NO_JOBS, !has_job_below(&self.by_koid, koid));
+                let no_processes = signal_if(
+                    Signals::NO_PROCESSES,
+                    !has_process_below(&self.by_koid, koid),
+                );
+                terminated.union(no_jobs.union(no_processes))
             }
-            Body::Process { lives, .. } => {
-                if *lives {
-                    Signals::empty()
-                } else {
-                    Signals::TERMINATED
-                }
-            }
+            Body::Process { life, .. } => signal_if(Signals::TERMINATED, !life.is_alive()),
             Body::Event | Body::Port(_) => Signals::empty(),
             Body::ChannelEnd { peer, queue } => {
                 let readable = if queue.is_empty() {
@@ -64,4 +62,11 @@ impl Objects {
             }
         }
     }
+}
+
+/// The signal, where the test passes.
+fn signal_if(signal: Signals, test: bool) -> Signals
+    ensures { result.0 ≡ signal_if signal.0 test }
+{
+    if test { signal } else { Signals::empty() }
 }

@@ -1,11 +1,11 @@
 use crate::releasing::has_reserved;
-use crate::{Body, Objects, Wait};
+use crate::{Body, Life, Objects, Wait};
 use bitflags::Flags;
 use std::alloc::{AllocError, Global};
 use std::test::Fail;
 use zl_channel::{Handles, Message};
 use zl_port::{Packet, Source};
-use zl_rights::{Entry, Kind, Koid, Rights, Signals};
+use zl_rights::{Action, Condition, Entry, Kind, Koid, Mode, Rights, Signals};
 use zl_signals::Watch;
 
 const LENGTH: u64 = 30_000;
@@ -80,7 +80,7 @@ fn a_job_goes_with_its_last_process(rt: HostRuntime) -> Result<(), Fail> {
     let mut objects = Objects::new(rt.alloc())?;
     let process = Body::Process {
         job: Objects::ROOT_JOB,
-        lives: true,
+        life: Life::Running,
     };
     assert_eq!(rt; objects.next_koid(), Some(2));
     let pid = objects.create(process, 0)?;
@@ -331,5 +331,126 @@ fn waits_end_with_a_port_in_a_queue(rt: HostRuntime) -> Result<(), Fail> {
     assert!(rt; reserved(&objects, other));
     assert_eq!(rt; key(objects.unwatch_port(first, other)), Some(6));
     assert!(rt; !reserved(&objects, other));
+    Ok(())
+}
+
+/// A job in the job, with one handle.
+fn new_job(objects: &mut Objects, parent: Koid) -> Result<Koid, AllocError> {
+    let Ok(job) = objects.job_below(parent) else {
+        return Err(AllocError);
+    };
+    if !objects.has_koids(1) {
+        return Err(AllocError);
+    }
+    objects.create(Body::Job(job), 1)
+}
+
+/// A process in the job that was made and not started yet, with one handle.
+fn new_process(objects: &mut Objects, job: Koid) -> Result<Koid, AllocError> {
+    if !objects.has_koids(1) {
+        return Err(AllocError);
+    }
+    let life = Life::Created;
+    objects.create(Body::Process { job, life }, 1)
+}
+
+#[test]
+fn jobs_go_with_the_last_of_what_lives_in_them(rt: HostRuntime) -> Result<(), Fail> {
+    let mut objects = Objects::new(rt.alloc())?;
+    let first = new_job(&mut objects, Objects::ROOT_JOB)?;
+    let second = new_job(&mut objects, first)?;
+    let pid = new_process(&mut objects, second)?;
+    objects.release(first);
+    objects.release(second);
+    assert!(rt; objects.is_job(first));
+    assert!(rt; objects.is_job(second));
+    assert!(rt; objects.lives(pid));
+    objects.release(pid);
+    assert!(rt; objects.kind_of(pid).is_none());
+    assert!(rt; !objects.is_job(second));
+    assert!(rt; !objects.is_job(first));
+    assert!(rt; !objects.is_job(Objects::ROOT_JOB));
+    Ok(())
+}
+
+#[test]
+fn a_process_that_was_started_needs_no_handle(rt: HostRuntime) -> Result<(), Fail> {
+    let mut objects = Objects::new(rt.alloc())?;
+    let job = new_job(&mut objects, Objects::ROOT_JOB)?;
+    let pid = new_process(&mut objects, job)?;
+    objects.start(pid);
+    objects.release(pid);
+    objects.release(job);
+    assert!(rt; objects.lives(pid));
+    assert_eq!(rt; objects.job_of(pid), Some(job));
+    assert_eq!(rt; objects.children(job), (false, true));
+    assert_eq!(rt; objects.children(Objects::ROOT_JOB), (true, false));
+    objects.end(pid);
+    objects.start(pid);
+    assert!(rt; !objects.lives(pid));
+    assert!(rt; !objects.is_job(job));
+    Ok(())
+}
+
+#[test]
+fn a_kill_reaches_all_below_and_no_other(rt: HostRuntime) -> Result<(), Fail> {
+    let mut objects = Objects::new(rt.alloc())?;
+    let first = new_job(&mut objects, Objects::ROOT_JOB)?;
+    let second = new_job(&mut objects, first)?;
+    let beside = new_job(&mut objects, Objects::ROOT_JOB)?;
+    let deep = new_process(&mut objects, second)?;
+    let other = new_process(&mut objects, beside)?;
+    objects.start(deep);
+    assert!(rt; objects.is_within(first, deep));
+    assert!(rt; !objects.is_within(first, beside));
+    assert_eq!(rt; objects.below(first, 0), Some(second));
+    assert_eq!(rt; objects.below(first, 1), Some(deep));
+    assert_eq!(rt; objects.below(first, 2), None);
+    objects.kill(first);
+    assert!(rt; objects.is_dead(first) && objects.is_dead(second));
+    assert!(rt; !objects.lives(deep));
+    assert!(rt; !objects.is_dead(beside) && objects.lives(other));
+    assert!(rt; objects.signals_of(first).contains(Signals::TERMINATED));
+    assert!(rt; objects.signals_of(first).contains(Signals::NO_JOBS));
+    assert!(rt; objects.signals_of(deep).contains(Signals::TERMINATED));
+    assert!(rt; objects.job_below(second).is_err());
+    objects.kill(other);
+    assert!(rt; !objects.lives(other));
+    assert!(rt; !objects.is_dead(beside));
+    Ok(())
+}
+
+#[test]
+fn what_a_kill_leaves_without_a_handle_goes(rt: HostRuntime) -> Result<(), Fail> {
+    let mut objects = Objects::new(rt.alloc())?;
+    let first = new_job(&mut objects, Objects::ROOT_JOB)?;
+    let second = new_job(&mut objects, first)?;
+    let pid = new_process(&mut objects, second)?;
+    objects.start(pid);
+    objects.release(pid);
+    objects.release(second);
+    assert!(rt; objects.is_job(second));
+    objects.kill(first);
+    assert!(rt; objects.kind_of(pid).is_none());
+    assert!(rt; !objects.is_job(second));
+    assert!(rt; objects.is_job(first));
+    assert!(rt; !objects.is_job(Objects::ROOT_JOB));
+    Ok(())
+}
+
+#[test]
+fn a_job_has_the_policy_of_its_parent(rt: HostRuntime) -> Result<(), Fail> {
+    let mut objects = Objects::new(rt.alloc())?;
+    let first = new_job(&mut objects, Objects::ROOT_JOB)?;
+    assert!(rt; !objects.has_policy(first));
+    let set = objects.set_policy(first, Condition::NewPort, Action::Deny, Mode::Absolute);
+    assert!(rt; set.is_ok());
+    let second = new_job(&mut objects, first)?;
+    assert!(rt; matches!(objects.action(second, Condition::NewPort), Action::Deny));
+    assert!(rt; matches!(objects.action(second, Condition::NewEvent), Action::Allow));
+    assert!(rt; !objects.has_policy(Objects::ROOT_JOB));
+    assert_eq!(rt; objects.depth(second), 3);
+    let set = objects.set_policy(second, Condition::NewPort, Action::Kill, Mode::Absolute);
+    assert!(rt; set.is_err());
     Ok(())
 }

@@ -1,5 +1,5 @@
 -- A row of places and the policy that is set in it.
-use Rattle.zl_rights.proofs.Common.{◌≡◌, ℕ, zero, suc, ◌+◌, ◌<◌, ◌||◌, Bool, true, false, List, [], ◌∷◌, length, map, get_or, slice_set, refl, sym, ap, ◌∙◌, arith, eq-eqb, nat_tests, ne_eqb, Option, Some, None, is_some, list_any, Map, get, put}
+use Rattle.zl_rights.proofs.Common.{◌≡◌, ℕ, zero, suc, ◌+◌, ◌<◌, ◌||◌, Bool, true, false, not, is_empty, List, [], ◌∷◌, length, map, get_or, slice_set, refl, sym, ap, ◌∙◌, arith, eq-eqb, nat_tests, ne_eqb, Option, Some, None, is_some, list_any, Map, get, put}
 use Rattle.zl_rights.specs.declared.policy.Action.{Action}
 use Rattle.zl_policy.specs.Policies.{set_from, with_unset}
 
@@ -66,3 +66,12 @@ set_same k a policy there = rw there refl
 pub any_numbered : {A : Type 0} (number : A → ℕ) (test : ℕ → Bool) (cs : List A) → list_any (λ c. test (number c)) cs ≡ list_any test (map number cs)
 any_numbered number test [] = refl
 any_numbered number test (c ∷ cs) = ap (λ b. test (number c) || b) (any_numbered number test cs)
+
+-- ---- the whole row
+
+-- an action stands in one of the places just where something is set
+pub any_set : (n : ℕ) (places : List (Option Action)) → list_any (λ a. is_some a) places ≡ not (is_empty (set_from n places))
+unfolding set_from
+any_set n [] = refl
+any_set n (None ∷ places) = any_set (n + 1) places
+any_set n (Some a ∷ places) = refl

@@ -1,5 +1,6 @@
-ghost use Rattle.std.specs.Prelude.{◌≡◌, ◌<◌, ◌&&◌, [], Err, Ok, OnErr, OnOk, Some, get_or, if◌then◌else◌, length, map, slice_get};
+ghost use Rattle.std.specs.Prelude.{◌≡◌, ◌<◌, ◌&&◌, not, [], Err, Ok, OnErr, OnOk, Some, get_or, if◌then◌else◌, length, map, slice_get};
 ghost use Rattle.zl_rights.specs.Map.{get};
+ghost use Rattle.zl_rights.specs.Signals.{is_empty};
 ghost use Rattle.zl_rights.specs.Numbers.{action_number, condition_number};
 ghost use Rattle.zl_rights.specs.declared.status.Status.{Status};
 ghost use Rattle.zl_policy.specs.Policies.{action_in, answer_of, conditions_of, conflicts, is_absolute, is_other, policy_set, with_unset};
@@ -63,6 +64,15 @@ impl Policy {
             Some(action) => action,
             None => Action::Allow,
         }
+    }
+
+    /// Whether an action is set for any condition.
+    ///
+    /// Source: own profile.
+    pub fn has_actions(&self) -> bool
+        ensures { result ≡ not (is_empty self.now) }
+    {
+        self.actions.iter().any(|action| action.is_some())
     }
 
     /// Sets the action for the condition, or for each that `NewAny` stands for. A condition that

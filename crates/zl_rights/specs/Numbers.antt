@@ -228,6 +228,10 @@ mode_number mode.Absolute = 1
 
 -- ---- codes of an end
 
+-- of a process that was killed
+abbrev pub KILLED : ℤ
+KILLED = negsuc 1023
+
 -- of a process that its policy ended
 abbrev pub BY_POLICY : ℤ
 BY_POLICY = negsuc 1025

@@ -24,7 +24,7 @@ use Rattle.zl_abs.specs.CallRules.{operands_at, operands_listed, Uses, uses_by, 
 use Rattle.zl_abs.proofs.Order.{both}
 use Rattle.zl_verify.proofs.Examining.{valued, taken_registers, IsPlain}
 use Rattle.zl_verify.proofs.Fitting.{AreInside}
-use Rattle.zl_verify.proofs.Sites.{SiteAt, close_at, dup_at, replace_at, chan_create_at, chan_write_at, chan_read_at, event_create_at, signal_at, signal_peer_at, wait_one_at, wait_poll_at, wait_async_at, port_create_at, port_queue_at, port_wait_at, port_poll_at, port_cancel_at, process_exit_at}
+use Rattle.zl_verify.proofs.Sites.{SiteAt, close_at, dup_at, replace_at, chan_create_at, chan_write_at, chan_read_at, event_create_at, signal_at, signal_peer_at, wait_one_at, wait_poll_at, wait_async_at, port_create_at, port_queue_at, port_wait_at, port_poll_at, port_cancel_at, process_create_at, process_start_at, process_exit_at, task_kill_at, job_create_at, job_set_policy_at}
 
 -- ---- registers of an image are registers
 
@@ -211,4 +211,9 @@ aligned bounds s _ c _ (port_queue_at a b d f) u e = subst (IsAligned c _) (same
 aligned bounds s _ c _ (port_wait_at a b d f g h) u e = subst (IsAligned c _) (same_Some _ u e) (record { operands = refl; consumed = refl; destinations = refl; condition = refl; plain = none_behind _ tt })
 aligned bounds s _ c _ (port_poll_at a b d f g h) u e = subst (IsAligned c _) (same_Some _ u e) (record { operands = refl; consumed = refl; destinations = refl; condition = refl; plain = none_behind _ tt })
 aligned bounds s _ c _ (port_cancel_at a b o d) u e = subst (IsAligned c _) (same_Some _ u e) (record { operands = refl; consumed = refl; destinations = refl; condition = refl; plain = one_behind _ _ refl })
+aligned bounds s _ c _ (process_create_at a b d f) u e = subst (IsAligned c _) (same_Some _ u e) (record { operands = refl; consumed = refl; destinations = refl; condition = refl; plain = none_behind _ tt })
+aligned bounds s _ c _ (process_start_at a b o d) u e = subst (IsAligned c _) (same_Some _ u e) (record { operands = refl; consumed = refl; destinations = refl; condition = refl; plain = one_behind _ _ refl })
 aligned bounds s _ c _ (process_exit_at a) u e = subst (IsAligned c _) (same_Some _ u e) (record { operands = refl; consumed = refl; destinations = refl; condition = refl; plain = none_behind _ tt })
+aligned bounds s _ c _ (task_kill_at a b) u e = subst (IsAligned c _) (same_Some _ u e) (record { operands = refl; consumed = refl; destinations = refl; condition = refl; plain = none_behind _ tt })
+aligned bounds s _ c _ (job_create_at a b d) u e = subst (IsAligned c _) (same_Some _ u e) (record { operands = refl; consumed = refl; destinations = refl; condition = refl; plain = none_behind _ tt })
+aligned bounds s _ c _ (job_set_policy_at a b d f g) u e = subst (IsAligned c _) (same_Some _ u e) (record { operands = refl; consumed = refl; destinations = refl; condition = refl; plain = none_behind _ tt })

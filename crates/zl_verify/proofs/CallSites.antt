@@ -1,17 +1,18 @@
 -- Where the rule of a call holds, what the call asks for can be read.
-use Rattle.std.proofs.Common.{◌≡◌, ℕ, ◌+◌, ◌≤◌, Bool, true, false, not, List, length, refl, subst, Option, Some, None, Result, Ok, Err, arith, slice_index}
+use Rattle.std.proofs.Common.{◌≡◌, ◌≢◌, ℕ, ◌+◌, ◌≤◌, Bool, true, false, not, List, length, refl, subst, Option, Some, None, Result, Ok, Err, arith, slice_index}
 use Rattle.std.proofs.lemmas.Option.{same_Some}
 use Rattle.std.specs.Prelude.{if◌then◌else◌, nat_le}
+use Rattle.std.specs.Bool.{then_some}
 use Rattle.std.proofs.lemmas.Bool.Decides.{nat_tests}
 use Rattle.zl_rights.specs.Common.{Cpu}
 use Rattle.zl_code.specs.declared.instr.CallInstr.{CallInstr}
+use Rattle.zl_code.specs.declared.instr.CallInstr.TheVariants as call
 use Rattle.zl_code.specs.Image.{Image}
 use Rattle.zl_code.specs.Instructions.{Row, row_of}
 use Rattle.zl_code.specs.Spells.{Last, Numbers, Room, Places, Parts, call_parts}
 use Rattle.zl_code.specs.Local.{reg, is_in_memory}
-use Rattle.zl_code.specs.Asked.{Asked, has_its_memory, asked_by, asked_of}
-use Rattle.zl_code.specs.CallTable.{Request, request_of}
-use Rattle.zl_code.specs.Request.{name_of, site_by, site_of}
+use Rattle.zl_code.specs.Asked.{has_its_memory}
+use Rattle.zl_code.specs.Request.{Site, site_of}
 use Rattle.zl_abs.specs.declared.value.AbsVal.{AbsVal}
 use Rattle.zl_abs.specs.declared.value.AbsVal.TheVariants.{Word, Has, KindOf, RightsOf}
 use Rattle.zl_abs.specs.declared.cause.Cause.{Cause}
@@ -75,32 +76,26 @@ module _ {f : Table} {i : Image} {s : State} (c : Cpu) (h : Holds f s c.register
   range_there (Room handles) rs e = sum_there (slice_index rs 2) (slice_index rs 3) e
   range_there (Places places) rs e = sum_there (slice_index rs 2) (slice_index rs 3) e
 
-  by_row : (o : Option Row) (p : Parts) (values : List AbsVal) (on : Bool) → IsGiven (call_rule_by i s on (uses_in o p values)) → (r : Row) × (o ≡ Some r) × (has_its_memory p.last p.registers c ≡ true)
+  by_row : (o : Option Row) (p : Parts) (values : List AbsVal) (on : Bool) → IsGiven (call_rule_by i s on (uses_in o p values)) → has_its_memory p.last p.registers c ≡ true
   by_row None p values on k = absurd k
   by_row (Some r) p values on k =
       let whole : IsGiven (state_after i s (uses_by r p values)) = given_first (state_after i s (uses_by r p values)) (λ t. Ok (if on then passes t else stops)) k in
       let last = given_then (examined_all s (uses_by r p values).operands) (λ t. finished i s t (uses_by r p values)) whole in
-      (r, refl, range_there p.last p.registers (range_is_given i s last.0 (uses_by r p values) last.1))
+      range_there p.last p.registers (range_is_given i s last.0 (uses_by r p values) last.1)
 
-  -- the row of the call is there, and its memory
-  pub memory_there : (bounds : List ℕ) (x : CallInstr) → IsGiven (call_rule bounds i x s) → (r : Row) × (row_of (call_parts x).opcode ≡ Some r) × (has_its_memory (call_parts x).last (call_parts x).registers c ≡ true)
+  -- the memory of the call is there
+  pub memory_there : (bounds : List ℕ) (x : CallInstr) → IsGiven (call_rule bounds i x s) → has_its_memory (call_parts x).last (call_parts x).registers c ≡ true
   unfolding call_rule uses_of
   memory_there bounds x k = by_row (row_of (call_parts x).opcode) (call_parts x) (values_of bounds s x) (goes_on x) k
 
--- such a call asks for something, and has a site unless it isn't built
-pub asks_for : (x : CallInstr) (c : Cpu) (r : Row) → row_of (call_parts x).opcode ≡ Some r → has_its_memory (call_parts x).last (call_parts x).registers c ≡ true → asked_of x c ≡ Some (asked_by r (call_parts x) c)
-unfolding asked_of
-asks_for x c r is there = rw (is, there) refl
+-- memory that is there makes a site
+none_lacks : (b : Bool) (s : Site) → b ≡ true → then_some b s ≢ None
+none_lacks true s there e = cc
+none_lacks false s there e = cc
 
--- what is asked for, as a request
-abbrev requested : CallInstr → Asked → Option Request
-requested x a = request_of (name_of x) a.operands a.number a.bytes a.handles
-
-pub no_request : (x : CallInstr) (c : Cpu) (r : Row) → row_of (call_parts x).opcode ≡ Some r → has_its_memory (call_parts x).last (call_parts x).registers c ≡ true → site_of x c ≡ None
-    → requested x (asked_by r (call_parts x) c) ≡ None
-unfolding site_of
-no_request x c r is there none = by (requested x (asked_by r (call_parts x) c)) (rw (is, there) at none)
-  where
-    by : (o : Option Request) → site_by (asked_by r (call_parts x) c) true o ≡ None → o ≡ None
-    by None e = refl
-    by (Some request) e = cc
+-- such a call has a site: none lacks a request
+pub has_site : (x : CallInstr) (c : Cpu) → has_its_memory (call_parts x).last (call_parts x).registers c ≡ true → site_of x c ≢ None
+unfolding site_of row_of call_parts
+has_site (call.ChanWrite a b m n hs) c there none = none_lacks (is_in_memory c (reg c m) (reg c n)) _ there none
+has_site (call.ChanReadEtc a b m n e f g places) c there none = none_lacks (is_in_memory c (reg c m) (reg c n)) _ there none
+has_site _ c there none = cc

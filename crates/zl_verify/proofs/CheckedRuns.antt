@@ -1,32 +1,35 @@
--- A process that conforms is never refused for a handle, no policy ends it, and it keeps its budget, whatever follows in the run.
-use Rattle.std.proofs.Common.{◌≡◌, ℕ, ◌+◌, ◌-◌, ◌<◌, ◌≤◌, ◌⊎◌, true, false, ◌==◌, List, [], ◌∷◌, ◌++◌, refl, sym, ap, ◌∙◌, subst, Option, Some, None, inl, inr, arith}
+-- A process that conforms is never refused for a handle, no policy ends it, and it keeps its budget, till it ends itself or another kills it.
+use Rattle.std.proofs.Common.{◌≡◌, ◌≢◌, ℕ, ◌+◌, ◌-◌, ◌<◌, ◌≤◌, ◌⊎◌, true, false, ◌==◌, List, [], ◌∷◌, ◌++◌, refl, sym, ap, ◌∙◌, subst, Option, Some, None, inl, inr, arith}
 use Rattle.std.specs.Prelude.{nat_le, slice_get, IsSomeAnd}
 use Rattle.std.specs.List.{AllByRecursion}
 use Rattle.std.proofs.lemmas.Bool.{cases_Bool, eqb-true}
 use Rattle.std.proofs.lemmas.Bool.Decides.{nat_tests}
 use Rattle.std.proofs.lemmas.Option.{same_Some}
-use Rattle.zl_rights.specs.Common.{runs, World, Process, Ready, Blocked}
+use Rattle.zl_rights.specs.Common.{get, runs, World, Process, Ready, Blocked, Ended}
 use Rattle.zl_rights.specs.World.{Awaited}
+use Rattle.zl_rights.specs.Numbers.{KILLED}
 use Rattle.zl_rights.specs.Signals.{has_ended}
 use Rattle.zl_code.specs.declared.boot.Statement.{Statement}
 use Rattle.zl_code.specs.declared.history.TraceItem.{TraceItem}
-use Rattle.zl_code.specs.Image.{Image, Library}
+use Rattle.zl_code.specs.Image.{Image, Library, call_at}
 use Rattle.zl_code.specs.Spells.{is_in_range}
 use Rattle.zl_code.specs.Steps.{Step, pid_of, Runs}
 use Rattle.zl_abs.specs.States.{State}
 use Rattle.zl_abs.specs.Typing.{IsTyping}
 use Rattle.zl_verify.specs.Conforms.{Conforms}
-use Rattle.zl_verify.specs.Steps.{IsBelow, AllBelow, IsStepBound, OneOf}
+use Rattle.zl_verify.specs.Steps.{is_pause, IsBelow, AllBelow, IsStepBound, OneOf}
 use Rattle.zl_verify.specs.SizedLaws.{IsSizedBoot}
-use Rattle.zl_verify.specs.WakeLaws.{IsRunStep, EndsStep, stays, wakes}
+use Rattle.zl_verify.specs.WakeLaws.{IsRunStep, stays, wakes, OthersLeave, left_so, was_killed}
 use Rattle.zl_verify.specs.RunLaws.{IsFineItem, IsUnderWay, HasEnded, executed, left_behind, KeepsBudget}
-use Rattle.zl_verify.proofs.Others.{others_end, others_same}
+use Rattle.zl_verify.proofs.Counting.{has_edge}
+use Rattle.zl_verify.proofs.Woken.{sound_before}
+use Rattle.zl_verify.proofs.Others.{others_end, over_after_act}
 use Rattle.zl_verify.proofs.Ended.{ended_still}
-use Rattle.zl_verify.proofs.OwnSteps.{fine_other, Went, goes, pauses, under_way, under_way_steps}
+use Rattle.zl_verify.proofs.OwnSteps.{fine_other, Went, goes, pauses, Stopped, by_exit, by_kill, under_way, under_way_steps}
 
 -- ---- runs
 
-one_more : (lib : Library) (boot : World) (items : List TraceItem) (w : World) (x : TraceItem) (mid : World) → Runs lib boot items w → Step lib w (pid_of x) x mid → Runs lib boot (items ++ (x ∷ [])) mid
+pub one_more : (lib : Library) (boot : World) (items : List TraceItem) (w : World) (x : TraceItem) (mid : World) → Runs lib boot items w → Step lib w (pid_of x) x mid → Runs lib boot (items ++ (x ∷ [])) mid
 one_more lib boot [] w x mid e step = (mid, subst (λ v. Step lib v (pid_of x) x mid) e step, refl)
 one_more lib boot (y ∷ items) w x mid (first, before, rest) step = (first, before, one_more lib first items w x mid rest step)
 
@@ -37,9 +40,9 @@ no_step lib w p x w2 b o =
     let bad : false ≡ true = sym (ap has_ended b.step.is_ready) ∙ (ap (λ (y : Process). has_ended y.state) (sym same) ∙ o.over) in
     cc
 
--- who is over stays so while others act
-over_still : (lib : Library) (w : World) (m : ℕ) (x : TraceItem) (w2 : World) → IsRunStep lib w m x w2 → (p : ℕ) → (m == p) ≡ false → HasEnded w p → HasEnded w2 p
-over_still lib w m x w2 b p apart o = record { process = o.process; there = ended_still p o.process o.over lib w m x w2 b.step (others_same lib w m x w2 b.step p apart ∙ o.there); over = o.over }
+-- who was killed is over
+killed_there : (w : World) (p : ℕ) (q : Process) → get w.processes p ≡ Some (record q { state = Ended KILLED; handles = []; last = None }) → HasEnded w p
+killed_there w p q at = record { process = record q { state = Ended KILLED; handles = []; last = None }; there = at; over = refl }
 
 module _ (lib : Library) (i : Image) (t : ℕ → Option State) (range : is_in_range i ≡ true) (typing : IsTyping i t) where
   -- ---- no refusal
@@ -49,32 +52,44 @@ module _ (lib : Library) (i : Image) (t : ℕ → Option State) (range : is_in_r
   StandsIn w p = IsUnderWay lib i t w p ⊎ HasEnded w p
 
   module _ (w : World) (m : ℕ) (x : TraceItem) (w2 : World) (b : IsRunStep lib w m x w2) where
-    own_stands : StandsIn w m → IsFineItem i m x × StandsIn w2 m
+    -- who is over stays so while others act
+    over_still : (p : ℕ) → (m == p) ≡ false → HasEnded w p → HasEnded w2 p
+    over_still p apart o = record {
+      process = o.process;
+      there = ended_still p o.process o.over lib w m x w2 b.step (over_after_act lib w m x w2 (sound_before lib w m x w2 b) b.step p o.process apart o.there o.over);
+      over = o.over;
+    }
+
+    own_stands : StandsIn w m → IsFineItem m x × StandsIn w2 m
     own_stands (inl u) = let (fine, h) = under_way_steps lib i t range typing w m x w2 b u in (fine, by h)
       where
-        by : ((after : IsUnderWay lib i t w2 m) × Went i t u.process after.process x) ⊎ (HasEnded w2 m × (executed x ≡ None)) → StandsIn w2 m
+        by : ((after : IsUnderWay lib i t w2 m) × Went i t u.process after.process x) ⊎ (HasEnded w2 m × Stopped i u.process x) → StandsIn w2 m
         by (inl h) = inl h.0
         by (inr h) = inr h.0
     own_stands (inr o) = absurd (no_step lib w m x w2 b o)
 
-    other_ends : (p : ℕ) → (m == p) ≡ false → (u : IsUnderWay lib i t w p) → EndsStep i t p u.process w2
+    other_ends : (p : ℕ) → (m == p) ≡ false → (u : IsUnderWay lib i t w p) → OthersLeave i t p u.process w2
     other_ends p apart u = others_end i t range typing lib w m x w2 b p u.process apart u.there u.running u.conforms
 
     other_stands : (p : ℕ) → (m == p) ≡ false → StandsIn w p → StandsIn w2 p
-    other_stands p apart (inl u) = inl (under_way lib i t range typing p u.process w2 u.checked u.program u.running (other_ends p apart u))
-    other_stands p apart (inr o) = inr (over_still lib w m x w2 b p apart o)
+    other_stands p apart (inl u) = by (other_ends p apart u)
+      where
+        by : OthersLeave i t p u.process w2 → StandsIn w2 p
+        by (left_so e) = inl (under_way lib i t range typing p u.process w2 u.checked u.program u.running e)
+        by (was_killed at) = inr (killed_there w2 p u.process at)
+    other_stands p apart (inr o) = inr (over_still p apart o)
 
-  stands_still : (w : World) (x : TraceItem) (w2 : World) → IsRunStep lib w (pid_of x) x w2 → (p : ℕ) → StandsIn w p → IsFineItem i p x × StandsIn w2 p
+  stands_still : (w : World) (x : TraceItem) (w2 : World) → IsRunStep lib w (pid_of x) x w2 → (p : ℕ) → StandsIn w p → IsFineItem p x × StandsIn w2 p
   stands_still w x w2 b p s = by (cases_Bool (pid_of x == p))
     where
-      by : ((pid_of x == p) ≡ true) ⊎ ((pid_of x == p) ≡ false) → IsFineItem i p x × StandsIn w2 p
+      by : ((pid_of x == p) ≡ true) ⊎ ((pid_of x == p) ≡ false) → IsFineItem p x × StandsIn w2 p
       by (inl e) =
           let same : pid_of x ≡ p = eqb-true (pid_of x) p e in
-          subst (λ j. IsFineItem i j x × StandsIn w2 j) same (own_stands w (pid_of x) x w2 b (subst (StandsIn w) (sym same) s))
-      by (inr e) = (fine_other i p x e, other_stands w (pid_of x) x w2 b p e s)
+          subst (λ j. IsFineItem j x × StandsIn w2 j) same (own_stands w (pid_of x) x w2 b (subst (StandsIn w) (sym same) s))
+      by (inr e) = (fine_other p x e, other_stands w (pid_of x) x w2 b p e s)
 
   module _ (statements : List Statement) (boot : World) (begins : IsSizedBoot lib statements boot) (p : ℕ) where
-    run_fine : (more items : List TraceItem) (w after : World) → Runs lib boot items w → StandsIn w p → Runs lib w more after → AllByRecursion (IsFineItem i p) more
+    run_fine : (more items : List TraceItem) (w after : World) → Runs lib boot items w → StandsIn w p → Runs lib w more after → AllByRecursion (IsFineItem p) more
     run_fine [] items w after run s e = tt
     run_fine (x ∷ more) items w after run s (mid, step, rest) =
         let (fine, later) = stands_still w x mid (record { statements = statements; boot = boot; items = items; begins = begins; run = run; step = step }) p s in
@@ -89,7 +104,7 @@ module _ (lib : Library) (i : Image) (t : ℕ → Option State) (range : is_in_r
     pub stays_so : (items more : List TraceItem) (w after : World) → Runs lib boot items w → IsUnderWay lib i t w p → Runs lib w more after → StandsIn after p
     stays_so items more w after run u rest = run_stands more items w after run (inl u) rest
 
-    pub never_refused : (items more : List TraceItem) (w after : World) → Runs lib boot items w → IsUnderWay lib i t w p → Runs lib w more after → AllByRecursion (IsFineItem i p) more
+    pub never_refused : (items more : List TraceItem) (w after : World) → Runs lib boot items w → IsUnderWay lib i t w p → Runs lib w more after → AllByRecursion (IsFineItem p) more
     never_refused items more w after run u rest = run_fine more items w after run (inl u) rest
 
   -- ---- the budget
@@ -115,6 +130,26 @@ module _ (lib : Library) (i : Image) (t : ℕ → Option State) (range : is_in_r
       where
         some : (left : ℕ) → 1 ≤ left → nat_le 1 left ≡ true
         some left le = grind (arith, nat_tests)
+
+    -- behind a number an edge leads to less, so that it isn't 0
+    some_left : (m : ℕ) (ns : List ℕ) → AllBelow steps m ns → ns ≢ [] → 1 ≤ m
+    some_left m [] all some = absurd (some refl)
+    some_left m (n ∷ ns) (one, all) some = by (steps n) one
+      where
+        by : (o : Option ℕ) → IsBelow o m → 1 ≤ m
+        by None h = absurd h
+        by (Some k) h = omega arith
+
+    -- an instruction that is no pause is left where one stands
+    one_left : (w : World) (p : ℕ) (q : Process) (left : ℕ) → Conforms i t w p q → is_pause (call_at i q.cpu.counter) ≡ false → IsCounted q left → nat_le 1 left ≡ true
+    one_left w p q left k no_pause c = by (steps q.cpu.counter) refl c.number
+      where
+        room : (left m : ℕ) → 1 ≤ m → m < left + 1 → nat_le 1 left ≡ true
+        room left m some less = grind (arith, nat_tests)
+
+        by : (o : Option ℕ) → steps q.cpu.counter ≡ o → IsBelow o (left + 1) → nat_le 1 left ≡ true
+        by None at h = absurd h
+        by (Some m) at h = room left m (some_left m _ (bound.falls q.cpu.counter m at) (has_edge i t typing q.cpu.counter (record { state = k.state; mapped = k.stands; goes_on = no_pause }))) h
 
     after_own : (w2 : World) (p : ℕ) (q y : Process) (x : TraceItem) (left : ℕ) → Conforms i t w2 p y → Went i t q y x → IsCounted q left → IsSomeAnd (left_behind i.budget left (executed x)) (IsCounted y)
     after_own w2 p q y x left k (pauses is) c = rw is (whole_budget w2 p y k)
@@ -144,18 +179,20 @@ module _ (lib : Library) (i : Image) (t : ℕ → Option State) (range : is_in_r
           then_so None after h = absurd h
           then_so (Some more) after h = inl (after, h)
 
-          by : ((after : IsUnderWay lib i t w2 m) × Went i t u.process after.process x) ⊎ (HasEnded w2 m × (executed x ≡ None)) → IsSomeAnd (left_behind i.budget left (executed x)) (CountsIn w2 m)
+          by : ((after : IsUnderWay lib i t w2 m) × Went i t u.process after.process x) ⊎ (HasEnded w2 m × Stopped i u.process x) → IsSomeAnd (left_behind i.budget left (executed x)) (CountsIn w2 m)
           by (inl (after, went)) = then_so (left_behind i.budget left (executed x)) after (after_own w2 m u.process after.process x left after.conforms went c)
-          by (inr (over, is)) = rw is (inr over)
+          by (inr (over, by_exit is)) = rw is (inr over)
+          by (inr (over, by_kill is no_pause)) = rw (is, one_left w m u.process left u.conforms no_pause c) (inr over)
       own_counts left (inr o) = absurd (no_step lib w m x w2 b o)
 
       other_counts : (p : ℕ) → (m == p) ≡ false → (left : ℕ) → CountsIn w p left → CountsIn w2 p left
-      other_counts p apart left (inr o) = inr (over_still lib w m x w2 b p apart o)
+      other_counts p apart left (inr o) = inr (over_still w m x w2 b p apart o)
       other_counts p apart left (inl (u, c)) = by (other_ends w m x w2 b p apart u)
         where
-          by : EndsStep i t p u.process w2 → CountsIn w2 p left
-          by (stays at k) = inl (record { process = u.process; there = at; running = u.running; checked = u.checked; program = u.program; conforms = k }, c)
-          by (wakes awaited ds waited a) = inl (
+          by : OthersLeave i t p u.process w2 → CountsIn w2 p left
+          by (was_killed at) = inr (killed_there w2 p u.process at)
+          by (left_so (stays at k)) = inl (record { process = u.process; there = at; running = u.running; checked = u.checked; program = u.program; conforms = k }, c)
+          by (left_so (wakes awaited ds waited a)) = inl (
             record { process = a.after; there = a.there; running = ap runs a.ready; checked = u.checked; program = ap (slice_get lib) a.program ∙ u.program; conforms = a.conforms },
             subst (IsCounted a.after) (sym (c.waiting awaited ds waited)) (whole_budget w2 p a.after a.conforms),
           )

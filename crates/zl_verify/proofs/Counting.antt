@@ -44,11 +44,11 @@ module _ (i : Image) (t : ℕ → Option State) where
   not_empty n s p (Ok []) e h = absurd (leads_on i n s [] p e refl)
   not_empty n s p (Ok (x ∷ xs)) e h = λ z. cc
 
-  goes : IsTyping i t → (n : ℕ) → Counts i t n → leads i t n ≢ []
-  goes y n c = rw (at_state n c.state c.mapped c.goes_on) (not_empty n c.state c.goes_on (rule i n c.state) refl (y.holds n c.state c.mapped))
+  pub has_edge : IsTyping i t → (n : ℕ) → Counts i t n → leads i t n ≢ []
+  has_edge y n c = rw (at_state n c.state c.mapped c.goes_on) (not_empty n c.state c.goes_on (rule i n c.state) refl (y.holds n c.state c.mapped))
 
   followed : IsTyping i t → (n : ℕ) (ms : List ℕ) → AllCount i t n ms → Follow (leads i t) (length (n ∷ ms)) n
-  followed y n [] c = any_one (λ m. Follow (leads i t) zero m) (λ m. tt) (leads i t n) (goes y n c)
+  followed y n [] c = any_one (λ m. Follow (leads i t) zero m) (λ m. tt) (leads i t n) (has_edge y n c)
   followed y n (m ∷ ms) c =
       let f = c.1 in
       this_one (λ k. Follow (leads i t) (length (m ∷ ms)) k) m (followed y m ms (c.2)) (leads i t n)

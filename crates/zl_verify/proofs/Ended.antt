@@ -1,4 +1,4 @@
--- A process that has ended stays as it is.
+-- A process that has ended stays as it is, and one that is ready is as it was once others are awake.
 use Rattle.std.proofs.Common.{◌≡◌, ℕ, ◌⊎◌, Bool, true, false, ◌==◌, List, [], ◌∷◌, refl, sym, ap, ◌∙◌, subst, Option, Some, None, inl, inr}
 use Rattle.std.specs.Prelude.{if◌then◌else◌}
 use Rattle.std.specs.List.{fold}
@@ -15,8 +15,9 @@ use Rattle.zl_rights.proofs.MapLaws.{get-put, get-each}
 use Rattle.zl_code.specs.declared.history.TraceItem.{TraceItem}
 use Rattle.zl_code.specs.Image.{Library}
 use Rattle.zl_code.specs.Steps.{Step}
+use Rattle.zl_code.specs.Sound.{is_blocked}
 
-module _ (p : ℕ) (q : Process) (over : has_ended q.state ≡ true) where
+module _ (p : ℕ) (q : Process) (awake : is_blocked q.state ≡ false) where
   module _ (u : World) (there : get u.processes p ≡ Some q) (m : ℕ) where
     -- another gets its answer
     readied : (v : World) → v.processes ≡ u.processes → (y : Process) → get u.processes m ≡ Some y → (awaited : Awaited) (ds vs : List ℕ) → y.state ≡ Blocked awaited ds → get (made_ready v m y ds vs).processes p ≡ Some q
@@ -26,7 +27,7 @@ module _ (p : ℕ) (q : Process) (over : has_ended q.state ≡ true) where
         by : ((m == p) ≡ true) ⊎ ((m == p) ≡ false) → get (put v.processes m (record y { state = Ready; cpu = answered y.cpu ds vs })) p ≡ Some q
         by (inl e) =
             let is : y ≡ q = same_Some y q (sym (subst (λ j. get u.processes j ≡ Some y) (eqb-true m p e) at) ∙ there) in
-            let bad : false ≡ true = sym (ap has_ended blocked) ∙ (ap (λ (z : Process). has_ended z.state) is ∙ over) in
+            let bad : true ≡ false = sym (ap is_blocked blocked) ∙ (ap (λ (z : Process). is_blocked z.state) is ∙ awake) in
             cc
         by (inr e) = get-put v.processes m (record y { state = Ready; cpu = answered y.cpu ds vs }) p ∙ rw e (ap (λ ps. get ps p) same ∙ there)
 
@@ -64,10 +65,15 @@ module _ (p : ℕ) (q : Process) (over : has_ended q.state ≡ true) where
   turns u there [] = there
   turns u there (m ∷ ms) = turns (woken u m) (turn u there m) ms
 
-  awake_still : (w : World) → get w.processes p ≡ Some q → get (wakes w).processes p ≡ Some q
+  pub awake_still : (w : World) → get w.processes p ≡ Some q → get (wakes w).processes p ≡ Some q
   unfolding wakes fired
   awake_still w there = turns (fired w) there w.blocked
 
+not_blocked : (l : Life) → has_ended l ≡ true → is_blocked l ≡ false
+not_blocked (Blocked awaited ds) e = cc
+not_blocked _ e = refl
+
+module _ (p : ℕ) (q : Process) (over : has_ended q.state ≡ true) where
   settled_still : (u v : World) → Settles u v → get u.processes p ≡ Some q → get v.processes p ≡ Some q
   unfolding without_others
   settled_still u v (K, largest, is) there = rw is (get-each u.processes (process_settled K) p ∙ (ap (option_map (process_settled K p)) there ∙ ap (λ (l : Life). Some (record q { state = l })) (by q.state over)))
@@ -79,4 +85,4 @@ module _ (p : ℕ) (q : Process) (over : has_ended q.state ≡ true) where
 
   -- what has ended right after the act of a step has ended at its end
   pub ended_still : (lib : Library) (w : World) (m : ℕ) (x : TraceItem) (w2 : World) → (step : Step lib w m x w2) → get step.acted.processes p ≡ Some q → get w2.processes p ≡ Some q
-  ended_still lib w m x w2 step there = subst (λ v. get v.processes p ≡ Some q) (sym step.ends_awake) (awake_still step.settled (settled_still step.acted step.settled step.settles there))
+  ended_still lib w m x w2 step there = subst (λ v. get v.processes p ≡ Some q) (sym step.ends_awake) (awake_still p q (not_blocked q.state over) step.settled (settled_still step.acted step.settled step.settles there))

@@ -10,7 +10,7 @@ use Rattle.zl_code.specs.Image.{Image, Library, Program}
 use Rattle.zl_code.specs.Spells.{is_in_range}
 use Rattle.zl_abs.specs.States.{State}
 use Rattle.zl_abs.specs.Typing.{IsTyping}
-use Rattle.zl_verify.specs.Headline.{EndsByExit, HasNoFault, IsNeverRefused, IsNotStuck}
+use Rattle.zl_verify.specs.Headline.{EndsItself, HasNoFault, IsNeverRefused, IsNotStuck}
 use Rattle.zl_verify.specs.RunLaws.{IsFineItem, IsUnderWay}
 use Rattle.zl_verify.specs.Steps.{IsStepBound}
 use Rattle.zl_verify.proofs.CheckedRuns.{budget_kept, never_refused}
@@ -26,22 +26,22 @@ all_so : {X : Type 0} (P Q : X → Type 0) → ((x : X) → P x → Q x) → (xs
 all_so P Q so [] all = tt
 all_so P Q so (x ∷ xs) all = (so x all.0, all_so P Q so xs all.1)
 
-module _ (i : Image) (p : ℕ) where
-  no_fault : (x : TraceItem) → IsFineItem i p x → HasNoFault p x
+module _ (p : ℕ) where
+  no_fault : (x : TraceItem) → IsFineItem p x → HasNoFault p x
   no_fault (item.Call pid called (outcome.Answered answer)) fine = fine
   no_fault (item.Call pid called (outcome.Ended code)) fine = tt
   no_fault (item.Call pid called outcome.Blocked) fine = tt
   no_fault (item.Run pid count) fine = tt
   no_fault (item.Stuck pid) fine = tt
 
-  by_exit : (x : TraceItem) → IsFineItem i p x → EndsByExit p x
-  by_exit (item.Call pid called (outcome.Answered answer)) fine = tt
-  by_exit (item.Call pid called (outcome.Ended code)) fine = fine
-  by_exit (item.Call pid called outcome.Blocked) fine = tt
-  by_exit (item.Run pid count) fine = tt
-  by_exit (item.Stuck pid) fine = tt
+  ends_itself : (x : TraceItem) → IsFineItem p x → EndsItself p x
+  ends_itself (item.Call pid called (outcome.Answered answer)) fine = tt
+  ends_itself (item.Call pid called (outcome.Ended code)) fine = fine
+  ends_itself (item.Call pid called outcome.Blocked) fine = tt
+  ends_itself (item.Run pid count) fine = tt
+  ends_itself (item.Stuck pid) fine = tt
 
-  not_stuck : (x : TraceItem) → IsFineItem i p x → IsNotStuck i p x
+  not_stuck : (x : TraceItem) → IsFineItem p x → IsNotStuck p x
   not_stuck (item.Call pid called (outcome.Answered answer)) fine = tt
   not_stuck (item.Call pid called (outcome.Ended code)) fine = tt
   not_stuck (item.Call pid called outcome.Blocked) fine = tt
@@ -59,10 +59,10 @@ headline i t steps typing bound lib statements boot w after items more p begins 
       program = started.program;
       conforms = starts_conforming i t range typing w p started.process started.proper;
     } in
-    let fine : AllByRecursion (IsFineItem i p) more = never_refused lib i t range typing statements boot begins p items more w after run under rest in
+    let fine : AllByRecursion (IsFineItem p) more = never_refused lib i t range typing statements boot begins p items more w after run under rest in
     record {
-      no_fault = all_so (IsFineItem i p) (HasNoFault p) (no_fault i p) more fine;
-      by_exit = all_so (IsFineItem i p) (EndsByExit p) (by_exit i p) more fine;
-      not_stuck = all_so (IsFineItem i p) (IsNotStuck i p) (not_stuck i p) more fine;
+      no_fault = all_so (IsFineItem p) (HasNoFault p) (no_fault p) more fine;
+      ends_itself = all_so (IsFineItem p) (EndsItself p) (ends_itself p) more fine;
+      not_stuck = all_so (IsFineItem p) (IsNotStuck p) (not_stuck p) more fine;
       budget = budget_kept lib i t range typing steps bound statements boot begins p items more w after run under rest;
     }

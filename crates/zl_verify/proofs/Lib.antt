@@ -55,6 +55,9 @@ pub mod Others
 pub mod Ended
 pub mod OwnSteps
 pub mod CheckedRuns
+pub mod Unstarted
+pub mod UnstartedRuns
+pub mod ChildStarts
 mod Headline
 mod RowsConforms
 mod RowsRuns

@@ -1,5 +1,5 @@
 -- The law of the local steps of a process that conforms.
-use Rattle.std.proofs.Common.{◌≡◌, ℕ, zero, suc, ◌+◌, ◌⊎◌, Bool, true, false, List, [], ◌∷◌, ◌++◌, length, refl, ap, ◌∙◌, subst, IsTrue, Option, Some, None, Result, Ok, Err, IfSome, inl, inr}
+use Rattle.std.proofs.Common.{◌≡◌, ◌≢◌, ℕ, zero, suc, ◌+◌, ◌⊎◌, Bool, true, false, List, [], ◌∷◌, ◌++◌, length, refl, ap, ◌∙◌, subst, IsTrue, Option, Some, None, Result, Ok, Err, IfSome, inl, inr}
 use Rattle.std.specs.Prelude.{if◌then◌else◌, slice_get, nat_lt}
 use Rattle.std.specs.List.{list_all}
 use Rattle.zl_rights.specs.Common.{bits, within, default_rights_of, get, World, Cpu, Process, Ready}
@@ -12,10 +12,9 @@ use Rattle.zl_code.specs.declared.instr.Instr.{Instr}
 use Rattle.zl_code.specs.declared.instr.Instr.TheVariants as instr
 use Rattle.zl_code.specs.declared.instr.LocalInstr.{LocalInstr}
 use Rattle.zl_code.specs.declared.instr.CallInstr.{CallInstr}
-use Rattle.zl_code.specs.Image.{Image, instr_at, call_at, call_in, is_among}
-use Rattle.zl_code.specs.Spells.{is_in_range, is_instr_in_range, is_local_in_range, call_parts}
+use Rattle.zl_code.specs.Image.{Image, instr_at, call_at, is_among}
+use Rattle.zl_code.specs.Spells.{is_in_range, is_instr_in_range, is_local_in_range}
 use Rattle.zl_code.specs.Local.{local_effect}
-use Rattle.zl_code.specs.Asked.{asked_by}
 use Rattle.zl_code.specs.Request.{Site, site_of, name_of}
 use Rattle.zl_code.specs.Steps.{Next, Moves, IsStuck, moves, calls_at, next_of, next_at}
 use Rattle.zl_code.specs.Effects.{on_process}
@@ -36,11 +35,11 @@ use Rattle.zl_abs.specs.Typing.{Holds as RuleHolds}
 use Rattle.zl_abs.proofs.Order.{both, within_trans}
 use Rattle.zl_verify.specs.Steps.{targets_of, leads, OneOf}
 use Rattle.zl_verify.specs.Conforms.{Table, Holds, IsMemory, WaitsAt, Conforms}
-use Rattle.zl_verify.specs.LocalLaws.{IsUnbuilt, GoesOn}
+use Rattle.zl_verify.specs.LocalLaws.{GoesOn}
 use Rattle.zl_verify.proofs.Weakening.{weaken}
 use Rattle.zl_verify.proofs.Refining.{Known}
 use Rattle.zl_verify.proofs.Agreeing.{Arrives, agrees}
-use Rattle.zl_verify.proofs.CallSites.{IsGiven, memory_there, asks_for, no_request}
+use Rattle.zl_verify.proofs.CallSites.{IsGiven, memory_there, has_site}
 
 -- ---- facts of an image and of a world
 
@@ -181,30 +180,23 @@ module _ (i : Image) (t : ℕ → Option State) (w : World) (p : ℕ) (q : Proce
       by (Some (instr.Call x)) is e = absurd (no_move (name_of x) (site_of x q.cpu) e)
       by (Some (instr.Unknown bytes)) is e = cc
 
-  unbuilt : (x : CallInstr) → instr_at i q.cpu.counter ≡ Some (instr.Call x) → (o : Option Site) → site_of x q.cpu ≡ o → calls_at (name_of x) o ≡ IsStuck → IsUnbuilt i q.cpu
-  unbuilt x is (Some s) site e = cc
-  unbuilt x is None site e =
+  call_goes : (x : CallInstr) → instr_at i q.cpu.counter ≡ Some (instr.Call x) → (o : Option Site) → site_of x q.cpu ≡ o → calls_at (name_of x) o ≢ IsStuck
+  call_goes x is (Some s) site e = cc
+  call_goes x is None site e =
       let given = call_is_given t (length i.code) q.cpu.counter 0 (call_rule (bounds_of i.code) i x k.state) (holds_at (Some (instr.Call x)) is) in
-      let there = memory_there q.cpu k.holds k.memory (bounds_of i.code) x given in
-      record {
-        call = x;
-        stands = ap call_in is;
-        asked = asked_by there.0 (call_parts x) q.cpu;
-        there = asks_for x q.cpu there.0 there.1 there.2;
-        none = no_request x q.cpu there.0 there.1 there.2 site;
-      }
+      has_site x q.cpu (memory_there q.cpu k.holds k.memory (bounds_of i.code) x given) site
 
-  pub not_stuck : next_at i q.cpu ≡ IsStuck → IsUnbuilt i q.cpu
+  pub not_stuck : next_at i q.cpu ≢ IsStuck
   unfolding next_at
   not_stuck = by (instr_at i q.cpu.counter) refl
     where
-      one : (x : LocalInstr) → instr_at i q.cpu.counter ≡ Some (instr.Local x) → (o : Option Cpu) → local_effect x q.cpu ≡ o → moves o ≡ IsStuck → IsUnbuilt i q.cpu
+      one : (x : LocalInstr) → instr_at i q.cpu.counter ≡ Some (instr.Local x) → (o : Option Cpu) → local_effect x q.cpu ≡ o → moves o ≢ IsStuck
       one x is None effect e =
-          absurd (effect_there t (get q.handles) i (length i.code) q.cpu.counter (target_of x) (local_rule (bounds_of i.code) i x k.state) (holds_at (Some (instr.Local x)) is) (rw effect at (arrives x is)))
+          effect_there t (get q.handles) i (length i.code) q.cpu.counter (target_of x) (local_rule (bounds_of i.code) i x k.state) (holds_at (Some (instr.Local x)) is) (rw effect at (arrives x is))
       one x is (Some d) effect e = cc
 
-      by : (o : Option Instr) → instr_at i q.cpu.counter ≡ o → next_of o q.cpu ≡ IsStuck → IsUnbuilt i q.cpu
-      by None is e = absurd (holds_at None is)
+      by : (o : Option Instr) → instr_at i q.cpu.counter ≡ o → next_of o q.cpu ≢ IsStuck
+      by None is e = holds_at None is
       by (Some (instr.Local x)) is e = one x is (local_effect x q.cpu) refl e
-      by (Some (instr.Call x)) is e = unbuilt x is (site_of x q.cpu) refl e
-      by (Some (instr.Unknown bytes)) is e = absurd (holds_at (Some (instr.Unknown bytes)) is)
+      by (Some (instr.Call x)) is e = call_goes x is (site_of x q.cpu) refl e
+      by (Some (instr.Unknown bytes)) is e = holds_at (Some (instr.Unknown bytes)) is

@@ -9,7 +9,7 @@ use Rattle.zl_code.specs.declared.history.Outcome.TheVariants as outcome
 use Rattle.zl_code.specs.First.{first_some}
 use Rattle.zl_code.specs.Image.{Library}
 use Rattle.zl_code.specs.Tests.{answer_if}
-use Rattle.zl_code.specs.CallTable.{Request, listed, close, dup, replace, chan_create, chan_write, chan_read_etc, event_create, signal, signal_peer, wait_one, wait_poll, wait_async, port_create, port_queue, port_wait, port_poll, port_cancel, process_create, process_exit, job_create}
+use Rattle.zl_code.specs.CallTable.{Request, listed, close, dup, replace, chan_create, chan_write, chan_read_etc, event_create, signal, signal_peer, wait_one, wait_poll, wait_async, port_create, port_queue, port_wait, port_poll, port_cancel, process_create, process_start, process_exit, task_kill, job_create, job_set_policy}
 use Rattle.zl_verify.specs.CallLaws.{is_fault}
 
 abbrev pub is_good : Status → Bool
@@ -54,5 +54,8 @@ listed_ordinary lib w p (port_wait port) = tt
 listed_ordinary lib w p (port_poll port) = (if_so _ _ refl refl, tt)
 listed_ordinary lib w p (port_cancel port source key) = (if_so _ _ refl refl, tt)
 listed_ordinary lib w p (process_create job program) = (if_so _ _ refl refl, (if_so _ _ refl refl, (if_so _ _ refl refl, (if_so _ _ refl refl, tt))))
+listed_ordinary lib w p (process_start process h word) = (if_so _ _ refl refl, (if_so _ _ refl refl, tt))
 listed_ordinary lib w p (process_exit code) = tt
+listed_ordinary lib w p (task_kill task) = tt
 listed_ordinary lib w p (job_create j) = (if_so _ _ refl refl, (if_so _ _ refl refl, (if_so _ _ refl refl, tt)))
+listed_ordinary lib w p (job_set_policy j mode condition action) = (if_so _ _ refl refl, (if_so _ _ refl refl, (if_so _ _ refl refl, tt)))

@@ -1,13 +1,15 @@
--- What one process does leaves every other as it is, and as its typing says.
-use Rattle.std.proofs.Common.{◌≡◌, ℕ, true, false, ◌==◌, List, [], ◌∷◌, refl, ◌∙◌, IsTrue, Option, Some, None, arith}
-use Rattle.std.specs.Prelude.{⊤, slice_get}
+-- What one process does leaves every other as it is, and as its typing says, or ends it.
+use Rattle.std.proofs.Common.{◌≡◌, ℕ, ◌<◌, Bool, true, false, ◌==◌, List, [], ◌∷◌, refl, ap, ◌∙◌, IsTrue, Option, Some, None, option_map, arith}
+use Rattle.std.specs.Prelude.{⊤, is_some, slice_get}
 use Rattle.zl_rights.specs.declared.entry.Entry.{Entry}
 use Rattle.zl_rights.specs.declared.policy.Condition.{Condition}
 use Rattle.zl_rights.specs.declared.status.Status.{Status}
 use Rattle.zl_rights.specs.declared.status.Status.TheVariants as status
-use Rattle.zl_rights.specs.Common.{STUCK, get, runs, World, Cpu, Process}
+use Rattle.zl_rights.specs.Common.{STUCK, get, lives, runs, World, Cpu, Process, State as Life, Created, Ended}
+use Rattle.zl_rights.specs.Numbers.{KILLED}
+use Rattle.zl_rights.specs.Signals.{has_ended}
 use Rattle.zl_rights.specs.World.{Awaited}
-use Rattle.zl_rights.proofs.MapLaws.{get-update}
+use Rattle.zl_rights.proofs.MapLaws.{get-put, get-each}
 use Rattle.zl_code.specs.declared.history.Outcome.{Outcome}
 use Rattle.zl_code.specs.declared.history.Outcome.TheVariants as outcome
 use Rattle.zl_code.specs.declared.history.TraceItem.{TraceItem}
@@ -16,10 +18,14 @@ use Rattle.zl_code.specs.declared.instr.Instr.TheVariants as instr
 use Rattle.zl_code.specs.declared.instr.CallInstr.{CallInstr}
 use Rattle.zl_code.specs.Image.{Image, Library, Program, instr_at, is_among}
 use Rattle.zl_code.specs.Spells.{is_in_range}
-use Rattle.zl_code.specs.Local.{local_effect}
-use Rattle.zl_code.specs.Tests.{creates}
-use Rattle.zl_code.specs.Effects.{on_process, on_object, with_object, process_with, process_without, process_ended, insert_all, remove_all, ended, storing, waiting}
-use Rattle.zl_code.specs.CallTable.{effect, new_handles, entering_at, stored_by, gives_ok, gives_refused, awaited_by}
+use Rattle.zl_code.specs.Local.{reg, local_effect}
+use Rattle.zl_code.specs.Tests.{object_at, creates}
+use Rattle.zl_code.specs.Effects.{on_process, on_object, with_object, process_without, process_ended, insert_all, remove_all, ended, storing, waiting}
+use Rattle.zl_code.specs.Starting.{is_created, created_process, started_with}
+use Rattle.zl_code.specs.Jobs.{is_within, process_killed, with_killed}
+use Rattle.zl_code.specs.Refusals.{refusal}
+use Rattle.zl_code.specs.Sound.{IsSound}
+use Rattle.zl_code.specs.CallTable.{process_start, effect, new_handles, receiver_of, entering_at, stored_by, gives_ok, gives_refused, awaited_by}
 use Rattle.zl_code.specs.Request.{Site, site_of, name_of}
 use Rattle.zl_code.specs.Calls.{Choice, Refused, WantsMemory, Values, CallBy, taken_handles, taken, replied, with_effect, after_refusal, after_ok, ok_outcome}
 use Rattle.zl_code.specs.Steps.{Next, Moves, AtCall, IsStuck, moves, calls_at, next_of, next_at, next_in, next_for, Acts, Step}
@@ -27,15 +33,17 @@ use Rattle.zl_code.proofs.Entering.{left_behind}
 use Rattle.zl_abs.specs.States.{State}
 use Rattle.zl_abs.specs.Typing.{IsTyping}
 use Rattle.zl_verify.specs.Conforms.{Conforms}
-use Rattle.zl_verify.specs.WakeLaws.{IsRunStep, EndsStep}
-use Rattle.zl_verify.proofs.OwnEffect.{AreAlike, alike_then, same_objects, alike_after, same_policy}
-use Rattle.zl_verify.proofs.Sites.{SiteAt, site_at, close_at}
+use Rattle.zl_verify.specs.WakeLaws.{IsRunStep, OthersLeave, left_so, was_killed}
+use Rattle.zl_verify.proofs.OwnTable.{changed_elsewhere, inserted_elsewhere}
+use Rattle.zl_verify.proofs.OwnEffect.{starts_created, no_child, other_koid, AreAlike, alike_then, same_objects, alike_after, same_policy}
+use Rattle.zl_verify.proofs.Sites.{SiteAt, site_at, process_create_at, process_start_at, task_kill_at}
 use Rattle.zl_verify.proofs.Woken.{lives_then, sound_before, ends_step}
+use Rattle.zl_verify.proofs.Ended.{ended_still}
 
 -- ---- what stands next
 
 -- the call at the site is one that has a request
-abbrev HasSite : Cpu → Next → Type 0
+abbrev pub HasSite : Cpu → Next → Type 0
 HasSite c (AtCall called s) = (x : CallInstr) × SiteAt c x s
 HasSite c _ = ⊤
 
@@ -57,7 +65,7 @@ site_next i c = by (instr_at i c.counter)
     by (Some (instr.Call x)) = called x (site_of x c) refl
     by (Some (instr.Unknown bytes)) = tt
 
-site_for : (lib : Library) (process : Process) → HasSite process.cpu (next_for lib process)
+pub site_for : (lib : Library) (process : Process) → HasSite process.cpu (next_for lib process)
 site_for lib process = by (slice_get lib process.program)
   where
     by : (o : Option Program) → HasSite process.cpu (next_in o process.cpu)
@@ -66,59 +74,78 @@ site_for lib process = by (slice_get lib process.program)
 
 -- ---- the others
 
+-- what p leaves of another process: as it was, or killed
+pub data IsLeft (y : Process) (o : Option Process) : Type 0 where
+  as_before : o ≡ Some y → IsLeft y o
+  was_ended : o ≡ Some (process_ended KILLED y) → IsLeft y o
+
+left_same : (y : Process) (a b : Option Process) → a ≡ b → IsLeft y b → IsLeft y a
+left_same y a b same (as_before is) = as_before (same ∙ is)
+left_same y a b same (was_ended is) = was_ended (same ∙ is)
+
 module _ (p q : ℕ) (apart : (p == q) ≡ false) where
   -- the same stands at q
   abbrev Same : World → World → Type 0
   Same u w = get u.processes q ≡ get w.processes q
 
-  one_other : (w : World) (f : Process → Process) → Same (on_process w p f) w
-  unfolding on_process
-  one_other w f = get-update w.processes p f q ∙ rw apart refl
-
-  entered_other : (es : List Entry) (vs : List ℕ) (w : World) → Same (insert_all w p es vs) w
-  unfolding insert_all
-  entered_other [] vs w = refl
-  entered_other (e ∷ es) [] w = refl
-  entered_other (e ∷ es) (v ∷ vs) w = entered_other es vs (on_process w p (process_with v e)) ∙ one_other w (process_with v e)
-
-  left_other : (hs : List ℕ) (w : World) → Same (remove_all w p hs) w
+  pub left_other : (hs : List ℕ) (w : World) → Same (remove_all w p hs) w
   unfolding remove_all
   left_other [] w = refl
-  left_other (h ∷ hs) w = left_other hs (on_process w p (process_without h)) ∙ one_other w (process_without h)
+  left_other (h ∷ hs) w = left_other hs (on_process w p (process_without h)) ∙ changed_elsewhere w p (process_without h) q apart
 
-  stored_other : (at : ℕ × List ℕ) (w : World) → Same (storing w p at) w
+  pub stored_other : (at : ℕ × List ℕ) (w : World) → Same (storing w p at) w
   stored_other (address, []) w = refl
-  stored_other (address, b ∷ bytes) w = one_other w _
+  stored_other (address, b ∷ bytes) w = changed_elsewhere w p _ q apart
 
-  ended_other : (w : World) (code : _) → Same (ended w p code) w
+  pub ended_other : (w : World) (code : _) → Same (ended w p code) w
   unfolding ended
-  ended_other w code = one_other w (process_ended code)
+  ended_other w code = changed_elsewhere w p (process_ended code) q apart
 
-  waiting_other : (w : World) (ds : List ℕ) (awaited : Option Awaited) → Same (waiting w p ds awaited) w
+  pub waiting_other : (w : World) (ds : List ℕ) (awaited : Option Awaited) → Same (waiting w p ds awaited) w
   waiting_other w ds None = refl
-  waiting_other w ds (Some awaited) = one_other w _
+  waiting_other w ds (Some awaited) = changed_elsewhere w p _ q apart
 
-  effect_other : (c : Cpu) (x : CallInstr) (t : Site) → SiteAt c x t → (lib : Library) (w u : World) → Same (effect lib w u p t.request) u
-  unfolding effect with_object on_object
-  effect_other c _ _ (close_at a b) lib w u = refl
-  effect_other c _ _ _ lib w u = refl
-
-  replied_other : (u : World) (t : Site) (answer : Status) (values : List ℕ) → Same (replied u p t answer values) u
+  pub replied_other : (u : World) (t : Site) (answer : Status) (values : List ℕ) → Same (replied u p t answer values) u
   unfolding replied
-  replied_other u t answer values = one_other u _
+  replied_other u t answer values = changed_elsewhere u p _ q apart
 
-module _ (lib : Library) (w : World) (p : ℕ) (caller : Process) (there : get w.processes p ≡ Some caller) where
-  -- a world in which every process but p, and each policy, is as it was
-  record LeavesOthers (w2 : World) : Type 0 where
-    others : (q : ℕ) → (p == q) ≡ false → get w2.processes q ≡ get w.processes q
-    alike : AreAlike w.next_koid w w2
+  -- q was not only created
+  module _ (w : World) (y : Process) (there : get w.processes q ≡ Some y) (old : is_created y.state ≡ false) where
+    -- the started process is another
+    not_started : (lib : Library) (process h word : ℕ) → refusal lib w p (process_start process h word) ≡ None → (object_at w p process == q) ≡ false
+    not_started lib process h word passes = no_child w (object_at w p process) q y (starts_created lib w p process h word passes) there old
+
+    -- handles enter another table
+    entered_other : (c : Cpu) (x : CallInstr) (t : Site) → SiteAt c x t → (lib : Library) → refusal lib w p t.request ≡ None → (es : List Entry) (vs : List ℕ) (v : World) → Same (insert_all v (receiver_of w p t.request) es vs) v
+    entered_other c _ _ (process_start_at a b o d) lib passes es vs v = inserted_elsewhere es vs v (object_at w p (reg c b)) q (not_started lib (reg c b) (reg c o) (reg c d) passes)
+    entered_other c _ _ _ lib passes es vs v = inserted_elsewhere es vs v p q apart
+
+    killed_or_not : (b : Bool) → IsLeft y (Some (process_killed b y))
+    killed_or_not true = was_ended refl
+    killed_or_not false = as_before refl
+
+    effect_other : (c : Cpu) (x : CallInstr) (t : Site) → SiteAt c x t → (lib : Library) → refusal lib w p t.request ≡ None → (u : World) → get u.processes q ≡ Some y → q < w.next_koid → (vs : List ℕ) → IsLeft y (get (effect lib w u p t.request vs).processes q)
+    unfolding effect with_object on_object with_killed
+    effect_other c _ _ (process_create_at a b d e) lib passes u at below vs = as_before (get-put u.processes w.next_koid (created_process lib (reg c d)) q ∙ rw (other_koid w.next_koid q below) at)
+    effect_other c _ _ (process_start_at a b o d) lib passes u at below vs =
+        as_before (changed_elsewhere u (object_at w p (reg c b)) (started_with vs (reg c d)) q (not_started lib (reg c b) (reg c o) (reg c d) passes) ∙ at)
+    effect_other c _ _ (task_kill_at a b) lib passes u at below vs =
+        left_same y _ _ (get-each u.processes (λ k x. process_killed (is_within u.objects (object_at w p (reg c b)) k) x) q ∙ ap (option_map (process_killed (is_within u.objects (object_at w p (reg c b)) q))) at)
+        (killed_or_not (is_within u.objects (object_at w p (reg c b)) q))
+    effect_other c _ _ _ lib passes u at below vs = as_before at
+
+module _ (lib : Library) (w : World) (p : ℕ) (caller : Process) (there : get w.processes p ≡ Some caller) (below : (q : ℕ) (y : Process) → get w.processes q ≡ Some y → q < w.next_koid) where
+  -- a world in which every started process but p is as it was or killed, and each policy of such a one as it was
+  pub record LeavesOthers (w2 : World) : Type 0 where
+    pub others : (q : ℕ) (y : Process) → (p == q) ≡ false → get w.processes q ≡ Some y → is_created y.state ≡ false → IsLeft y (get w2.processes q)
+    pub alike : AreAlike w w w2
 
   nothing_done : LeavesOthers w
-  nothing_done = record { others = λ q apart. refl; alike = same_objects w.next_koid w w refl }
+  nothing_done = record { others = λ q y apart at old. as_before at; alike = same_objects w w w refl }
 
   -- p alone changes
   then_p : (u v : World) → LeavesOthers u → ((q : ℕ) → (p == q) ≡ false → get v.processes q ≡ get u.processes q) → v.objects ≡ u.objects → LeavesOthers v
-  then_p u v l same objects = record { others = λ q apart. same q apart ∙ l.others q apart; alike = alike_then w.next_koid w u v l.alike (same_objects w.next_koid u v objects) }
+  then_p u v l same objects = record { others = λ q y apart at old. left_same y _ _ (same q apart) (l.others q y apart at old); alike = alike_then w w u v l.alike (same_objects w u v objects) }
 
   when_ended : (u : World) (code : _) → LeavesOthers u → LeavesOthers (ended u p code)
   unfolding ended on_process
@@ -142,49 +169,80 @@ module _ (lib : Library) (w : World) (p : ℕ) (caller : Process) (there : get w
   when_refused t outcome.Blocked = nothing_done
 
   module _ (c : Cpu) (x : CallInstr) (t : Site) (here : SiteAt c x t) where
-    when_done : (vs : List ℕ) → LeavesOthers (with_effect lib w (taken w p t) p t.request vs)
-    when_done vs = record {
-      others = λ q apart.
-          stored_other p q apart (stored_by w p t.request) _
-          ∙ (entered_other p q apart (new_handles w p t.request) (entering_at t.request vs) (effect lib w (taken w p t) p t.request)
-          ∙ (effect_other p q apart c x t here lib w (taken w p t) ∙ left_other p q apart (taken_handles t.request) w));
-      alike = alike_then w.next_koid w (taken w p t) _ (when_taken t).alike (alike_after c x t here lib w (taken w p t) p w.next_koid vs (rw (left_behind w p caller (taken_handles t.request) there).1.next_koid (omega arith)));
+    when_done : refusal lib w p t.request ≡ None → (vs : List ℕ) → LeavesOthers (with_effect lib w (taken w p t) p t.request vs)
+    when_done passes vs = record {
+      others = λ q y apart at old.
+          left_same y _ _
+          (stored_other p q apart (stored_by w p t.request) _ ∙ entered_other p q apart w y at old c x t here lib passes (new_handles w p t.request) (entering_at t.request vs) (effect lib w (taken w p t) p t.request vs))
+          (effect_other p q apart w y at old c x t here lib passes (taken w p t) (left_other p q apart (taken_handles t.request) w ∙ at) (below q y at) vs);
+      alike = alike_then w w (taken w p t) _ (when_taken t).alike (alike_after c x t here lib w (taken w p t) p passes (rw (left_behind w p caller (taken_handles t.request) there).1.next_koid (omega arith)) vs);
     }
 
-    when_ok : (vs : List ℕ) (o : Outcome) → LeavesOthers (after_ok lib w p t vs o)
-    when_ok vs (outcome.Answered answer) = when_replied _ t status.Ok (gives_ok w p t.request vs) (when_done vs)
-    when_ok vs (outcome.Ended code) = when_ended _ code (when_done vs)
-    when_ok vs outcome.Blocked = when_waiting t.destinations (awaited_by w p t.request)
+    when_ok : refusal lib w p t.request ≡ None → (vs : List ℕ) (o : Outcome) → LeavesOthers (after_ok lib w p t vs o)
+    when_ok passes vs (outcome.Answered answer) = when_replied _ t status.Ok (gives_ok w p t.request vs) (when_done passes vs)
+    when_ok passes vs (outcome.Ended code) = when_ended _ code (when_done passes vs)
+    when_ok passes vs outcome.Blocked = when_waiting t.destinations (awaited_by w p t.request)
 
-    when_called : (choice : Choice) (r : Option Outcome) (answer : Outcome) (w2 : World) → CallBy lib w p t choice r answer w2 → LeavesOthers w2
-    when_called Refused None answer w2 h = absurd h
-    when_called Refused (Some o) answer w2 h = rw h.1 (when_refused t o)
-    when_called WantsMemory None answer w2 h = rw h.2 (when_refused t (outcome.Answered status.NoMemory))
-    when_called WantsMemory (Some o) answer w2 h = absurd h
-    when_called (Values vs) None answer w2 h = rw h.2 (when_ok vs (ok_outcome w p t.request))
-    when_called (Values vs) (Some o) answer w2 h = absurd h
+    when_called : (choice : Choice) (r : Option Outcome) → refusal lib w p t.request ≡ r → (answer : Outcome) (w2 : World) → CallBy lib w p t choice r answer w2 → LeavesOthers w2
+    when_called Refused None is answer w2 h = absurd h
+    when_called Refused (Some o) is answer w2 h = rw h.1 (when_refused t o)
+    when_called WantsMemory None is answer w2 h = rw h.2 (when_refused t (outcome.Answered status.NoMemory))
+    when_called WantsMemory (Some o) is answer w2 h = absurd h
+    when_called (Values vs) None is answer w2 h = rw h.2 (when_ok is vs (ok_outcome w p t.request))
+    when_called (Values vs) (Some o) is answer w2 h = absurd h
 
   when_acted : (c : Cpu) (n : Next) → HasSite c n → (x : TraceItem) (w2 : World) → Acts lib w p n x w2 → LeavesOthers w2
   unfolding on_process
-  when_acted c (Moves d) site x w2 a = rw a.1 (then_p w (on_process w p (λ (y : Process). record y { cpu = d })) nothing_done (λ q apart. one_other p q apart w _) refl)
-  when_acted c (AtCall called t) (y, here) x w2 (o, e, h) = when_called c y t here h.0 _ o w2 h.1
+  when_acted c (Moves d) site x w2 a = rw a.1 (then_p w (on_process w p (λ (y : Process). record y { cpu = d })) nothing_done (λ q apart. changed_elsewhere w p _ q apart) refl)
+  when_acted c (AtCall called t) (y, here) x w2 (o, e, h) = when_called c y t here h.0 (refusal lib w p t.request) refl o w2 h.1
   when_acted c IsStuck site x w2 a = rw a.1 (when_ended w STUCK nothing_done)
 
-pub others_same : (lib : Library) (w : World) (p : ℕ) (x : TraceItem) (w2 : World) → (step : Step lib w p x w2) → (q : ℕ) → (p == q) ≡ false → get step.acted.processes q ≡ get w.processes q
-others_same lib w p x w2 step = (when_acted lib w p step.process step.is_there step.process.cpu (next_for lib step.process) (site_for lib step.process) x step.acted step.acts).others
+pub keys_below : (w : World) → IsSound w → (q : ℕ) (y : Process) → get w.processes q ≡ Some y → q < w.next_koid
+keys_below w sound q y at = sound.processes q (ap is_some at)
+
+module _ (lib : Library) (w : World) (p : ℕ) (x : TraceItem) (w2 : World) (sound : IsSound w) (step : Step lib w p x w2) where
+  pub left_by_step : LeavesOthers lib w p step.process step.is_there (keys_below w sound) step.acted
+  left_by_step = when_acted lib w p step.process step.is_there (keys_below w sound) step.process.cpu (next_for lib step.process) (site_for lib step.process) x step.acted step.acts
+
+  -- what has ended is as it was right after the act of another
+  pub over_after_act : (q : ℕ) (y : Process) → (p == q) ≡ false → get w.processes q ≡ Some y → has_ended y.state ≡ true → get step.acted.processes q ≡ Some y
+  over_after_act q y apart at over = by (left_by_step.others q y apart at (not_created y.state over))
+    where
+      not_created : (l : Life) → has_ended l ≡ true → is_created l ≡ false
+      not_created (Ended code) e = refl
+      not_created Created e = cc
+      not_created _ e = refl
+
+      lives_no_more : (l : Life) → has_ended l ≡ true → lives l ≡ false
+      lives_no_more (Ended code) e = refl
+      lives_no_more _ e = cc
+
+      by : IsLeft y (get step.acted.processes q) → get step.acted.processes q ≡ Some y
+      by (as_before is) = is
+      by (was_ended is) = is ∙ rw (lives_no_more y.state over) refl
 
 -- ---- the law
 
 module _ (i : Image) (t : ℕ → Option State) (range : is_in_range i ≡ true) (typing : IsTyping i t) (lib : Library) (w : World) (p : ℕ) (x : TraceItem) (w2 : World) (b : IsRunStep lib w p x w2) (q : ℕ) (process : Process) (apart : (p == q) ≡ false)
     (there : get w.processes q ≡ Some process) (running : runs process.state ≡ true) (k : Conforms i t w q process) where
-  left : LeavesOthers lib w p b.step.process b.step.is_there b.step.acted
-  left = when_acted lib w p b.step.process b.step.is_there b.step.process.cpu (next_for lib b.step.process) (site_for lib b.step.process) x b.step.acted b.step.acts
+  sound : IsSound w
+  sound = sound_before lib w p x w2 b
 
   still_allowed : (c : Condition) → IsTrue (is_among i.needs c) → creates b.step.acted q c ≡ None
-  still_allowed c named = same_policy w b.step.acted q process (sound_before i t range typing lib w p x w2 b) there (lives_then process.state running) left.alike c ∙ k.allowed c named
+  still_allowed c named = same_policy w b.step.acted q process sound there (lives_then process.state running) (left_by_step lib w p x w2 sound b.step).alike c ∙ k.allowed c named
 
   conforms_still : Conforms i t b.step.acted q process
   conforms_still = record { state = k.state; stands = k.stands; holds = k.holds; memory = k.memory; allowed = still_allowed; waits = k.waits }
 
-  pub others_end : EndsStep i t q process w2
-  others_end = ends_step i t range typing lib w p x w2 b q process (left.others q apart ∙ there) running conforms_still
+  no_child_runs : (l : Life) → runs l ≡ true → is_created l ≡ false
+  no_child_runs Created e = cc
+  no_child_runs _ e = refl
+
+  pub others_end : OthersLeave i t q process w2
+  others_end = by ((left_by_step lib w p x w2 sound b.step).others q process apart there (no_child_runs process.state running))
+    where
+      by : IsLeft process (get b.step.acted.processes q) → OthersLeave i t q process w2
+      by (as_before is) = left_so (ends_step i t range typing lib w p x w2 b q process is running conforms_still)
+      by (was_ended is) =
+          let over : get b.step.acted.processes q ≡ Some (record process { state = Ended KILLED; handles = []; last = None }) = is ∙ rw (lives_then process.state running) refl in
+          was_killed (ended_still q (record process { state = Ended KILLED; handles = []; last = None }) refl lib w p x w2 b.step over)

@@ -1,11 +1,11 @@
 -- The law of a checked process's own call.
 use Rattle.std.proofs.Common.{◌≡◌, ℕ, ◌+◌, ◌⊎◌, Bool, true, false, not, List, [], ◌∷◌, length, refl, sym, ap, ◌∙◌, subst, IsTrue, Option, Some, None, Ok, inl, inr, arith}
-use Rattle.std.specs.Prelude.{if◌then◌else◌}
+use Rattle.std.specs.Prelude.{if◌then◌else◌, is_some, ℤ}
 use Rattle.std.specs.Bool.{then_some}
 use Rattle.std.proofs.lemmas.Option.{same_Some}
 use Rattle.zl_rights.specs.Common.{answered, get, lives, World, Cpu, Process, Blocked}
 use Rattle.zl_rights.specs.World.{Awaited, SignalOf, Packet}
-use Rattle.zl_rights.specs.Numbers.{status_magnitude}
+use Rattle.zl_rights.specs.Numbers.{status_magnitude, KILLED}
 use Rattle.zl_rights.specs.declared.policy.Condition.{Condition}
 use Rattle.zl_rights.specs.declared.status.Status.{Status}
 use Rattle.zl_rights.specs.declared.status.Status.TheVariants as status
@@ -21,10 +21,11 @@ use Rattle.zl_code.specs.Handles.{HandlesAreSound}
 use Rattle.zl_code.specs.Steps.{AtCall, IsStuck, next_at}
 use Rattle.zl_code.specs.Instructions.{row_of}
 use Rattle.zl_code.specs.Local.{reg}
-use Rattle.zl_code.specs.Effects.{signed_word, on_process, waiting, may_get_all}
+use Rattle.zl_code.specs.Effects.{signed_word, on_process, waiting}
 use Rattle.zl_code.specs.Tests.{object_at, creates, examined}
 use Rattle.zl_code.specs.Waiting.{is_active_at, packet_awaited, packets_at}
-use Rattle.zl_code.specs.CallTable.{process_exit, listed, new_handles, choosing, entering_at, stored_by, gives_ok, gives_refused, awaited_by, outcome_of}
+use Rattle.zl_code.specs.CallTable.{process_exit, task_kill, listed, entering_at, stored_by, gives_ok, gives_refused, awaited_by, ends_caller, outcome_of}
+use Rattle.zl_code.specs.Jobs.{is_within}
 use Rattle.zl_code.specs.Refusals.{handle_operands, refusal}
 use Rattle.zl_code.specs.Request.{Site, site, name_of}
 use Rattle.zl_code.specs.Calls.{Calls, CallBy, Choice, Refused, WantsMemory, Values, taken_handles, may_choose, taken, cpu_answered, replied, with_effect, after_refusal, after_ok}
@@ -35,29 +36,24 @@ use Rattle.zl_abs.specs.CallRules.{goes_on, stops}
 use Rattle.zl_abs.specs.Typing.{rule_with, IsTyping}
 use Rattle.zl_verify.specs.Steps.{targets_of, OneOf}
 use Rattle.zl_verify.specs.Conforms.{Holds, IsMemory, WaitsAt, Conforms}
-use Rattle.zl_verify.specs.CallLaws.{StandsAtCall, is_fault, ends_of, IsAnswered, IsWaiting, IsOwnExit, CanCall, asks, unbuilt}
+use Rattle.zl_verify.specs.CallLaws.{StandsAtCall, is_fault, ends_of, IsAnswered, IsWaiting, IsOwnEnd, exits, kills, CanCall}
 use Rattle.zl_verify.proofs.Writing.{nothing_at_0}
 use Rattle.zl_verify.proofs.Refining.{Known}
 use Rattle.zl_verify.proofs.LocalSteps.{reached, not_stuck}
 use Rattle.zl_verify.proofs.Agreeing.{Arrives}
 use Rattle.zl_verify.proofs.Fitting.{Fits}
 use Rattle.zl_verify.proofs.Giving.{getting_all, IsFreeLast}
-use Rattle.zl_verify.proofs.OwnTable.{changed_here, losing_all, losing_same, storing_in, lost_and_got}
-use Rattle.zl_verify.proofs.Sites.{SiteAt, wait_one_at, port_wait_at, process_exit_at}
+use Rattle.zl_verify.proofs.OwnTable.{changed_here, losing_all, losing_same, own_handles, storing_in, lost_and_got}
+use Rattle.zl_verify.proofs.Sites.{SiteAt, wait_one_at, port_wait_at, process_exit_at, task_kill_at}
 use Rattle.zl_verify.proofs.Standing.{passed, left, left_there, taken_there, not_refused, zeroed, zeroed_hold, answer_holds}
 use Rattle.zl_verify.proofs.AtCalls.{IsRuled, is_ruled, reads}
 use Rattle.zl_verify.proofs.Ordinary.{is_good, IsOrdinary, first_ordinary, listed_ordinary}
 use Rattle.zl_verify.proofs.Refusing.{IsOver, refused_fits}
-use Rattle.zl_verify.proofs.Working.{works}
-use Rattle.zl_verify.proofs.OwnEffect.{caller_after, AreAlike, alike_then, same_objects, alike_after, same_policy}
+use Rattle.zl_verify.proofs.Working.{own_chosen, works}
+use Rattle.zl_verify.proofs.OwnEffect.{IsDone, caller_after, AreAlike, alike_then, same_objects, alike_after, same_policy}
 use Rattle.zl_verify.proofs.Storing.{storing_same, still_whole}
 
 -- ---- how a call can end
-
--- the call goes on behind an answer, and has one unless it waits
-record IsAnswering (x : CallInstr) (t : Site) : Type 0 where
-  on : goes_on x ≡ true
-  ok : outcome_of None t.request ≡ outcome.Answered status.Ok
 
 -- it is process_exit with this code
 record IsExit (x : CallInstr) (t : Site) : Type 0 where
@@ -65,16 +61,27 @@ record IsExit (x : CallInstr) (t : Site) : Type 0 where
   same : t ≡ site (process_exit code) [] []
   named : name_of x ≡ name.ProcessExit
 
-answers_or_exits : (c : Cpu) (x : CallInstr) (t : Site) → SiteAt c x t → IsAnswering x t ⊎ IsExit x t
+-- behind an answer the call goes on, or it is process_exit
+answers_or_exits : (c : Cpu) (x : CallInstr) (t : Site) → SiteAt c x t → (goes_on x ≡ true) ⊎ IsExit x t
 answers_or_exits c _ _ (process_exit_at a) = inr (record { code = reg c a; same = refl; named = refl })
-answers_or_exits c _ _ _ = inl (record { on = refl; ok = refl })
+answers_or_exits c _ _ _ = inl refl
+
+-- of those that go on, task_kill alone ends its caller
+ends_by_kill : (c : Cpu) (x : CallInstr) (t : Site) → SiteAt c x t → goes_on x ≡ true → (w : World) (p : ℕ) (code : ℤ) → ends_caller w p t.request ≡ Some code → IsOwnEnd w p (name_of x) t code
+ends_by_kill c _ _ (process_exit_at a) on w p code is = cc
+ends_by_kill c _ _ (task_kill_at a b) on w p code is = by (is_within w.objects (object_at w p (reg c b)) p) refl is
+  where
+    by : (t : Bool) → is_within w.objects (object_at w p (reg c b)) p ≡ t → then_some t KILLED ≡ Some code → IsOwnEnd w p name.TaskKill (site (task_kill (reg c b)) [] (a ∷ [])) code
+    by true within e = kills (reg c b) refl refl within (sym (same_Some KILLED code e))
+    by false within e = cc
+ends_by_kill c _ _ _ on w p code is = cc
 
 -- process_exit ends its caller, and nothing else comes of it
-exits : (lib : Library) (w : World) (p n : ℕ) (answer : Outcome) (w2 : World) → Calls lib w p (site (process_exit n) [] []) answer w2 → answer ≡ outcome.Ended (signed_word n)
+only_exits : (lib : Library) (w : World) (p n : ℕ) (answer : Outcome) (w2 : World) → Calls lib w p (site (process_exit n) [] []) answer w2 → answer ≡ outcome.Ended (signed_word n)
 unfolding refusal handle_operands examined listed row_of
-exits lib w p n answer w2 (Refused, h) = absurd h
-exits lib w p n answer w2 (WantsMemory, h) = cc
-exits lib w p n answer w2 (Values vs, h) = h.1
+only_exits lib w p n answer w2 (Refused, h) = absurd h
+only_exits lib w p n answer w2 (WantsMemory, h) = cc
+only_exits lib w p n answer w2 (Values vs, h) = h.1
 
 -- a call that waits stands at a wait of the kind
 waits_here : (c : Cpu) (x : CallInstr) (t : Site) → SiteAt c x t → (w : World) (p : ℕ) (awaited : Awaited) → awaited_by w p t.request ≡ Some awaited → WaitsAt (Blocked awaited t.destinations) (Some x)
@@ -93,10 +100,10 @@ waits_here c _ _ _ w p awaited = λ e. cc
 -- ---- the law
 
 -- what is promised where the call ends so, with w2
-abbrev pub Promised : (i : Image) (t : ℕ → Option State) (p : ℕ) (q : Process) (called : CallName) (s : Site) → Outcome → World → Type 0
-Promised i t p q called s (outcome.Answered answer) w2 = (is_fault answer ≡ false) × IsAnswered i t p q w2
-Promised i t p q called s outcome.Blocked w2 = IsWaiting i t p q w2
-Promised i t p q called s (outcome.Ended code) w2 = IsOwnExit called s code
+abbrev pub Promised : (i : Image) (t : ℕ → Option State) (w : World) (p : ℕ) (q : Process) (called : CallName) (s : Site) → Outcome → World → Type 0
+Promised i t w p q called s (outcome.Answered answer) w2 = (is_fault answer ≡ false) × IsAnswered i t p q w2
+Promised i t w p q called s outcome.Blocked w2 = IsWaiting i t p q w2
+Promised i t w p q called s (outcome.Ended code) w2 = IsOwnEnd w p called s code
 
 -- q2 is q but for its table and its memory
 record IsCaller (i : Image) (q2 q : Process) : Type 0 where
@@ -123,15 +130,15 @@ module _ (i : Image) (t : ℕ → Option State) (w : World) (p : ℕ) (q : Proce
   unchanged None = refl
   unchanged (Some awaited) = refl
 
-  still_allowed : (w2 : World) → AreAlike w.next_koid w w2 → (c : Condition) → IsTrue (is_among i.needs c) → creates w2 p c ≡ None
+  still_allowed : (w2 : World) → AreAlike w w w2 → (c : Condition) → IsTrue (is_among i.needs c) → creates w2 p c ≡ None
   still_allowed w2 alike c named = same_policy w w2 p q k.sound k.there (ap lives k.ready) alike c ∙ k.conforms.allowed c named
 
-  module _ (answers : IsAnswering ruled.at.call s) where
+  module _ (on : goes_on ruled.at.call ≡ true) where
     passes_on : ruled.ways.passed ≡ Some (with_all ruled.left ruled.uses.results)
-    passes_on = ap (λ y. y.passed) (sym ruled.leads ∙ ap (λ (b : Bool). if b then passes (with_all ruled.left ruled.uses.results) else stops) answers.on)
+    passes_on = ap (λ y. y.passed) (sym ruled.leads ∙ ap (λ (b : Bool). if b then passes (with_all ruled.left ruled.uses.results) else stops) on)
 
     -- an answer to q2, which is the caller but for its table and its memory
-    after_answer : (w1 : World) (q2 : Process) (answer : Status) (values : List ℕ) → get w1.processes p ≡ Some q2 → IsCaller i q2 q → AreAlike w.next_koid w w1
+    after_answer : (w1 : World) (q2 : Process) (answer : Status) (values : List ℕ) → get w1.processes p ≡ Some q2 → IsCaller i q2 q → AreAlike w w w1
         → Fits (left ruled.before) ruled.left (zeroed ruled.before) ruled.uses.results (status_magnitude answer ∷ values) (get q2.handles) → IsAnswered i t p q (replied w1 p s answer values)
     unfolding replied answered on_process
     after_answer w1 q2 answer values there same alike fits =
@@ -151,13 +158,13 @@ module _ (i : Image) (t : ℕ → Option State) (w : World) (p : ℕ) (q : Proce
             stands = r.1.stands;
             holds = r.1.holds;
             memory = r.0;
-            allowed = still_allowed (replied w1 p s answer values) (alike_then w.next_koid w w1 (replied w1 p s answer values) alike (same_objects w.next_koid w1 (replied w1 p s answer values) refl));
+            allowed = still_allowed (replied w1 p s answer values) (alike_then w w w1 (replied w1 p s answer values) alike (same_objects w w1 (replied w1 p s answer values) refl));
             waits = rw (same.state, k.ready) tt;
           };
         }
 
-    taken_alike : AreAlike w.next_koid w (taken w p s)
-    taken_alike = same_objects w.next_koid w (taken w p s) (left_behind w p q (taken_handles s.request) k.there).1.objects
+    taken_alike : AreAlike w w (taken w p s)
+    taken_alike = same_objects w w (taken w p s) (left_behind w p q (taken_handles s.request) k.there).1.objects
 
     after_refused : (answer : Status) → is_good answer ≡ false → IsAnswered i t p q (after_refusal w p s (outcome.Answered answer))
     after_refused answer bad =
@@ -170,18 +177,26 @@ module _ (i : Image) (t : ℕ → Option State) (w : World) (p : ℕ) (q : Proce
 
     -- the caller with its new handles
     abbrev given : List ℕ → Process
-    given vs = getting_all (new_handles w p s.request) (entering_at s.request vs) (losing_all (taken_handles s.request) q)
+    given vs = getting_all (own_handles w p s.request) (entering_at s.request vs) (losing_all (taken_handles s.request) q)
 
-    after_worked : refusal lib w p s.request ≡ None → (vs : List ℕ) → may_choose w (taken w p s) p s.request vs ≡ true → IsAnswered i t p q (after_ok lib w p s vs (outcome.Answered status.Ok))
-    unfolding may_choose
-    after_worked none vs may =
+    after_worked : refusal lib w p s.request ≡ None → ends_caller w p s.request ≡ None → (vs : List ℕ) → may_choose w (taken w p s) p s.request vs ≡ true → IsAnswered i t p q (after_ok lib w p s vs (outcome.Answered status.Ok))
+    after_worked none goes vs may =
         let q2 : Process = storing_in (stored_by w p s.request) (given vs) in
-        let same = lost_and_got (new_handles w p s.request) (entering_at s.request vs) (taken_handles s.request) q in
+        let same = lost_and_got (own_handles w p s.request) (entering_at s.request vs) (taken_handles s.request) q in
         let rest = storing_same (stored_by w p s.request) (given vs) in
         let kept = (left_behind w p q (taken_handles s.request) k.there).1 in
-        let may_get : may_get_all (losing_all (taken_handles s.request) q) (choosing w p s.request) vs ≡ true = rw (taken_there ruled.before) at may in
+        let done : IsDone lib w (taken w p s) p s = record {
+          caller = q;
+          there = k.there;
+          ready = k.ready;
+          below = λ j y at. k.sound.processes j (ap is_some at);
+          passes = none;
+          objects = kept.objects;
+          koids = kept.next_koid;
+        } in
+        let may_get = own_chosen q.cpu ruled.at.call s ruled.before.site w (taken w p s) p (losing_all (taken_handles s.request) q) vs (taken_there ruled.before) may in
         after_answer (with_effect lib w (taken w p s) p s.request vs) q2 status.Ok (gives_ok w p s.request vs)
-        (caller_after q.cpu ruled.at.call s ruled.before.site lib w (taken w p s) p vs (losing_all (taken_handles s.request) q) (taken_there ruled.before))
+        (caller_after q.cpu ruled.at.call s ruled.before.site lib w (taken w p s) p done goes vs (losing_all (taken_handles s.request) q) (taken_there ruled.before))
         (record {
           registers = rest.registers ∙ ap (λ x. x.registers) same.cpu;
           counter = rest.counter ∙ ap (λ x. x.counter) same.cpu;
@@ -190,7 +205,7 @@ module _ (i : Image) (t : ℕ → Option State) (w : World) (p : ℕ) (q : Proce
           program = rest.program ∙ same.program;
           memory = still_whole i q (given vs) same.cpu k.conforms.memory lib w p k.sized ruled.at.call s ruled.before.site none;
         })
-        (alike_then w.next_koid w (taken w p s) _ taken_alike (alike_after q.cpu ruled.at.call s ruled.before.site lib w (taken w p s) p w.next_koid vs (rw kept.next_koid (omega arith))))
+        (alike_then w w (taken w p s) _ taken_alike (alike_after q.cpu ruled.at.call s ruled.before.site lib w (taken w p s) p none (rw kept.next_koid (omega arith)) vs))
         (subst (λ f. Fits f ruled.left (zeroed ruled.before) ruled.uses.results (0 ∷ gives_ok w p s.request vs) (get q2.handles)) (left_there ruled.before)
         (rw rest.handles
         (works lib w p q k.sound k.sized free (nothing_at_0 k.conforms.holds) ruled.left (zeroed ruled.before) over.long over.wide vs k.conforms.state i.slots ruled.uses ruled.at.call s ruled.before.site ruled.before may_get none)))
@@ -198,15 +213,21 @@ module _ (i : Image) (t : ℕ → Option State) (w : World) (p : ℕ) (q : Proce
     -- ---- however it ends
 
     abbrev Ends : Outcome → World → Type 0
-    Ends = Promised i t p q called s
+    Ends = Promised i t w p q called s
 
     by_refusal : (o : Outcome) → IsOrdinary (Some o) → Ends o (after_refusal w p s o)
     by_refusal (outcome.Answered answer) (fine, bad) = (fine, after_refused answer bad)
     by_refusal outcome.Blocked h = absurd h
     by_refusal (outcome.Ended code) h = absurd h
 
-    by_waiting : refusal lib w p s.request ≡ None → (vs : List ℕ) → may_choose w (taken w p s) p s.request vs ≡ true → (o : Option Awaited) → awaited_by w p s.request ≡ o → Ends (outcome_of o s.request) (after_ok lib w p s vs (outcome_of o s.request))
-    by_waiting none vs may None is = rw answers.ok (refl, after_worked none vs may)
+    -- it ends its caller, or is answered
+    by_ending : refusal lib w p s.request ≡ None → (vs : List ℕ) → may_choose w (taken w p s) p s.request vs ≡ true → (e : Option ℤ) → ends_caller w p s.request ≡ e → Ends (outcome_of None e) (after_ok lib w p s vs (outcome_of None e))
+    by_ending none vs may None goes = (refl, after_worked none goes vs may)
+    by_ending none vs may (Some code) is = subst (λ n. IsOwnEnd w p n s code) ruled.at.named (ends_by_kill q.cpu ruled.at.call s ruled.before.site on w p code is)
+
+    by_waiting : refusal lib w p s.request ≡ None → (vs : List ℕ) → may_choose w (taken w p s) p s.request vs ≡ true → (o : Option Awaited) → awaited_by w p s.request ≡ o
+        → Ends (outcome_of o (ends_caller w p s.request)) (after_ok lib w p s vs (outcome_of o (ends_caller w p s.request)))
+    by_waiting none vs may None is = by_ending none vs may (ends_caller w p s.request) refl
     by_waiting none vs may (Some awaited) is = rw is (waiting_there awaited is)
       where
         waiting_there : (awaited : Awaited) → awaited_by w p s.request ≡ Some awaited → IsWaiting i t p q (waiting w p s.destinations (Some awaited))
@@ -219,7 +240,7 @@ module _ (i : Image) (t : ℕ → Option State) (w : World) (p : ℕ) (q : Proce
             stands = k.conforms.stands;
             holds = k.conforms.holds;
             memory = k.conforms.memory;
-            allowed = λ c named. still_allowed (waiting w p s.destinations (Some awaited)) (same_objects w.next_koid w (waiting w p s.destinations (Some awaited)) (unchanged (Some awaited))) c named;
+            allowed = λ c named. still_allowed (waiting w p s.destinations (Some awaited)) (same_objects w w (waiting w p s.destinations (Some awaited)) (unchanged (Some awaited))) c named;
             waits = subst (WaitsAt (Blocked awaited s.destinations)) (sym (ap call_in ruled.at.stands)) (waits_here q.cpu ruled.at.call s ruled.before.site w p awaited is);
           };
         }
@@ -239,28 +260,28 @@ module _ (i : Image) (t : ℕ → Option State) (w : World) (p : ℕ) (q : Proce
     promised_answering : (answer : Outcome) (w2 : World) → Calls lib w p s answer w2 → Ends answer w2
     promised_answering answer w2 (choice, h) = by_choice choice (refusal lib w p s.request) refl refused_ordinary answer w2 h
 
-  promised_exiting : IsExit ruled.at.call s → (answer : Outcome) (w2 : World) → Calls lib w p s answer w2 → Promised i t p q called s answer w2
+  promised_exiting : IsExit ruled.at.call s → (answer : Outcome) (w2 : World) → Calls lib w p s answer w2 → Promised i t w p q called s answer w2
   promised_exiting x answer w2 h =
-      let is : answer ≡ outcome.Ended (signed_word x.code) = exits lib w p x.code answer w2 (subst (λ y. Calls lib w p y answer w2) x.same h) in
-      rw is (record { named = sym ruled.at.named ∙ x.named; number = x.code; asked = ap (λ y. y.request) x.same; told = refl })
+      let is : answer ≡ outcome.Ended (signed_word x.code) = only_exits lib w p x.code answer w2 (subst (λ y. Calls lib w p y answer w2) x.same h) in
+      rw is (exits x.code (sym ruled.at.named ∙ x.named) (ap (λ y. y.request) x.same) refl)
 
 -- however the call ends, it ends as is promised
 pub promised : (i : Image) (t : ℕ → Option State) (w : World) (p : ℕ) (q : Process) (called : CallName) (s : Site) → StandsAtCall i t w p q called s → (lib : Library) (answer : Outcome) (w2 : World) → Calls lib w p s answer w2
-    → Promised i t p q called s answer w2
+    → Promised i t w p q called s answer w2
 promised i t w p q called s k lib answer w2 h = by (is_ruled i t w p q called s k)
   where
-    by : IsRuled i t w p q called s k.conforms.state → Promised i t p q called s answer w2
+    by : IsRuled i t w p q called s k.conforms.state → Promised i t w p q called s answer w2
     by ruled = either (answers_or_exits q.cpu ruled.at.call s ruled.before.site)
       where
-        either : IsAnswering ruled.at.call s ⊎ IsExit ruled.at.call s → Promised i t p q called s answer w2
+        either : (goes_on ruled.at.call ≡ true) ⊎ IsExit ruled.at.call s → Promised i t w p q called s answer w2
         either (inl x) = promised_answering i t w p q called s k ruled lib x answer w2 h
         either (inr x) = promised_exiting i t w p q called s k ruled lib x answer w2 h
 
--- what a call asks for can be read, if it is built
+-- what a call asks for can be read
 pub can_call : (i : Image) (t : ℕ → Option State) (w : World) (p : ℕ) (q : Process) → IsTrue (is_in_range i) → IsTyping i t → HandlesAreSound w → get w.processes p ≡ Some q → Conforms i t w p q
     → (x : CallInstr) → call_at i q.cpu.counter ≡ Some x → CanCall i q.cpu x
 can_call i t w p q range typing sound there k x is = by (reads i q.cpu x is)
   where
     by : (next_at i q.cpu ≡ IsStuck) ⊎ ((s : Site) × (next_at i q.cpu ≡ AtCall (name_of x) s)) → CanCall i q.cpu x
-    by (inl stuck) = unbuilt (not_stuck i t w p q range typing sound there k stuck)
-    by (inr (s, next)) = asks s next
+    by (inl stuck) = absurd (not_stuck i t w p q range typing sound there k stuck)
+    by (inr (s, next)) = record { site = s; next = next }

@@ -1,145 +1,300 @@
 -- What a call leaves of its caller, and of the policy that the caller is under.
-use Rattle.std.proofs.Common.{◌≡◌, ℕ, ◌+◌, ◌<◌, ◌≤◌, Bool, true, false, ◌==◌, List, [], ◌∷◌, refl, sym, ap, ◌∙◌, Option, Some, None, option_map, arith}
-use Rattle.std.specs.Prelude.{is_some, if◌then◌else◌, unwrap_or}
+use Rattle.std.proofs.Common.{◌≡◌, ℕ, ◌+◌, ◌<◌, ◌≤◌, ◌⊎◌, Bool, true, false, ◌&&◌, ◌||◌, ◌==◌, List, [], ◌∷◌, refl, sym, ap, ◌∙◌, subst, Option, Some, None, option_map, arith, inl, inr}
+use Rattle.std.specs.Prelude.{is_some, if◌then◌else◌, unwrap_or, ℤ}
+use Rattle.std.specs.Bool.{then_some}
+use Rattle.std.proofs.lemmas.Bool.{cases_Bool, eqb-true}
 use Rattle.std.proofs.lemmas.Bool.Decides.{nat_tests}
-use Rattle.zl_rights.specs.Common.{condition_number, get, lives, World, Cpu, Process, Object, Body, ChannelEnd, EventBody, PortBody}
+use Rattle.std.proofs.lemmas.Option.{none-some, same_Some}
+use Rattle.zl_rights.specs.Common.{condition_number, get, lives, is_process, World, Cpu, Process, Ready, Object, Body, ChannelEnd, EventBody, PortBody, JobBody, ProcessBody}
+use Rattle.zl_rights.specs.Numbers.{KILLED}
+use Rattle.zl_rights.specs.Signals.{has_ended, has_child_job, has_child_process}
+use Rattle.zl_rights.specs.Policies.{Setting, setting_of}
 use Rattle.zl_rights.specs.World.{Message, Packet}
 use Rattle.zl_rights.specs.declared.entry.Entry.{Entry}
+use Rattle.zl_rights.specs.declared.status.Status.TheVariants as status
 use Rattle.zl_rights.specs.declared.policy.Action.TheVariants as action
 use Rattle.zl_rights.specs.declared.policy.Condition.{Condition}
-use Rattle.zl_rights.proofs.MapLaws.{get-put, get-update}
-use Rattle.zl_code.specs.Boot.{is_job_body}
+use Rattle.zl_rights.proofs.MapLaws.{get-put, get-update, get-each}
 use Rattle.zl_code.specs.Image.{Library}
 use Rattle.zl_code.specs.declared.instr.CallInstr.{CallInstr}
 use Rattle.zl_code.specs.Tests.{object_at, body_in, body_of, parent_in, parent_of, policy_in, action_of, unless_allowed, creates}
 use Rattle.zl_code.specs.Effects.{on_process, on_object, with_object, insert_all, storing, message_sent, message_read}
+use Rattle.zl_code.specs.Starting.{is_created, created_process, started_with}
+use Rattle.zl_code.specs.Jobs.{is_dead, has_child, is_within, body_killed, object_killed, process_killed, with_killed, body_with_policy, policy_changed, job_within}
 use Rattle.zl_code.specs.Waiting.{without_keyed, repacked}
 use Rattle.zl_code.specs.Local.{reg}
-use Rattle.zl_code.specs.CallTable.{effect, new_handles, entering_at, stored_by}
+use Rattle.zl_code.specs.CallTable.{process_start, job_set_policy, listed, effect, new_handles, receiver_of, entering_at, stored_by, ends_caller}
+use Rattle.zl_code.specs.Refusals.{refusal}
 use Rattle.zl_code.specs.Request.{Site}
 use Rattle.zl_code.specs.Calls.{with_effect}
 use Rattle.zl_code.specs.Sound.{IsSound}
+use Rattle.zl_code.proofs.NamesKept.{list_any-get}
 use Rattle.zl_verify.proofs.Giving.{getting_all}
-use Rattle.zl_verify.proofs.OwnTable.{inserted_here, storing_in, stored_here}
-use Rattle.zl_verify.proofs.Sites.{SiteAt, close_at, chan_create_at, chan_write_at, chan_read_at, event_create_at, signal_at, signal_peer_at, port_create_at, port_queue_at, port_wait_at, port_poll_at, port_cancel_at}
+use Rattle.zl_verify.proofs.OwnTable.{changed_elsewhere, inserted_here, inserted_elsewhere, own_handles, storing_in, stored_here}
+use Rattle.zl_verify.proofs.Working.{listed_none, test_fails, test_passes}
+use Rattle.zl_verify.proofs.Sites.{SiteAt, chan_create_at, chan_write_at, chan_read_at, event_create_at, signal_at, signal_peer_at, port_create_at, port_queue_at, port_wait_at, port_poll_at, port_cancel_at, process_create_at, process_start_at, process_exit_at, task_kill_at, job_create_at, job_set_policy_at}
 
 -- ---- the caller
 
-same_caller : (c : Cpu) (x : CallInstr) (t : Site) → SiteAt c x t → (lib : Library) (w u : World) (p : ℕ) → get (effect lib w u p t.request).processes p ≡ get u.processes p
+-- The call of p in w isn't refused, and u is w without the operands that are consumed.
+pub record IsDone (lib : Library) (w u : World) (p : ℕ) (t : Site) : Type 0 where
+  pub caller : Process
+  pub there : get w.processes p ≡ Some caller
+  pub ready : caller.state ≡ Ready
+  pub below : (k : ℕ) (y : Process) → get w.processes k ≡ Some y → k < w.next_koid
+  pub passes : refusal lib w p t.request ≡ None
+  pub objects : u.objects ≡ w.objects
+  pub koids : u.next_koid ≡ w.next_koid
+
+-- the process that is started was only created
+pub starts_created : (lib : Library) (w : World) (p process h word : ℕ) → refusal lib w p (process_start process h word) ≡ None → is_process w is_created (object_at w p process) ≡ true
+unfolding listed
+starts_created lib w p process h word passes = test_passes _ status.BadState (listed_none lib w p (process_start process h word) passes).0
+
+-- what is no created process is another
+pub no_child : (w : World) (k q : ℕ) (y : Process) → is_process w is_created k ≡ true → get w.processes q ≡ Some y → is_created y.state ≡ false → (k == q) ≡ false
+unfolding is_process
+no_child w k q y created there old = by (cases_Bool (k == q))
+  where
+    by : ((k == q) ≡ true) ⊎ ((k == q) ≡ false) → (k == q) ≡ false
+    by (inr other) = other
+    by (inl same) =
+        let here : get w.processes k ≡ Some y = subst (λ j. get w.processes j ≡ Some y) (sym (eqb-true k q same)) there in
+        let bad : is_created y.state ≡ true = rw here at created in
+        cc
+
+unkilled : (o : Option Process) → option_map (process_killed false) o ≡ o
+unkilled None = refl
+unkilled (Some y) = refl
+
+pub kill_passes_by : (u : World) (k p : ℕ) → is_within u.objects k p ≡ false → get (with_killed u k).processes p ≡ get u.processes p
+unfolding with_killed
+kill_passes_by u k p apart = get-each u.processes (λ j q. process_killed (is_within u.objects k j) q) p ∙ rw apart (unkilled (get u.processes p))
+
+pub other_koid : (n k : ℕ) → k < n → (n == k) ≡ false
+other_koid n k less = grind (arith, nat_tests)
+
+child_apart : (lib : Library) (w u : World) (p process h word : ℕ) (t : Site) → IsDone lib w u p t → refusal lib w p (process_start process h word) ≡ None → (object_at w p process == p) ≡ false
+child_apart lib w u p process h word t k passes = no_child w (object_at w p process) p k.caller (starts_created lib w p process h word passes) k.there (ap is_created k.ready)
+
+not_within : (b : Bool) → then_some b KILLED ≡ None → b ≡ false
+not_within true e = cc
+not_within false e = refl
+
+same_caller : (c : Cpu) (x : CallInstr) (t : Site) → SiteAt c x t → (lib : Library) (w u : World) (p : ℕ) → IsDone lib w u p t → ends_caller w p t.request ≡ None → (vs : List ℕ) → get (effect lib w u p t.request vs).processes p ≡ get u.processes p
 unfolding effect on_object with_object
-same_caller c _ _ (close_at a b) lib w u p = refl
-same_caller c _ _ _ lib w u p = refl
+same_caller c _ _ (process_create_at a b d e) lib w u p k goes vs = get-put u.processes w.next_koid (created_process lib (reg c d)) p ∙ rw (other_koid w.next_koid p (k.below p k.caller k.there)) refl
+same_caller c _ _ (process_start_at a b o d) lib w u p k goes vs =
+    changed_elsewhere u (object_at w p (reg c b)) (started_with vs (reg c d)) p (child_apart lib w u p (reg c b) (reg c o) (reg c d) _ k k.passes)
+same_caller c _ _ (task_kill_at a b) lib w u p k goes vs =
+    kill_passes_by u (object_at w p (reg c b)) p (ap (λ m. is_within m (object_at w p (reg c b)) p) k.objects ∙ not_within (is_within w.objects (object_at w p (reg c b)) p) goes)
+same_caller c _ _ _ lib w u p k goes vs = refl
+
+entered_own : (es : List Entry) (vs : List ℕ) (at : ℕ × List ℕ) (v : World) (p : ℕ) (q : Process) → get v.processes p ≡ Some q → get (storing (insert_all v p es vs) p at).processes p ≡ Some (storing_in at (getting_all es vs q))
+entered_own es vs at v p q there = stored_here at (insert_all v p es vs) p (getting_all es vs q) (inserted_here es vs v p q there)
 
 -- handles enter the caller's table and bytes its memory, and nothing else changes there
-pub caller_after : (c : Cpu) (x : CallInstr) (t : Site) → SiteAt c x t → (lib : Library) (w u : World) (p : ℕ) (vs : List ℕ) (q : Process) → get u.processes p ≡ Some q
-    → get (with_effect lib w u p t.request vs).processes p ≡ Some (storing_in (stored_by w p t.request) (getting_all (new_handles w p t.request) (entering_at t.request vs) q))
-caller_after c x t here lib w u p vs q there =
-    stored_here (stored_by w p t.request) (insert_all (effect lib w u p t.request) p (new_handles w p t.request) (entering_at t.request vs)) p (getting_all (new_handles w p t.request) (entering_at t.request vs) q)
-    (inserted_here (new_handles w p t.request) (entering_at t.request vs) (effect lib w u p t.request) p q (same_caller c x t here lib w u p ∙ there))
+pub caller_after : (c : Cpu) (x : CallInstr) (t : Site) → SiteAt c x t → (lib : Library) (w u : World) (p : ℕ) → IsDone lib w u p t → ends_caller w p t.request ≡ None → (vs : List ℕ) (q : Process) → get u.processes p ≡ Some q
+    → get (with_effect lib w u p t.request vs).processes p ≡ Some (storing_in (stored_by w p t.request) (getting_all (own_handles w p t.request) (entering_at t.request vs) q))
+caller_after c _ _ (process_start_at a b o d) lib w u p k goes vs q there =
+    inserted_elsewhere (new_handles w p (process_start (reg c b) (reg c o) (reg c d))) vs _ (object_at w p (reg c b)) p (child_apart lib w u p (reg c b) (reg c o) (reg c d) _ k k.passes)
+    ∙ (same_caller c _ _ (process_start_at a b o d) lib w u p k goes vs ∙ there)
+caller_after c x t here lib w u p k goes vs q there = entered_own (new_handles w p t.request) (entering_at t.request vs) (stored_by w p t.request) (effect lib w u p t.request vs) p q (same_caller c x t here lib w u p k goes vs ∙ there)
+
+-- a call that ends its caller leaves it ready, or over
+pub caller_ending : (c : Cpu) (x : CallInstr) (t : Site) → SiteAt c x t → (lib : Library) (w u : World) (p : ℕ) (code : ℤ) → ends_caller w p t.request ≡ Some code → (vs : List ℕ) (q : Process) → get u.processes p ≡ Some q → q.state ≡ Ready
+    → (y : Process) × (get (with_effect lib w u p t.request vs).processes p ≡ Some y) × ((y.state ≡ Ready) ⊎ (has_ended y.state ≡ true))
+unfolding effect new_handles insert_all with_killed
+caller_ending c _ _ (process_exit_at a) lib w u p code is vs q there ready = (q, there, inl ready)
+caller_ending c _ _ (task_kill_at a b) lib w u p code is vs q there ready =
+    let k : ℕ = object_at w p (reg c b) in
+    (process_killed (is_within u.objects k p) q, get-each u.processes (λ j y. process_killed (is_within u.objects k j) y) p ∙ ap (option_map (process_killed (is_within u.objects k p))) there, by (is_within u.objects k p))
+  where
+    by : (b : Bool) → ((process_killed b q).state ≡ Ready) ⊎ (has_ended (process_killed b q).state ≡ true)
+    by false = inl ready
+    by true = inr (rw ready refl)
+caller_ending c _ _ _ lib w u p code is vs q there ready = cc
 
 -- ---- policies
 
--- the job above each object with a koid below n is as it was, and so are the actions that it sets
-pub record AreAlike (n : ℕ) (w w2 : World) : Type 0 where
-  pub same : (k : ℕ) → k < n → (parent_in (body_of w2 k) ≡ parent_in (body_of w k)) × (policy_in (body_of w2 k) ≡ policy_in (body_of w k))
+-- For the objects of the world v: the job above each is as it was, and so are the actions that a job sets in which a process of v lives.
+pub record AreAlike (v w w2 : World) : Type 0 where
+  pub parents : (k : ℕ) → k < v.next_koid → parent_in (body_of w2 k) ≡ parent_in (body_of w k)
+  pub policies : (k : ℕ) → k < v.next_koid → has_child_process v k ≡ true → policy_in (body_of w2 k) ≡ policy_in (body_of w k)
 
-pub alike_then : (n : ℕ) (a b c : World) → AreAlike n a b → AreAlike n b c → AreAlike n a c
-alike_then n a b c h g = record { same = λ k less. ((g.same k less).0 ∙ (h.same k less).0, (g.same k less).1 ∙ (h.same k less).1) }
+pub alike_then : (v a b c : World) → AreAlike v a b → AreAlike v b c → AreAlike v a c
+alike_then v a b c h g = record { parents = λ k less. g.parents k less ∙ h.parents k less; policies = λ k less child. g.policies k less child ∙ h.policies k less child }
 
-pub same_objects : (n : ℕ) (w w2 : World) → w2.objects ≡ w.objects → AreAlike n w w2
-same_objects n w w2 same = record { same = λ k less. (ap (λ m. parent_in (body_in (get m k))) same, ap (λ m. policy_in (body_in (get m k))) same) }
+pub same_objects : (v w w2 : World) → w2.objects ≡ w.objects → AreAlike v w w2
+same_objects v w w2 same = record { parents = λ k less. ap (λ m. parent_in (body_in (get m k))) same; policies = λ k less child. ap (λ m. policy_in (body_in (get m k))) same }
+
+-- the object is in the same job as before, and sets the same actions
+abbrev IsAlike : Body → Body → Type 0
+IsAlike new old = (parent_in (Some new) ≡ parent_in (Some old)) × (policy_in (Some new) ≡ policy_in (Some old))
+
+-- so it is with what was found
+abbrev AreSo : Option Object → Option Object → Type 0
+AreSo new old = (parent_in (body_in new) ≡ parent_in (body_in old)) × (policy_in (body_in new) ≡ policy_in (body_in old))
+
+so_alike : (v w w2 : World) → ((k : ℕ) → k < v.next_koid → AreSo (get w2.objects k) (get w.objects k)) → AreAlike v w w2
+so_alike v w w2 same = record { parents = λ k less. (same k less).0; policies = λ k less child. (same k less).1 }
+
+each_so : (f : Object → Object) → ((o : Object) → IsAlike (f o).body o.body) → (o : Option Object) → AreSo (option_map f o) o
+each_so f same None = (refl, refl)
+each_so f same (Some o) = same o
 
 -- one object changes, and not in this
-changed_alike : (n : ℕ) (u : World) (k : ℕ) (f : Object → Object) → ((o : Object) → (parent_in (Some (f o).body) ≡ parent_in (Some o.body)) × (policy_in (Some (f o).body) ≡ policy_in (Some o.body))) → AreAlike n u (on_object u k f)
+changed_alike : (v u : World) (k : ℕ) (f : Object → Object) → ((o : Object) → IsAlike (f o).body o.body) → AreAlike v u (on_object u k f)
 unfolding on_object
-changed_alike n u k f same = record { same = λ j less. rw (get-update u.objects k f j) (by (k == j) (get u.objects j)) }
+changed_alike v u k f same = so_alike v u _ (λ j less. rw (get-update u.objects k f j) (by (k == j) (get u.objects j)))
   where
-    by : (b : Bool) (o : Option Object)
-        → (parent_in (body_in (if b then option_map f o else o)) ≡ parent_in (body_in o)) × (policy_in (body_in (if b then option_map f o else o)) ≡ policy_in (body_in o))
-    by true None = (refl, refl)
-    by true (Some o) = same o
+    by : (b : Bool) (o : Option Object) → AreSo (if b then option_map f o else o) o
+    by true o = each_so f same o
     by false o = (refl, refl)
 
 -- an object is made
-made_alike : (n : ℕ) (u : World) (b : Body) → n ≤ u.next_koid → AreAlike n u (with_object u b)
+made_alike : (v u : World) (b : Body) → v.next_koid ≤ u.next_koid → AreAlike v u (with_object u b)
 unfolding with_object
-made_alike n u b le = record { same = λ k less. rw (get-put u.objects u.next_koid (record { body = b; raised = 0 }) k, other u.next_koid k (omega arith)) (refl, refl) }
-  where
-    other : (m k : ℕ) → k < m → (m == k) ≡ false
-    other m k less = grind (arith, nat_tests)
+made_alike v u b le = so_alike v u _ (λ k less. rw (get-put u.objects u.next_koid (record { body = b; raised = 0 }) k, other_koid u.next_koid k (omega arith)) (refl, refl))
 
-sends_alike : (m : Message) (o : Object) → (parent_in (Some (message_sent m o).body) ≡ parent_in (Some o.body)) × (policy_in (Some (message_sent m o).body) ≡ policy_in (Some o.body))
+-- jobs are killed
+killed_alike : (v u : World) (t : ℕ) → AreAlike v u (with_killed u t)
+unfolding with_killed
+killed_alike v u t = so_alike v u _ (λ k less. rw (get-each u.objects (λ j o. object_killed (is_within u.objects t j) o) k) (each_so (object_killed (is_within u.objects t k)) (by (is_within u.objects t k)) (get u.objects k)))
+  where
+    of_body : (b : Body) → IsAlike (body_killed b) b
+    of_body (JobBody parent depth policy killed) = (refl, refl)
+    of_body _ = (refl, refl)
+
+    by : (b : Bool) (o : Object) → IsAlike (object_killed b o).body o.body
+    by true o = of_body o.body
+    by false o = (refl, refl)
+
+neither_one : (a b : Bool) → a || b ≡ false → b ≡ false
+neither_one true b e = cc
+neither_one false b e = e
+
+-- a policy is set where no process lives
+set_alike : (lib : Library) (w u : World) (p j mode condition action : ℕ) → refusal lib w p (job_set_policy j mode condition action) ≡ None → AreAlike w u (on_object u (object_at w p j) (policy_changed (setting_of mode condition action)))
+unfolding on_object listed
+set_alike lib w u p j mode condition action passes = record {
+  parents = λ k less. ap (λ o. parent_in (body_in o)) (get-update u.objects job change k) ∙ above (job == k) (get u.objects k);
+  policies = λ k less child. ap (λ o. policy_in (body_in o)) (get-update u.objects job change k) ∙ actions k child (cases_Bool (job == k));
+}
+  where
+    job : ℕ
+    job = object_at w p j
+
+    change : Object → Object
+    change = policy_changed (setting_of mode condition action)
+
+    no_child_in : has_child_process w job ≡ false
+    no_child_in =
+        neither_one (has_child_job w job) (has_child_process w job)
+        (neither_one (is_dead (body_of w job)) (has_child w job) (test_fails _ status.BadState (listed_none lib w p (job_set_policy j mode condition action) passes).1.0))
+
+    of_body : (s : Option Setting) (b : Body) → parent_in (Some (body_with_policy s b)) ≡ parent_in (Some b)
+    of_body s (JobBody parent depth policy killed) = refl
+    of_body s _ = refl
+
+    above : (b : Bool) (o : Option Object) → parent_in (body_in (if b then option_map change o else o)) ≡ parent_in (body_in o)
+    above true None = refl
+    above true (Some o) = of_body (setting_of mode condition action) o.body
+    above false o = refl
+
+    actions : (k : ℕ) → has_child_process w k ≡ true → ((job == k) ≡ true) ⊎ ((job == k) ≡ false) → policy_in (body_in (if job == k then option_map change (get u.objects k) else get u.objects k)) ≡ policy_in (body_in (get u.objects k))
+    actions k child (inl same) = let here : has_child_process w job ≡ true = subst (λ n. has_child_process w n ≡ true) (sym (eqb-true job k same)) child in let none = no_child_in in cc
+    actions k child (inr other) = rw other refl
+
+sends_alike : (m : Message) (o : Object) → IsAlike (message_sent m o).body o.body
 sends_alike m o = by o.body
   where
-    by : (b : Body) → (parent_in (Some (message_sent m (record o { body = b })).body) ≡ parent_in (Some b)) × (policy_in (Some (message_sent m (record o { body = b })).body) ≡ policy_in (Some b))
+    by : (b : Body) → IsAlike (message_sent m (record o { body = b })).body b
     by (ChannelEnd peer queue) = (refl, refl)
     by _ = (refl, refl)
 
-reads_alike : (o : Object) → (parent_in (Some (message_read o).body) ≡ parent_in (Some o.body)) × (policy_in (Some (message_read o).body) ≡ policy_in (Some o.body))
+reads_alike : (o : Object) → IsAlike (message_read o).body o.body
 reads_alike o = by o.body
   where
-    by : (b : Body) → (parent_in (Some (message_read (record o { body = b })).body) ≡ parent_in (Some b)) × (policy_in (Some (message_read (record o { body = b })).body) ≡ policy_in (Some b))
+    by : (b : Body) → IsAlike (message_read (record o { body = b })).body b
     by (ChannelEnd peer queue) = (refl, refl)
     by _ = (refl, refl)
 
-packs_alike : (f : List Packet → List Packet) (o : Object) → (parent_in (Some (repacked f o).body) ≡ parent_in (Some o.body)) × (policy_in (Some (repacked f o).body) ≡ policy_in (Some o.body))
+packs_alike : (f : List Packet → List Packet) (o : Object) → IsAlike (repacked f o).body o.body
 packs_alike f o = by o.body
   where
-    by : (b : Body) → (parent_in (Some (repacked f (record o { body = b })).body) ≡ parent_in (Some b)) × (policy_in (Some (repacked f (record o { body = b })).body) ≡ policy_in (Some b))
+    by : (b : Body) → IsAlike (repacked f (record o { body = b })).body b
     by (PortBody packets) = (refl, refl)
     by _ = (refl, refl)
 
-more_koids : (n : ℕ) (u : World) (b : Body) → n ≤ u.next_koid → n ≤ (with_object u b).next_koid
+more_koids : (v u : World) (b : Body) → v.next_koid ≤ u.next_koid → v.next_koid ≤ (with_object u b).next_koid
 unfolding with_object
-more_koids n u b le = omega arith
+more_koids v u b le = omega arith
 
-effect_alike : (c : Cpu) (x : CallInstr) (t : Site) → SiteAt c x t → (lib : Library) (w u : World) (p n : ℕ) → n ≤ u.next_koid → AreAlike n u (effect lib w u p t.request)
-unfolding effect
-effect_alike c _ _ (chan_create_at a b d) lib w u p n le =
+effect_alike : (c : Cpu) (x : CallInstr) (t : Site) → SiteAt c x t → (lib : Library) (w u : World) (p : ℕ) → refusal lib w p t.request ≡ None → w.next_koid ≤ u.next_koid → (vs : List ℕ) → AreAlike w u (effect lib w u p t.request vs)
+unfolding effect on_process
+effect_alike c _ _ (chan_create_at a b d) lib w u p passes le vs =
     let first : Body = ChannelEnd (w.next_koid + 1) [] in
-    alike_then n u (with_object u first) _ (made_alike n u first le) (made_alike n (with_object u first) (ChannelEnd w.next_koid []) (more_koids n u first le))
-effect_alike c _ _ (chan_write_at a b m k hs) lib w u p n le = changed_alike n u _ _ (sends_alike _)
-effect_alike c _ _ (chan_read_at a b m k e f g places there) lib w u p n le = changed_alike n u _ _ reads_alike
-effect_alike c _ _ (event_create_at a b) lib w u p n le = made_alike n u EventBody le
-effect_alike c _ _ (signal_at a b d e) lib w u p n le = changed_alike n u _ _ (λ o. (refl, refl))
-effect_alike c _ _ (signal_peer_at a b d e) lib w u p n le = changed_alike n u _ _ (λ o. (refl, refl))
-effect_alike c _ _ (port_create_at a b) lib w u p n le = made_alike n u (PortBody []) le
-effect_alike c _ _ (port_queue_at a b d e) lib w u p n le = changed_alike n u _ _ (packs_alike _)
-effect_alike c _ _ (port_wait_at a b d e g h) lib w u p n le = changed_alike n u _ _ (packs_alike _)
-effect_alike c _ _ (port_poll_at a b d e g h) lib w u p n le = changed_alike n u _ _ (packs_alike _)
-effect_alike c _ _ (port_cancel_at a b o d) lib w u p n le =
+    alike_then w u (with_object u first) _ (made_alike w u first le) (made_alike w (with_object u first) (ChannelEnd w.next_koid []) (more_koids w u first le))
+effect_alike c _ _ (chan_write_at a b m k hs) lib w u p passes le vs = changed_alike w u _ _ (sends_alike _)
+effect_alike c _ _ (chan_read_at a b m k e f g places there) lib w u p passes le vs = changed_alike w u _ _ reads_alike
+effect_alike c _ _ (event_create_at a b) lib w u p passes le vs = made_alike w u EventBody le
+effect_alike c _ _ (signal_at a b d e) lib w u p passes le vs = changed_alike w u _ _ (λ o. (refl, refl))
+effect_alike c _ _ (signal_peer_at a b d e) lib w u p passes le vs = changed_alike w u _ _ (λ o. (refl, refl))
+effect_alike c _ _ (port_create_at a b) lib w u p passes le vs = made_alike w u (PortBody []) le
+effect_alike c _ _ (port_queue_at a b d e) lib w u p passes le vs = changed_alike w u _ _ (packs_alike _)
+effect_alike c _ _ (port_wait_at a b d e g h) lib w u p passes le vs = changed_alike w u _ _ (packs_alike _)
+effect_alike c _ _ (port_poll_at a b d e g h) lib w u p passes le vs = changed_alike w u _ _ (packs_alike _)
+effect_alike c _ _ (port_cancel_at a b o d) lib w u p passes le vs =
     let rest : World = without_keyed u p (reg c o) (object_at w p (reg c b)) (reg c d) in
-    alike_then n u rest _ (same_objects n u rest refl) (changed_alike n rest _ _ (packs_alike _))
-effect_alike c _ _ _ lib w u p n le = same_objects n u _ refl
+    alike_then w u rest _ (same_objects w u rest refl) (changed_alike w rest _ _ (packs_alike _))
+effect_alike c _ _ (process_create_at a b d e) lib w u p passes le vs =
+    let more : World = with_object u (ProcessBody (object_at w p (reg c b))) in
+    alike_then w u more _ (made_alike w u (ProcessBody (object_at w p (reg c b))) le) (same_objects w more _ refl)
+effect_alike c _ _ (task_kill_at a b) lib w u p passes le vs = killed_alike w u (object_at w p (reg c b))
+effect_alike c _ _ (job_create_at a b d) lib w u p passes le vs = made_alike w u (job_within (object_at w p (reg c b)) (body_of w (object_at w p (reg c b)))) le
+effect_alike c _ _ (job_set_policy_at a b d e f) lib w u p passes le vs = set_alike lib w u p (reg c b) (reg c d) (reg c e) (reg c f) passes
+effect_alike c _ _ _ lib w u p passes le vs = same_objects w u _ refl
 
-inserted_objects : (es : List Entry) (vs : List ℕ) (w : World) (p : ℕ) → (insert_all w p es vs).objects ≡ w.objects
+pub inserted_objects : (es : List Entry) (vs : List ℕ) (w : World) (p : ℕ) → (insert_all w p es vs).objects ≡ w.objects
 unfolding insert_all on_process
 inserted_objects [] vs w p = refl
 inserted_objects (e ∷ es) [] w p = refl
 inserted_objects (e ∷ es) (v ∷ vs) w p = inserted_objects es vs _ p
 
-stored_objects : (at : ℕ × List ℕ) (w : World) (p : ℕ) → (storing w p at).objects ≡ w.objects
+pub stored_objects : (at : ℕ × List ℕ) (w : World) (p : ℕ) → (storing w p at).objects ≡ w.objects
 unfolding on_process
 stored_objects (address, []) w p = refl
 stored_objects (address, b ∷ bytes) w p = refl
 
-pub alike_after : (c : Cpu) (x : CallInstr) (t : Site) → SiteAt c x t → (lib : Library) (w u : World) (p n : ℕ) (vs : List ℕ) → n ≤ u.next_koid → AreAlike n u (with_effect lib w u p t.request vs)
-alike_after c x t here lib w u p n vs le =
-    alike_then n u (effect lib w u p t.request) _ (effect_alike c x t here lib w u p n le)
-    (same_objects n (effect lib w u p t.request) _ (stored_objects (stored_by w p t.request) _ p ∙ inserted_objects (new_handles w p t.request) (entering_at t.request vs) (effect lib w u p t.request) p))
+pub alike_after : (c : Cpu) (x : CallInstr) (t : Site) → SiteAt c x t → (lib : Library) (w u : World) (p : ℕ) → refusal lib w p t.request ≡ None → w.next_koid ≤ u.next_koid → (vs : List ℕ) → AreAlike w u (with_effect lib w u p t.request vs)
+alike_after c x t here lib w u p passes le vs =
+    alike_then w u (effect lib w u p t.request vs) _ (effect_alike c x t here lib w u p passes le vs)
+    (same_objects w (effect lib w u p t.request vs) _ (stored_objects (stored_by w p t.request) _ p ∙ inserted_objects (new_handles w p t.request) (entering_at t.request vs) (effect lib w u p t.request vs) (receiver_of w p t.request)))
 
 -- ---- the policy that the caller is under
 
-job_there : (o : Option Object) → is_job_body (body_in o) ≡ true → is_some o ≡ true
-job_there None e = cc
-job_there (Some o) e = refl
+some_body : (o : Option Object) (b : Body) → body_in o ≡ Some b → (x : Object) × (o ≡ Some x) × (x.body ≡ b)
+some_body None b e = absurd (none-some b e)
+some_body (Some x) b e = (x, refl, same_Some x.body b e)
 
-pub same_policy : (w w2 : World) (p : ℕ) (q : Process) → IsSound w → get w.processes p ≡ Some q → lives q.state ≡ true → AreAlike w.next_koid w w2 → (c : Condition) → creates w2 p c ≡ creates w p c
+-- a process that lives in the job is one of its children
+child_in : (w : World) (p : ℕ) (q : Process) (job : ℕ) → get w.processes p ≡ Some q → lives q.state ≡ true → body_in (get w.objects p) ≡ Some (ProcessBody job) → has_child_process w job ≡ true
+unfolding has_child_process is_process
+child_in w p q job there living body =
+    let (x, at, is) = some_body (get w.objects p) (ProcessBody job) body in
+    list_any-get _ w.objects p x at (rw (is, there, living) (itself job))
+  where
+    itself : (n : ℕ) → ((n == n) && true) ≡ true
+    itself n = grind (arith, nat_tests)
+
+pub same_policy : (w w2 : World) (p : ℕ) (q : Process) → IsSound w → get w.processes p ≡ Some q → lives q.state ≡ true → AreAlike w w w2 → (c : Condition) → creates w2 p c ≡ creates w p c
 unfolding creates
 same_policy w w2 p q sound there living alike c =
-    let (job, body, is_job) = sound.living p q there living in
-    let above : parent_of w p ≡ job = ap parent_in body in
-    let own = alike.same p (sound.processes p (ap is_some there)) in
-    let under = alike.same job (sound.objects.below job (job_there (get w.objects job) is_job)) in
-    ap (λ j. unless_allowed (action_of w2 j c)) (own.0 ∙ above)
-    ∙ (ap (λ m. unless_allowed (unwrap_or (get m (condition_number c)) action.Allow)) under.1 ∙ ap (λ j. unless_allowed (action_of w j c)) (sym above))
+    let own = sound.living p q there living in
+    let above : parent_of w p ≡ own.job = ap parent_in own.there in
+    let (job, at, is) = some_body (get w.objects own.job) _ own.lives.there in
+    let up = alike.parents p (sound.processes p (ap is_some there)) in
+    let under = alike.policies own.job (sound.objects.below own.job (ap is_some at)) (child_in w p q own.job there living own.there) in
+    ap (λ j. unless_allowed (action_of w2 j c)) (up ∙ above)
+    ∙ (ap (λ m. unless_allowed (unwrap_or (get m (condition_number c)) action.Allow)) under ∙ ap (λ j. unless_allowed (action_of w j c)) (sym above))

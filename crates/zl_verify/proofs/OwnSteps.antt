@@ -3,7 +3,8 @@ use Rattle.std.proofs.Common.{◌≡◌, ℕ, ◌⊎◌, Bool, true, false, ◌=
 use Rattle.std.specs.Prelude.{if◌then◌else◌, ℤ, slice_get}
 use Rattle.std.proofs.lemmas.Bool.{eq-eqb}
 use Rattle.std.proofs.lemmas.Option.{same_Some}
-use Rattle.zl_rights.specs.Common.{STUCK, get, runs, World, Cpu, Process, Ready, Blocked}
+use Rattle.zl_rights.specs.Common.{get, runs, World, Cpu, Process, State as Life, Ready, Blocked, Ended}
+use Rattle.zl_rights.specs.Signals.{has_ended}
 use Rattle.zl_rights.specs.World.{Awaited, SignalOf, PacketAt}
 use Rattle.zl_code.specs.declared.history.CallName.{CallName}
 use Rattle.zl_code.specs.declared.history.Outcome.{Outcome}
@@ -16,26 +17,24 @@ use Rattle.zl_code.specs.Image.{Image, Library, call_at, call_in}
 use Rattle.zl_code.specs.Spells.{is_in_range}
 use Rattle.zl_code.specs.Effects.{on_process, process_ended, ended}
 use Rattle.zl_code.specs.Request.{Site, name_of}
-use Rattle.zl_code.specs.CallTable.{new_handles, entering_at, stored_by}
+use Rattle.zl_code.specs.CallTable.{awaited_by, ends_caller, outcome_of}
 use Rattle.zl_code.specs.Refusals.{refusal}
-use Rattle.zl_code.specs.Calls.{Calls, CallBy, Choice, Refused, WantsMemory, Values, taken, taken_handles, with_effect, after_ok}
+use Rattle.zl_code.specs.Calls.{Calls, CallBy, Choice, Refused, WantsMemory, Values, taken, taken_handles, with_effect, ok_outcome, after_ok}
 use Rattle.zl_code.specs.Steps.{Next, Moves, AtCall, IsStuck, next_at, next_in, Acts, pid_of}
 use Rattle.zl_code.specs.Sound.{IsSound}
 use Rattle.zl_abs.specs.States.{State}
 use Rattle.zl_abs.specs.Typing.{IsTyping}
 use Rattle.zl_verify.specs.Conforms.{WaitsAt, Conforms}
-use Rattle.zl_verify.specs.CallLaws.{ends_by, ends_of, StandsAtCall, IsAnswered, IsWaiting}
+use Rattle.zl_verify.specs.CallLaws.{ends_by, ends_of, StandsAtCall, IsAnswered, IsWaiting, IsOwnEnd, exits, kills}
 use Rattle.zl_verify.specs.WakeLaws.{IsRunStep, EndsStep, stays, wakes}
-use Rattle.zl_verify.specs.RunLaws.{is_pause_name, executed, IsFineItem, IsUnderWay, HasEnded}
+use Rattle.zl_verify.specs.RunLaws.{MayEnd, is_pause_name, executed, IsFineItem, IsUnderWay, HasEnded}
 use Rattle.zl_verify.specs.Steps.{is_pause, leads, leads_by, OneOf}
 use Rattle.zl_verify.proofs.LocalSteps.{goes_on, not_stuck}
 use Rattle.zl_verify.proofs.AtCalls.{at_call}
 use Rattle.zl_verify.proofs.Sites.{SiteAt, site_at}
-use Rattle.zl_verify.proofs.Giving.{getting_all}
-use Rattle.zl_verify.proofs.Storing.{storing_same}
-use Rattle.zl_verify.proofs.OwnTable.{changed_here, losing_all, removed_here, lost_and_got}
+use Rattle.zl_verify.proofs.OwnTable.{changed_here, losing_all, losing_same, removed_here}
 use Rattle.zl_verify.proofs.OwnCalls.{promised, Promised}
-use Rattle.zl_verify.proofs.OwnEffect.{caller_after}
+use Rattle.zl_verify.proofs.OwnEffect.{caller_ending}
 use Rattle.zl_verify.proofs.SizedWorlds.{queues_sized}
 use Rattle.zl_verify.proofs.SizedRuns.{world_sized}
 use Rattle.zl_verify.proofs.Woken.{sound_before, ends_step}
@@ -43,22 +42,31 @@ use Rattle.zl_verify.proofs.Ended.{ended_still}
 
 -- ---- items
 
-pub fine_other : (i : Image) (p : ℕ) (x : TraceItem) → (pid_of x == p) ≡ false → IsFineItem i p x
-fine_other i p (item.Call pid called (outcome.Answered answer)) apart = λ same. let bad : (pid == p) ≡ true = eq-eqb pid p same in cc
-fine_other i p (item.Call pid called (outcome.Ended code)) apart = λ same. let bad : (pid == p) ≡ true = eq-eqb pid p same in cc
-fine_other i p (item.Call pid called outcome.Blocked) apart = tt
-fine_other i p (item.Run pid count) apart = tt
-fine_other i p (item.Stuck pid) apart = λ same. let bad : (pid == p) ≡ true = eq-eqb pid p same in cc
+pub fine_other : (p : ℕ) (x : TraceItem) → (pid_of x == p) ≡ false → IsFineItem p x
+fine_other p (item.Call pid called (outcome.Answered answer)) apart = λ same. let bad : (pid == p) ≡ true = eq-eqb pid p same in cc
+fine_other p (item.Call pid called (outcome.Ended code)) apart = λ same. let bad : (pid == p) ≡ true = eq-eqb pid p same in cc
+fine_other p (item.Call pid called outcome.Blocked) apart = tt
+fine_other p (item.Run pid count) apart = tt
+fine_other p (item.Stuck pid) apart = λ same. let bad : (pid == p) ≡ true = eq-eqb pid p same in cc
 
 -- ---- a process that is over
 
-ended_there : (w : World) (p : ℕ) (q : Process) → get w.processes p ≡ Some q → q.state ≡ Ready → (code : ℤ) → HasEnded (ended w p code) p
+-- one that was ready, or over before
+ended_there : (w : World) (p : ℕ) (q : Process) → get w.processes p ≡ Some q → (q.state ≡ Ready) ⊎ (has_ended q.state ≡ true) → (code : ℤ) → HasEnded (ended w p code) p
 unfolding ended
-ended_there w p q there ready code = record {
+ended_there w p q there was code = record {
   process = process_ended code q;
   there = changed_here w p (process_ended code) q there;
-  over = rw ready refl;
+  over = by was;
 }
+  where
+    over_still : (l : Life) → q.state ≡ l → has_ended l ≡ true → has_ended (process_ended code q).state ≡ true
+    over_still (Ended other) is e = rw is refl
+    over_still _ is e = cc
+
+    by : (q.state ≡ Ready) ⊎ (has_ended q.state ≡ true) → has_ended (process_ended code q).state ≡ true
+    by (inl ready) = rw ready refl
+    by (inr over) = over_still q.state refl over
 
 -- ---- what is counted
 
@@ -68,6 +76,13 @@ pub data Went (i : Image) (t : ℕ → Option State) (q y : Process) (x : TraceI
   goes : executed x ≡ Some 1 → OneOf (λ n. y.cpu.counter ≡ n) (leads i t q.cpu.counter) → y.state ≡ Ready → Went i t q y x
   -- a wait
   pauses : executed x ≡ None → Went i t q y x
+
+-- q did its last step, of which x tells
+pub data Stopped (i : Image) (q : Process) (x : TraceItem) : Type 0 where
+  -- by process_exit
+  by_exit : executed x ≡ None → Stopped i q x
+  -- by an instruction that is no pause
+  by_kill : executed x ≡ Some 1 → is_pause (call_at i q.cpu.counter) ≡ false → Stopped i q x
 
 pause_named : (x : CallInstr) → is_pause (Some x) ≡ is_pause_name (name_of x)
 pause_named (call.WaitOne a b c d) = refl
@@ -110,14 +125,14 @@ module _ (lib : Library) (i : Image) (t : ℕ → Option State) (range : is_in_r
     own = b.step.process
 
     sound : IsSound w
-    sound = sound_before i t range typing lib w p x w2 b
+    sound = sound_before lib w p x w2 b
 
     over_after : HasEnded b.step.acted p → HasEnded w2 p
     over_after o = record { process = o.process; there = ended_still p o.process o.over lib w p x w2 b.step o.there; over = o.over }
 
     -- p is under way at the end of the step, or over
     abbrev HasGone : Type 0
-    HasGone = ((u : IsUnderWay lib i t w2 p) × Went i t own u.process x) ⊎ (HasEnded w2 p × (executed x ≡ None))
+    HasGone = ((u : IsUnderWay lib i t w2 p) × Went i t own u.process x) ⊎ (HasEnded w2 p × Stopped i own x)
 
     ends : (y : Process) → get b.step.acted.processes p ≡ Some y → runs y.state ≡ true → Conforms i t b.step.acted p y → EndsStep i t p y w2
     ends y at running c = ends_step i t range typing lib w p x w2 b p y at running c
@@ -148,24 +163,28 @@ module _ (lib : Library) (i : Image) (t : ℕ → Option State) (range : is_in_r
         next = next;
       }
 
-      -- where process_exit has ended it
-      exited_at : (x : CallInstr) → SiteAt own.cpu x s → (vs : List ℕ) (code : ℤ) → HasEnded (ended (with_effect lib w (taken w p s) p s.request vs) p code) p
-      exited_at x here vs code =
-          let table = lost_and_got (new_handles w p s.request) (entering_at s.request vs) (taken_handles s.request) own in
-          ended_there (with_effect lib w (taken w p s) p s.request vs) p _
-          (caller_after own.cpu x s here lib w (taken w p s) p vs (losing_all (taken_handles s.request) own) (removed_here (taken_handles s.request) w p own b.step.is_there))
-          ((storing_same (stored_by w p s.request) (getting_all (new_handles w p s.request) (entering_at s.request vs) (losing_all (taken_handles s.request) own))).state ∙ (table.state ∙ b.step.is_ready)) code
+      -- where its call has ended it
+      exited_at : (x : CallInstr) → SiteAt own.cpu x s → (vs : List ℕ) (code : ℤ) → ok_outcome w p s.request ≡ outcome.Ended code → HasEnded (ended (with_effect lib w (taken w p s) p s.request vs) p code) p
+      exited_at x here vs code is =
+          let last = caller_ending own.cpu x s here lib w (taken w p s) p code (ends_with (awaited_by w p s.request) (ends_caller w p s.request) code is) vs (losing_all (taken_handles s.request) own)
+          (removed_here (taken_handles s.request) w p own b.step.is_there) ((losing_same (taken_handles s.request) own).state ∙ b.step.is_ready) in
+          ended_there (with_effect lib w (taken w p s) p s.request vs) p last.0 last.1 last.2 code
+        where
+          ends_with : (o : Option Awaited) (e : Option ℤ) (code : ℤ) → outcome_of o e ≡ outcome.Ended code → e ≡ Some code
+          ends_with (Some awaited) e code is = cc
+          ends_with None None code is = cc
+          ends_with None (Some other) code is = let same : other ≡ code = cc in ap Some same
 
       exited : (code : ℤ) (choice : Choice) (r : Option Outcome) → CallBy lib w p s choice r (outcome.Ended code) b.step.acted → HasEnded b.step.acted p
       exited code Refused None c = absurd c
       exited code Refused (Some (outcome.Answered answer)) c = let bad = c.0 in cc
       exited code Refused (Some outcome.Blocked) c = let bad = c.0 in cc
-      exited code Refused (Some (outcome.Ended other)) c = subst (λ v. HasEnded v p) (sym c.1) (ended_there w p own b.step.is_there b.step.is_ready other)
+      exited code Refused (Some (outcome.Ended other)) c = subst (λ v. HasEnded v p) (sym c.1) (ended_there w p own b.step.is_there (inl b.step.is_ready) other)
       exited code WantsMemory None c = let bad = c.1 in cc
       exited code WantsMemory (Some o) c = absurd c
       exited code (Values vs) None c =
           let at = at_call i own.cpu called s next in
-          subst (λ v. HasEnded v p) (sym (c.2 ∙ ap (after_ok lib w p s vs) (sym c.1))) (exited_at at.call (site_at own.cpu s at.call at.site) vs code)
+          subst (λ v. HasEnded v p) (sym (c.2 ∙ ap (after_ok lib w p s vs) (sym c.1))) (exited_at at.call (site_at own.cpu s at.call at.site) vs code (sym c.1))
       exited code (Values vs) (Some o) c = absurd c
 
       pause_here : is_pause (call_at i own.cpu.counter) ≡ is_pause_name called
@@ -189,29 +208,32 @@ module _ (lib : Library) (i : Image) (t : ℕ → Option State) (range : is_in_r
             pauses (ap executed is ∙ ap (λ (d : Bool). if d then None else Some 1) pause),
           )
 
-      by_outcome : (o : Outcome) → x ≡ item.Call p called o → Calls lib w p s o b.step.acted → Promised i t p own called s o b.step.acted → IsFineItem i p x × HasGone
-      by_outcome (outcome.Answered answer) is h (fine, a) = (subst (IsFineItem i p) (sym is) (λ same. fine), answered (outcome.Answered answer) is a)
-      by_outcome outcome.Blocked is h a = (subst (IsFineItem i p) (sym is) tt, blocked outcome.Blocked is a)
-      by_outcome (outcome.Ended code) is h a = (
-        subst (IsFineItem i p) (sym is) (λ same. a.named),
-        inr (over_after (exited code h.0 (refusal lib w p s.request) h.1), ap executed is ∙ ap (λ (n : CallName). if is_pause_name n then None else Some 1) a.named),
-      )
+      -- the end is one of its own
+      may_end : (code : ℤ) → IsOwnEnd w p called s code → MayEnd called code
+      may_end code (exits n named asked told) = inl named
+      may_end code (kills task named asked within told) = inr (named, told)
 
-    by_next : (n : Next) → next_at i own.cpu ≡ n → Acts lib w p n x b.step.acted → IsFineItem i p x × HasGone
-    by_next (Moves c) next a = (subst (IsFineItem i p) (sym a.0) tt, moved c next a.0 a.1)
+      stopped : (code : ℤ) → x ≡ item.Call p called (outcome.Ended code) → IsOwnEnd w p called s code → Stopped i own x
+      stopped code is (exits n named asked told) = by_exit (ap executed is ∙ ap (λ (n : CallName). if is_pause_name n then None else Some 1) named)
+      stopped code is (kills task named asked within told) = by_kill (ap executed is ∙ ap (λ (n : CallName). if is_pause_name n then None else Some 1) named) (pause_here ∙ ap is_pause_name named)
+
+      by_outcome : (o : Outcome) → x ≡ item.Call p called o → Calls lib w p s o b.step.acted → Promised i t w p own called s o b.step.acted → IsFineItem p x × HasGone
+      by_outcome (outcome.Answered answer) is h (fine, a) = (subst (IsFineItem p) (sym is) (λ same. fine), answered (outcome.Answered answer) is a)
+      by_outcome outcome.Blocked is h a = (subst (IsFineItem p) (sym is) tt, blocked outcome.Blocked is a)
+      by_outcome (outcome.Ended code) is h a = (subst (IsFineItem p) (sym is) (λ same. may_end code a), inr (over_after (exited code h.0 (refusal lib w p s.request) h.1), stopped code is a))
+
+    by_next : (n : Next) → next_at i own.cpu ≡ n → Acts lib w p n x b.step.acted → IsFineItem p x × HasGone
+    by_next (Moves c) next a = (subst (IsFineItem p) (sym a.0) tt, moved c next a.0 a.1)
     by_next (AtCall called s) next (o, is, h) = by_outcome called s next o is h (promised i t w p own called s (stands called s next) lib o b.step.acted h)
-    by_next IsStuck next a = (
-      subst (IsFineItem i p) (sym a.0) (λ same. (own.cpu, not_stuck i t w p own range typing sound.handles b.step.is_there k next)),
-      inr (over_after (subst (λ v. HasEnded v p) (sym a.1) (ended_there w p own b.step.is_there b.step.is_ready STUCK)), ap executed a.0),
-    )
+    by_next IsStuck next a = absurd (not_stuck i t w p own range typing sound.handles b.step.is_there k next)
 
-    own_step : IsFineItem i p x × HasGone
+    own_step : IsFineItem p x × HasGone
     own_step = by_next (next_at i own.cpu) refl (subst (λ n. Acts lib w p n x b.step.acted) (ap (λ o. next_in o own.cpu) program) b.step.acts)
 
   -- the step of a process that is under way
   pub under_way_steps : (w : World) (m : ℕ) (x : TraceItem) (w2 : World) → IsRunStep lib w m x w2 → (u : IsUnderWay lib i t w m)
-      → IsFineItem i m x × (((after : IsUnderWay lib i t w2 m) × Went i t u.process after.process x) ⊎ (HasEnded w2 m × (executed x ≡ None)))
+      → IsFineItem m x × (((after : IsUnderWay lib i t w2 m) × Went i t u.process after.process x) ⊎ (HasEnded w2 m × Stopped i u.process x))
   under_way_steps w m x w2 b u =
       let same : b.step.process ≡ u.process = same_Some b.step.process u.process (sym b.step.is_there ∙ u.there) in
-      subst (λ (q : Process). IsFineItem i m x × (((after : IsUnderWay lib i t w2 m) × Went i t q after.process x) ⊎ (HasEnded w2 m × (executed x ≡ None)))) same
+      subst (λ (q : Process). IsFineItem m x × (((after : IsUnderWay lib i t w2 m) × Went i t q after.process x) ⊎ (HasEnded w2 m × Stopped i q x))) same
       (own_step w m x w2 b u.checked (ap (λ (y : Process). slice_get lib y.program) same ∙ u.program) (subst (Conforms i t w m) (sym same) u.conforms))

@@ -9,7 +9,8 @@ use Rattle.zl_rights.specs.declared.entry.Entry.{Entry}
 use Rattle.zl_rights.specs.Common.{Map, get, without, has_key, World, Process}
 use Rattle.zl_rights.proofs.MapLaws.{get-update}
 use Rattle.zl_code.specs.Tests.{Operand}
-use Rattle.zl_code.specs.Effects.{on_process, insert_all, remove_all, process_with, process_without, storing}
+use Rattle.zl_code.specs.CallTable.{Request, process_start, new_handles, choosing}
+use Rattle.zl_code.specs.Effects.{on_process, insert_all, remove_all, process_with, process_without, storing, may_get_all}
 use Rattle.zl_code.specs.Local.{overwritten}
 use Rattle.zl_code.proofs.Entering.{get_without, gone_without}
 use Rattle.zl_verify.specs.Conforms.{Table}
@@ -23,6 +24,10 @@ itself p = grind (arith, nat_tests)
 pub changed_here : (w : World) (p : ℕ) (f : Process → Process) (q : Process) → get w.processes p ≡ Some q → get (on_process w p f).processes p ≡ Some (f q)
 unfolding on_process
 changed_here w p f q there = get-update w.processes p f p ∙ rw (itself p, there) refl
+
+pub changed_elsewhere : (w : World) (k : ℕ) (f : Process → Process) (p : ℕ) → (k == p) ≡ false → get (on_process w k f).processes p ≡ get w.processes p
+unfolding on_process
+changed_elsewhere w k f p apart = get-update w.processes k f p ∙ rw apart refl
 
 -- ---- handles leave
 
@@ -90,6 +95,22 @@ unfolding insert_all
 inserted_here [] vs w p q there = there
 inserted_here (e ∷ es) [] w p q there = there
 inserted_here (e ∷ es) (v ∷ vs) w p q there = inserted_here es vs (on_process w p (process_with v e)) p (process_with v e q) (changed_here w p (process_with v e) q there)
+
+pub inserted_elsewhere : (es : List Entry) (vs : List ℕ) (w : World) (k p : ℕ) → (k == p) ≡ false → get (insert_all w k es vs).processes p ≡ get w.processes p
+unfolding insert_all
+inserted_elsewhere [] vs w k p apart = refl
+inserted_elsewhere (e ∷ es) [] w k p apart = refl
+inserted_elsewhere (e ∷ es) (v ∷ vs) w k p apart = inserted_elsewhere es vs (on_process w k (process_with v e)) k p apart ∙ changed_elsewhere w k (process_with v e) p apart
+
+-- the new handles that enter the caller's own table: not that of the process that it starts
+abbrev pub own_handles : World → ℕ → Request → List Entry
+own_handles w p (process_start process h word) = []
+own_handles w p request = new_handles w p request
+
+-- these values may be given to them; q is the caller without the operands that are consumed
+abbrev pub MayGetOwn : World → ℕ → Process → Request → List ℕ → Type 0
+MayGetOwn w p q (process_start process h word) vs = Unit {0}
+MayGetOwn w p q request vs = may_get_all q (choosing w p request) vs ≡ true
 
 -- the process with the bytes in its memory
 abbrev pub storing_in : ℕ × List ℕ → Process → Process

@@ -23,7 +23,7 @@ use Rattle.zl_abs.specs.CallRules.{narrowed_value, triple_results, Uses, uses_of
 use Rattle.zl_verify.specs.CallLaws.{QueuesAreSized}
 use Rattle.zl_verify.specs.Conforms.{Table}
 use Rattle.zl_verify.proofs.Writing.{long_with}
-use Rattle.zl_verify.proofs.Sites.{SiteAt, close_at, dup_at, replace_at, chan_create_at, chan_write_at, chan_read_at, event_create_at, signal_at, signal_peer_at, wait_one_at, wait_poll_at, wait_async_at, port_create_at, port_queue_at, port_wait_at, port_poll_at, port_cancel_at, process_exit_at}
+use Rattle.zl_verify.proofs.Sites.{SiteAt, close_at, dup_at, replace_at, chan_create_at, chan_write_at, chan_read_at, event_create_at, signal_at, signal_peer_at, wait_one_at, wait_poll_at, wait_async_at, port_create_at, port_queue_at, port_wait_at, port_poll_at, port_cancel_at, process_create_at, process_start_at, process_exit_at, task_kill_at, job_create_at, job_set_policy_at}
 use Rattle.zl_verify.proofs.Aligned.{places_end, triples_zipped}
 use Rattle.zl_verify.proofs.Fitting.{Fits, first_value, more_values}
 use Rattle.zl_verify.proofs.Giving.{status_few, IsZeroable, zeros_fit, no_triples_fit}
@@ -137,4 +137,9 @@ module _ (w : World) (p : ℕ) (sound : IsSound w) (sized : QueuesAreSized w) (s
     refused_fits bounds before c _ _ (port_wait_at a b d g h j) range e = quiet _ (same_Some _ u e) (refl, (tt, (tt, (tt, (tt, tt)))))
     refused_fits bounds before c _ _ (port_poll_at a b d g h j) range e = quiet _ (same_Some _ u e) (refl, (tt, (tt, (tt, (tt, tt)))))
     refused_fits bounds before c _ _ (port_cancel_at a b o d) range e = quiet _ (same_Some _ u e) (refl, tt)
+    refused_fits bounds before c _ _ (process_create_at a b d g) range e = quiet _ (same_Some _ u e) (refl, (refl, tt))
+    refused_fits bounds before c _ _ (process_start_at a b o d) range e = quiet _ (same_Some _ u e) (refl, tt)
     refused_fits bounds before c _ _ (process_exit_at a) range e = quiet _ (same_Some _ u e) tt
+    refused_fits bounds before c _ _ (task_kill_at a b) range e = quiet _ (same_Some _ u e) (refl, tt)
+    refused_fits bounds before c _ _ (job_create_at a b d) range e = quiet _ (same_Some _ u e) (refl, (refl, tt))
+    refused_fits bounds before c _ _ (job_set_policy_at a b d g h) range e = quiet _ (same_Some _ u e) (refl, tt)

@@ -10,10 +10,10 @@ use Rattle.zl_code.specs.Instructions.{row_of}
 use Rattle.zl_code.specs.Spells.{call_parts}
 use Rattle.zl_code.specs.Local.{reg, is_in_memory}
 use Rattle.zl_code.specs.Asked.{used, triples_from}
-use Rattle.zl_code.specs.CallTable.{close, dup, replace, chan_create, chan_write, chan_read_etc, event_create, signal, signal_peer, wait_one, wait_poll, wait_async, port_create, port_queue, port_wait, port_poll, port_cancel, process_exit}
+use Rattle.zl_code.specs.CallTable.{close, dup, replace, chan_create, chan_write, chan_read_etc, event_create, signal, signal_peer, wait_one, wait_poll, wait_async, port_create, port_queue, port_wait, port_poll, port_cancel, process_create, process_start, process_exit, task_kill, job_create, job_set_policy}
 use Rattle.zl_code.specs.Request.{Site, site, site_of}
 
--- The call x of the Cpu c is the site; a line for each request. Calls that have no request yet have no line.
+-- The call x of the Cpu c is the site; a line for each request.
 pub data SiteAt (c : Cpu) : CallInstr → Site → Type 0 where
   close_at : (a b : ℕ) → SiteAt c (call.Close a b) (site (close (reg c b)) (b ∷ []) (a ∷ []))
   dup_at : (a b d imm : ℕ) → SiteAt c (call.Dup a b d imm) (site (dup (reg c b) imm) [] (a ∷ d ∷ []))
@@ -34,7 +34,12 @@ pub data SiteAt (c : Cpu) : CallInstr → Site → Type 0 where
   port_wait_at : (a b d e g h : ℕ) → SiteAt c (call.PortWait a b d e g h) (site (port_wait (reg c b)) [] (a ∷ d ∷ e ∷ g ∷ h ∷ []))
   port_poll_at : (a b d e g h : ℕ) → SiteAt c (call.PortPoll a b d e g h) (site (port_poll (reg c b)) [] (a ∷ d ∷ e ∷ g ∷ h ∷ []))
   port_cancel_at : (a b o d : ℕ) → SiteAt c (call.PortCancel a b o d) (site (port_cancel (reg c b) (reg c o) (reg c d)) [] (a ∷ []))
+  process_create_at : (a b d e : ℕ) → SiteAt c (call.ProcessCreate a b d e) (site (process_create (reg c b) (reg c d)) [] (a ∷ e ∷ []))
+  process_start_at : (a b o d : ℕ) → SiteAt c (call.ProcessStart a b o d) (site (process_start (reg c b) (reg c o) (reg c d)) (o ∷ []) (a ∷ []))
   process_exit_at : (a : ℕ) → SiteAt c (call.ProcessExit a) (site (process_exit (reg c a)) [] [])
+  task_kill_at : (a b : ℕ) → SiteAt c (call.TaskKill a b) (site (task_kill (reg c b)) [] (a ∷ []))
+  job_create_at : (a b d : ℕ) → SiteAt c (call.JobCreate a b d) (site (job_create (reg c b)) [] (a ∷ d ∷ []))
+  job_set_policy_at : (a b d e f : ℕ) → SiteAt c (call.JobSetPolicy a b d e f) (site (job_set_policy (reg c b) (reg c d) (reg c e) (reg c f)) [] (a ∷ []))
 
 -- the site of a call whose memory is there
 there_and : (b : Bool) (s t : Site) → then_some b s ≡ Some t → (b ≡ true) × (s ≡ t)
@@ -69,9 +74,9 @@ module _ (c : Cpu) (t : Site) where
   site_at (call.PortPoll a b d e g h) is = is_site _ _ (port_poll_at a b d e g h) is
   site_at (call.PortCancel a b o d) is =
       subst (SiteAt c (call.PortCancel a b o d)) (let same : site (port_cancel (reg c b) (reg c o) (reg c d)) [] (a ∷ []) ≡ t = cc in same) (port_cancel_at a b o d)
-  site_at (call.ProcessCreate a b d e) is = cc
-  site_at (call.ProcessStart a b d e) is = cc
+  site_at (call.ProcessCreate a b d e) is = is_site _ _ (process_create_at a b d e) is
+  site_at (call.ProcessStart a b o d) is = is_site _ _ (process_start_at a b o d) is
   site_at (call.ProcessExit a) is = is_site _ _ (process_exit_at a) is
-  site_at (call.TaskKill a b) is = cc
-  site_at (call.JobCreate a b d) is = cc
-  site_at (call.JobSetPolicy a b d e f) is = cc
+  site_at (call.TaskKill a b) is = is_site _ _ (task_kill_at a b) is
+  site_at (call.JobCreate a b d) is = is_site _ _ (job_create_at a b d) is
+  site_at (call.JobSetPolicy a b d e f) is = is_site _ _ (job_set_policy_at a b d e f) is

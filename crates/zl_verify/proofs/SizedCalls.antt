@@ -10,9 +10,10 @@ use Rattle.std.proofs.lemmas.Option.{same_Some}
 use Rattle.zl_rights.specs.declared.entry.Entry.{Entry}
 use Rattle.zl_rights.specs.declared.status.Status.{Status}
 use Rattle.zl_rights.specs.declared.status.Status.TheVariants as status
-use Rattle.zl_rights.specs.Common.{get, has_key, without, within, runs, queue_of, World, Cpu, Process, Body, ChannelEnd, EventBody, PortBody, ProcessBody}
+use Rattle.zl_rights.specs.Common.{get, has_key, lives, without, within, runs, queue_of, World, Cpu, Process, Object, Body, ChannelEnd, EventBody, JobBody, PortBody, ProcessBody, Ended}
 use Rattle.zl_rights.specs.World.{written, Message, Packet}
-use Rattle.zl_rights.specs.Numbers.{status_magnitude, changed}
+use Rattle.zl_rights.specs.Numbers.{status_magnitude, changed, KILLED}
+use Rattle.zl_rights.specs.Policies.{Setting, setting_of}
 use Rattle.zl_rights.specs.Packets.{user_packet, is_from}
 use Rattle.zl_code.specs.declared.history.Outcome.{Outcome}
 use Rattle.zl_code.specs.declared.history.Outcome.TheVariants as outcome
@@ -21,15 +22,16 @@ use Rattle.zl_code.specs.Image.{Library}
 use Rattle.zl_code.specs.Local.{reg}
 use Rattle.zl_code.specs.Tests.{settable_of, may_change, object_at, body_of, peer_at, entry_at, entries_at, is_too_large, queue_at, first_bytes, first_handles}
 use Rattle.zl_code.specs.Waiting.{packets_in, packets_at, first_values, is_keyed, is_by_handle, body_packed, source_at, wait_of}
-use Rattle.zl_code.specs.Starting.{created_process}
-use Rattle.zl_code.specs.Jobs.{job_within}
-use Rattle.zl_code.specs.Effects.{insert_all, with_object, process_with, process_without, may_get_after, may_get_all, told_of, body_with_message, body_after_read}
-use Rattle.zl_code.specs.CallTable.{Request, replace, chan_create, chan_write, chan_read_etc, event_create, signal, signal_peer, wait_one, wait_poll, wait_async, port_create, port_queue, port_wait, port_poll, port_cancel, process_create, job_create, listed, new_handles, choosing, entering_at, effect, stored_by, gives_ok, gives_refused, awaited_by}
+use Rattle.zl_code.specs.Starting.{created_process, started_with}
+use Rattle.zl_code.specs.Jobs.{job_within, body_with_policy, body_killed, object_killed, process_killed, is_within, with_killed}
+use Rattle.zl_code.specs.Effects.{on_process, insert_all, remove_all, with_object, process_with, process_without, may_get_after, may_get_all, gets_all, told_of, body_with_message, body_after_read}
+use Rattle.zl_code.specs.CallTable.{Request, replace, chan_create, chan_write, chan_read_etc, event_create, signal, signal_peer, wait_one, wait_poll, wait_async, port_create, port_queue, port_wait, port_poll, port_cancel, process_create, process_start, task_kill, job_create, job_set_policy, listed, new_handles, receiver_of, choosing, entering_at, effect, stored_by, gives_ok, gives_refused, awaited_by}
 use Rattle.zl_code.specs.Refusals.{refusal}
 use Rattle.zl_code.specs.Request.{Site}
 use Rattle.zl_code.specs.Calls.{taken_handles, may_choose, taken, cpu_answered, replied, with_effect, after_refusal, after_ok, ok_outcome, CallBy, Choice, Refused, WantsMemory, Values, Calls}
 use Rattle.zl_code.specs.Sound.{IsSound, IsSoundTable, is_value}
 use Rattle.zl_code.proofs.Entering.{get_without, gone_without}
+use Rattle.zl_code.proofs.MapKept.{Each}
 use Rattle.zl_abs.specs.Values.{ANY}
 use Rattle.zl_abs.proofs.Order.{both}
 use Rattle.zl_verify.specs.CallLaws.{IsSizedMessage, IsSizedPacket}
@@ -37,11 +39,10 @@ use Rattle.zl_verify.specs.SizedLaws.{IsSizedCpu}
 use Rattle.zl_verify.proofs.Memories.{AreBytes, all_taken, all_dropped}
 use Rattle.zl_verify.proofs.Calm.{both_few, within_few, first_sizes, first_are_bytes, first_rights, packets_at_sized}
 use Rattle.zl_verify.proofs.Giving.{status_few, kind_few, HasFewRights}
-use Rattle.zl_verify.proofs.OwnTable.{losing_all, removed_here}
-use Rattle.zl_verify.proofs.Sites.{SiteAt, replace_at, chan_write_at, wait_async_at, port_queue_at}
+use Rattle.zl_verify.proofs.Sites.{SiteAt, replace_at, chan_write_at, wait_async_at, port_queue_at, process_start_at}
 use Rattle.zl_verify.proofs.Working.{listed_none, test_fails, test_passes}
-use Rattle.zl_verify.proofs.SizedCpus.{AreSmall, registers_written, answered_sized, blank_sized}
-use Rattle.zl_verify.proofs.SizedWorlds.{IsSized, IsSizedObject, all_filtered, all_behind, queues_sized, active_sized, process_sized, new_process_sized, removed_sized, inserted_sized, stored_sized, ended_sized, waiting_sized, object_sized, new_object_sized, fewer_waits, wait_sized}
+use Rattle.zl_verify.proofs.SizedCpus.{AreSmall, registers_written, answered_sized, blank_sized, started_sized}
+use Rattle.zl_verify.proofs.SizedWorlds.{IsSized, IsSizedProcess, IsSizedAt, IsSizedObject, all_filtered, all_behind, each_update, each_each, queues_sized, active_sized, process_sized, new_process_sized, removed_sized, inserted_sized, stored_sized, ended_sized, waiting_sized, object_sized, new_object_sized, fewer_waits, wait_sized}
 
 -- ---- what is asked for
 
@@ -51,6 +52,7 @@ IsSizedRequest (replace h rights) = h ≤ ANY
 IsSizedRequest (chan_write c bytes hs) = AreBytes bytes
 IsSizedRequest (wait_async h port key mask) = (key ≤ ANY) × (mask ≤ ANY)
 IsSizedRequest (port_queue port key value) = (key ≤ ANY) × (value ≤ ANY)
+IsSizedRequest (process_start process h word) = word ≤ ANY
 IsSizedRequest _ = ⊤
 
 pub request_sized : (c : Cpu) → IsSizedCpu c → (x : CallInstr) (t : Site) → SiteAt c x t → IsSizedRequest t.request
@@ -58,6 +60,7 @@ request_sized c h _ _ (replace_at a b d imm) = h.small b
 request_sized c h _ _ (chan_write_at a b m n hs) = all_taken (reg c n) (drop (reg c m) c.memory) (all_dropped (reg c m) c.memory h.bytes)
 request_sized c h _ _ (wait_async_at a b o d e) = (h.small d, h.small e)
 request_sized c h _ _ (port_queue_at a b d e) = (h.small d, h.small e)
+request_sized c h _ _ (process_start_at a b o d) = h.small d
 request_sized c h _ _ _ = tt
 
 -- ---- what is told
@@ -71,9 +74,8 @@ record HasSmallValues (q : Process) : Type 0 where
   live : (v : ℕ) → has_key q.handles v ≡ true → v ≤ ANY
   gone : HasSmallLast q
 
-lost_small : (hs : List ℕ) (q : Process) → HasSmallValues q → HasSmallValues (losing_all hs q)
-lost_small [] q k = k
-lost_small (h ∷ hs) q k = lost_small hs (process_without h q) (by (has_key q.handles h) refl)
+lost_small : (h : ℕ) (q : Process) → HasSmallValues q → HasSmallValues (process_without h q)
+lost_small h q k = by (has_key q.handles h) refl
   where
     still : (v : ℕ) → has_key (without q.handles h) v ≡ true → has_key q.handles v ≡ true
     still v there = either (cases_Bool (v == h))
@@ -85,6 +87,12 @@ lost_small (h ∷ hs) q k = lost_small hs (process_without h q) (by (has_key q.h
     by : (b : Bool) → has_key q.handles h ≡ b → HasSmallValues (if b then record q { handles = without q.handles h; last = Some h } else q)
     by true is = record { live = λ v there. k.live v (still v there); gone = λ v e. subst (λ n. n ≤ ANY) (same_Some h v e) (k.live h is) }
     by false is = k
+
+-- so have those of each process where handles leave a table
+all_lost_small : (hs : List ℕ) (w : World) (p : ℕ) → Each HasSmallValues w.processes → Each HasSmallValues (remove_all w p hs).processes
+unfolding remove_all on_process
+all_lost_small [] w p all = all
+all_lost_small (h ∷ hs) w p all = all_lost_small hs (on_process w p (process_without h)) p (each_update HasSmallValues w.processes all p (process_without h) (lost_small h))
 
 pub chosen_small : (q : Process) (es : List Entry) (vs : List ℕ) → HasSmallLast q → may_get_all q es vs ≡ true → AreSmall vs
 chosen_small q [] [] k may = tt
@@ -133,6 +141,7 @@ module _ (w : World) (p : ℕ) (s : IsSized w) where
   given_small sound (wait_poll h mask) fits vs few = (active_sized w s (object_at w p h), tt)
   given_small sound (port_wait port) fits vs few = packet_small (packets_at w p port) (packets_at_sized w (queues_sized w s) p port)
   given_small sound (port_poll port) fits vs few = packet_small (packets_at w p port) (packets_at_sized w (queues_sized w s) p port)
+  given_small sound (process_start process h word) fits vs few = tt
   given_small sound _ fits vs few = few
 
   stored_are_bytes : (r : Request) → AreBytes (stored_by w p r).1
@@ -195,8 +204,36 @@ message_sized w p bytes hs are fits = by (nat_lt 65536 (length bytes)) refl (nat
 pub empty_sized : (b : Body) → queue_of b ≡ [] → packets_in (Some b) ≡ [] → IsSizedObject b 0
 empty_sized b queue packets = record { messages = rw queue tt; packets = rw packets tt; signals = omega arith }
 
-module _ (lib : Library) (w : World) (p : ℕ) (u : World) (s : IsSized u) where
-  effect_sized : (r : Request) → IsSizedRequest r → refusal lib w p r ≡ None → IsSized (effect lib w u p r)
+killed_process : (b : Bool) (q : Process) → IsSizedCpu q.cpu → IsSizedCpu (process_killed b q).cpu
+killed_process false q s = s
+killed_process true q s = by (lives q.state)
+  where
+    by : (b : Bool) → IsSizedCpu (if b then record q { state = Ended KILLED; handles = []; last = None } else q).cpu
+    by true = s
+    by false = s
+
+killed_object : (b : Bool) (o : Object) → IsSizedObject o.body o.raised → IsSizedObject (object_killed b o).body (object_killed b o).raised
+killed_object false o s = s
+killed_object true o s = by o.body s
+  where
+    by : (b : Body) → IsSizedObject b o.raised → IsSizedObject (body_killed b) o.raised
+    by (JobBody parent depth policy killed) k = record { messages = tt; packets = tt; signals = k.signals }
+    by _ k = k
+
+kill_sized : (u : World) (t : ℕ) → IsSized u → IsSized (with_killed u t)
+unfolding with_killed
+kill_sized u t s = record {
+  cpus = each_each IsSizedProcess u.processes s.cpus (λ k q. process_killed (is_within u.objects t k) q) (λ k q fits. killed_process (is_within u.objects t k) q fits);
+  kept = each_each IsSizedAt u.objects s.kept (λ k o. object_killed (is_within u.objects t k) o) (λ k o fits. killed_object (is_within u.objects t k) o fits);
+  waits = s.waits;
+}
+
+pub policy_set_sized : (x : Option Setting) (b : Body) (raised : ℕ) → IsSizedObject b raised → IsSizedObject (body_with_policy x b) raised
+policy_set_sized x (JobBody parent depth policy killed) raised k = record { messages = tt; packets = tt; signals = k.signals }
+policy_set_sized x _ raised k = k
+
+module _ (lib : Library) (w : World) (p : ℕ) (u : World) (s : IsSized u) (vs : List ℕ) (few : AreSmall vs) where
+  effect_sized : (r : Request) → IsSizedRequest r → refusal lib w p r ≡ None → IsSized (effect lib w u p r vs)
   unfolding effect listed
   effect_sized (replace h rights) fits passes = fewer_waits u (λ x. not (is_by_handle p h x)) s
   effect_sized chan_create fits passes = new_object_sized (with_object u (ChannelEnd (w.next_koid + 1) [])) (ChannelEnd w.next_koid []) (empty_sized _ refl refl) (new_object_sized u (ChannelEnd (w.next_koid + 1) []) (empty_sized _ refl refl) s)
@@ -219,7 +256,10 @@ module _ (lib : Library) (w : World) (p : ℕ) (u : World) (s : IsSized u) where
       (fewer_waits u (λ x. not (is_keyed p source (object_at w p port) key x)) s)
   effect_sized (process_create job program) fits passes =
       new_process_sized (with_object u (ProcessBody (object_at w p job))) w.next_koid (created_process lib program) (blank_sized (slice_get lib program)) (new_object_sized u (ProcessBody (object_at w p job)) (empty_sized _ refl refl) s)
+  effect_sized (process_start process h word) fits passes = process_sized u (object_at w p process) (started_with vs word) (λ q k. started_sized vs word q.cpu few fits k) s
+  effect_sized (task_kill task) fits passes = kill_sized u (object_at w p task) s
   effect_sized (job_create j) fits passes = new_object_sized u (job_within (object_at w p j) (body_of w (object_at w p j))) (empty_sized _ refl refl) s
+  effect_sized (job_set_policy j mode condition action) fits passes = object_sized u (object_at w p j) _ (λ o k. policy_set_sized (setting_of mode condition action) o.body o.raised k) s
   effect_sized _ fits passes = s
 
 -- ---- how it ends
@@ -231,36 +271,40 @@ replied_sized w p t answer values few s =
     (λ q k. answered_sized (record q.cpu { registers = written q.cpu.registers t.consumed [] }) t.destinations (status_magnitude answer ∷ values)
     (record { small = registers_written t.consumed [] q.cpu.registers tt k.small; bytes = k.bytes; narrow = k.narrow }) (let le = status_few answer in omega arith, few)) s
 
-module _ (lib : Library) (w : World) (p : ℕ) (q : Process) (there : get w.processes p ≡ Some q) (sound : IsSound w) (s : IsSized w) (t : Site) (fits : IsSizedRequest t.request) where
+module _ (lib : Library) (w : World) (p : ℕ) (sound : IsSound w) (s : IsSized w) (t : Site) (fits : IsSizedRequest t.request) where
   taken_sized : IsSized (taken w p t)
   taken_sized = removed_sized w p (taken_handles t.request) s
 
-  small_values : HasSmallValues q
-  small_values = record { live = λ v live. of_value v (tables.values v live); gone = λ v is. of_value v (tables.free v is).0 }
+  all_small : Each HasSmallValues w.processes
+  all_small k y at = record { live = λ v live. of_value v (tables.values v live); gone = λ v is. of_value v (tables.free v is).0 }
     where
-      tables : IsSoundTable (runs q.state) q.handles q.last
-      tables = sound.tables p q there
+      tables : IsSoundTable (runs y.state) y.handles y.last
+      tables = sound.tables k y at
 
       of_value : (v : ℕ) → is_value v ≡ true → v ≤ ANY
       of_value v e = let less : nat_lt v 65536 ≡ true = (both (nat_lt 0 v) (nat_lt v 65536) e).1 in grind (arith, nat_tests)
 
   values_small : (vs : List ℕ) → may_choose w (taken w p t) p t.request vs ≡ true → AreSmall vs
   unfolding may_choose
-  values_small vs may = chosen_small (losing_all (taken_handles t.request) q) (choosing w p t.request) vs (lost_small (taken_handles t.request) q small_values).gone (rw (removed_here (taken_handles t.request) w p q there) at may)
+  values_small vs may = by (get (taken w p t).processes (receiver_of w p t.request)) refl may
+    where
+      by : (o : Option Process) → get (taken w p t).processes (receiver_of w p t.request) ≡ o → gets_all o (choosing w p t.request) vs ≡ true → AreSmall vs
+      by None is e = cc
+      by (Some y) is e = chosen_small y (choosing w p t.request) vs (all_lost_small (taken_handles t.request) w p all_small (receiver_of w p t.request) y is).gone e
 
   refused_sized : (o : Outcome) → IsSized (after_refusal w p t o)
   refused_sized (outcome.Answered answer) = replied_sized (taken w p t) p t answer (gives_refused w p t.request answer) (refused_small w p s t.request answer) taken_sized
   refused_sized (outcome.Ended code) = ended_sized w p code s
   refused_sized outcome.Blocked = s
 
-  done_sized : refusal lib w p t.request ≡ None → (vs : List ℕ) → IsSized (with_effect lib w (taken w p t) p t.request vs)
-  done_sized passes vs =
-      stored_sized (insert_all (effect lib w (taken w p t) p t.request) p (new_handles w p t.request) (entering_at t.request vs)) p (stored_by w p t.request) (stored_are_bytes w p s t.request)
-      (inserted_sized (effect lib w (taken w p t) p t.request) p (new_handles w p t.request) (entering_at t.request vs) (effect_sized lib w p (taken w p t) taken_sized t.request fits passes))
+  done_sized : refusal lib w p t.request ≡ None → (vs : List ℕ) → AreSmall vs → IsSized (with_effect lib w (taken w p t) p t.request vs)
+  done_sized passes vs few =
+      stored_sized (insert_all (effect lib w (taken w p t) p t.request vs) (receiver_of w p t.request) (new_handles w p t.request) (entering_at t.request vs)) p (stored_by w p t.request) (stored_are_bytes w p s t.request)
+      (inserted_sized (effect lib w (taken w p t) p t.request vs) (receiver_of w p t.request) (new_handles w p t.request) (entering_at t.request vs) (effect_sized lib w p (taken w p t) taken_sized vs few t.request fits passes))
 
   ok_sized : refusal lib w p t.request ≡ None → (vs : List ℕ) → may_choose w (taken w p t) p t.request vs ≡ true → (o : Outcome) → IsSized (after_ok lib w p t vs o)
-  ok_sized passes vs may (outcome.Answered answer) = replied_sized _ p t status.Ok (gives_ok w p t.request vs) (given_small w p s sound t.request fits vs (values_small vs may)) (done_sized passes vs)
-  ok_sized passes vs may (outcome.Ended code) = ended_sized _ p code (done_sized passes vs)
+  ok_sized passes vs may (outcome.Answered answer) = replied_sized _ p t status.Ok (gives_ok w p t.request vs) (given_small w p s sound t.request fits vs (values_small vs may)) (done_sized passes vs (values_small vs may))
+  ok_sized passes vs may (outcome.Ended code) = ended_sized _ p code (done_sized passes vs (values_small vs may))
   ok_sized passes vs may outcome.Blocked = waiting_sized w p t.destinations (awaited_by w p t.request) s
 
   by_choice : (choice : Choice) (r : Option Outcome) → refusal lib w p t.request ≡ r → (answer : Outcome) (w2 : World) → CallBy lib w p t choice r answer w2 → IsSized w2

@@ -7,6 +7,8 @@ use Rattle.zl_rights.specs.declared.entry.Entry.{Entry}
 use Rattle.zl_rights.specs.Common.{STUCK, get, World, Cpu, Process, Object, EventBody, PortBody, ChannelEnd, JobBody, ProcessBody}
 use Rattle.zl_code.specs.declared.boot.Statement.{Statement}
 use Rattle.zl_code.specs.declared.boot.Statement.TheVariants as statement
+use Rattle.zl_code.specs.Jobs.{job_within}
+use Rattle.zl_code.specs.Tests.{body_of}
 use Rattle.zl_code.specs.declared.history.TraceItem.{TraceItem}
 use Rattle.zl_code.specs.declared.instr.Instr.{Instr}
 use Rattle.zl_code.specs.declared.instr.Instr.TheVariants as instr
@@ -16,7 +18,7 @@ use Rattle.zl_code.specs.Spells.{is_in_range, is_instr_in_range}
 use Rattle.zl_code.specs.Local.{local_effect}
 use Rattle.zl_code.specs.Request.{Site, site_of, name_of}
 use Rattle.zl_code.specs.Effects.{with_object, process_with}
-use Rattle.zl_code.specs.Boot.{Boots, may_boot, boot_effect, handles_given, process_with_all, origin}
+use Rattle.zl_code.specs.Boot.{setting, Boots, may_boot, boot_effect, handles_given, process_with_all, origin}
 use Rattle.zl_code.specs.Starting.{created_process}
 use Rattle.zl_code.specs.Steps.{Next, Moves, AtCall, IsStuck, moves, calls_at, next_of, next_at, next_in, next_for, Acts, Step, pid_of, Runs, single, IsLegalHistory}
 use Rattle.zl_code.specs.Handles.{Throughout}
@@ -28,8 +30,8 @@ use Rattle.zl_verify.specs.SizedLaws.{IsSizedCpu, word_of, IsSizedBoot}
 use Rattle.zl_verify.proofs.LocalSteps.{in_range_at}
 use Rattle.zl_verify.proofs.Sites.{site_at}
 use Rattle.zl_verify.proofs.SizedCpus.{blank_sized, started_sized, local_sized}
-use Rattle.zl_verify.proofs.SizedWorlds.{IsSized, IsSizedObject, process_sized, new_process_sized, ended_sized, new_object_sized, settled_sized, wakes_sized}
-use Rattle.zl_verify.proofs.SizedCalls.{IsSizedRequest, request_sized, chosen_small, empty_sized, call_sized}
+use Rattle.zl_verify.proofs.SizedWorlds.{object_sized, IsSized, IsSizedObject, process_sized, new_process_sized, ended_sized, new_object_sized, settled_sized, wakes_sized}
+use Rattle.zl_verify.proofs.SizedCalls.{policy_set_sized, IsSizedRequest, request_sized, chosen_small, empty_sized, call_sized}
 
 -- ---- what stands next
 
@@ -67,7 +69,7 @@ library_sized (g ∷ lib) (range, ranges) (suc n) c h = library_sized lib ranges
 module _ (lib : Library) (images : AllByRecursion (λ g. IsTrue (is_in_range g.image)) lib) where
   act_sized : (w : World) (p : ℕ) (q : Process) → get w.processes p ≡ Some q → IsSound w → IsSized w → (n : Next) → IsSizedNext n → (x : TraceItem) (w2 : World) → Acts lib w p n x w2 → IsSized w2
   act_sized w p q there sound s (Moves c) fits x w2 a = rw a.1 (process_sized w p (λ (y : Process). record y { cpu = c }) (λ y k. fits) s)
-  act_sized w p q there sound s (AtCall call t) fits x w2 (o, e, c) = call_sized lib w p q there sound s t fits o w2 c
+  act_sized w p q there sound s (AtCall call t) fits x w2 (o, e, c) = call_sized lib w p sound s t fits o w2 c
   act_sized w p q there sound s IsStuck fits x w2 a = rw a.1 (ended_sized w p STUCK s)
 
   -- the world right after what the process does
@@ -102,6 +104,8 @@ statement_sized lib w (statement.Process job program word handles) vs few may s 
     (chosen_small (created_process lib program) (handles_given w.objects handles) vs (λ v is. absurd (none-some v is)) may) few
     (holding_sized (handles_given w.objects handles) vs (created_process lib program) (blank_sized (slice_get lib program))))
     (new_object_sized w (ProcessBody job) (empty_sized _ refl refl) s)
+statement_sized lib w (statement.Job parent) vs few may s = new_object_sized w (job_within parent (body_of w parent)) (empty_sized _ refl refl) s
+statement_sized lib w (statement.Policy job condition action) vs few may s = object_sized w job _ (λ o k. policy_set_sized (setting condition action) o.body o.raised k) s
 statement_sized lib w statement.Event vs few may s = new_object_sized w EventBody (empty_sized _ refl refl) s
 statement_sized lib w statement.Port vs few may s = new_object_sized w (PortBody []) (empty_sized _ refl refl) s
 statement_sized lib w statement.Channel vs few may s = new_object_sized (with_object w (ChannelEnd (w.next_koid + 1) [])) (ChannelEnd w.next_koid []) (empty_sized _ refl refl) (new_object_sized w (ChannelEnd (w.next_koid + 1) []) (empty_sized _ refl refl) s)

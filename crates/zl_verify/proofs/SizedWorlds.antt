@@ -45,7 +45,7 @@ all_made P Q f each (x ∷ xs) (one, more) = (each x one, all_made P Q f each xs
 -- ---- maps
 
 module _ {X : Type 0} (P : X → Type 0) (m : Map X) (all : Each P m) where
-  each_update : (q : ℕ) (f : X → X) → ((x : X) → P x → P (f x)) → Each P (update m q f)
+  pub each_update : (q : ℕ) (f : X → X) → ((x : X) → P x → P (f x)) → Each P (update m q f)
   each_update q f keeps k x there = by (q == k) (get m k) refl (sym (get-update m q f k) ∙ there)
     where
       by : (b : Bool) (o : Option X) → get m k ≡ o → (if b then option_map f o else o) ≡ Some x → P x
@@ -73,10 +73,10 @@ pub record IsSizedWait (x : Wait) : Type 0 where
   pub key : x.key ≤ ANY
   pub mask : x.mask ≤ ANY
 
-abbrev IsSizedProcess : Process → Type 0
+abbrev pub IsSizedProcess : Process → Type 0
 IsSizedProcess q = IsSizedCpu q.cpu
 
-abbrev IsSizedAt : Object → Type 0
+abbrev pub IsSizedAt : Object → Type 0
 IsSizedAt o = IsSizedObject o.body o.raised
 
 -- processes, objects and waits are sized

@@ -17,7 +17,6 @@ use Rattle.zl_rights.proofs.MapLaws.{get-put, get-each, get-where_key-in, get-wh
 use Rattle.zl_code.specs.declared.history.TraceItem.{TraceItem}
 use Rattle.zl_code.specs.Image.{Image, Library, is_among}
 use Rattle.zl_code.specs.Spells.{is_in_range}
-use Rattle.zl_code.specs.Boot.{is_job_body}
 use Rattle.zl_code.specs.Tests.{body_in, body_of, parent_in, parent_of, policy_in, action_of, unless_allowed, creates}
 use Rattle.zl_code.specs.Sound.{IsSound, HasItsObject}
 use Rattle.zl_code.proofs.SoundRuns.{step_sound, run_sound}
@@ -152,17 +151,13 @@ module _ (u w2 : World) (K : Koids) (a : AreBare (without_others u K) w2) where
 
   settled_creates : (p : ℕ) → HasItsObject w2.objects p → (c : Condition) → creates (without_others u K) p c ≡ creates u p c
   unfolding creates
-  settled_creates p (job, is, is_job) c =
+  settled_creates p own c =
       ap (λ j. unless_allowed (action_of (without_others u K) j c)) above
-      ∙ (ap (λ o. unless_allowed (unwrap_or (get (policy_in o) (condition_number c)) action.Allow)) (job_kept (body_of w2 job) refl is_job)
-      ∙ ap (λ j. unless_allowed (action_of u j c)) (sym above ∙ ap parent_in (body_kept p (ProcessBody job) is)))
+      ∙ (ap (λ o. unless_allowed (unwrap_or (get (policy_in o) (condition_number c)) action.Allow)) (body_kept own.job _ own.lives.there)
+      ∙ ap (λ j. unless_allowed (action_of u j c)) (sym above ∙ ap parent_in (body_kept p (ProcessBody own.job) own.there)))
     where
-      above : parent_of (without_others u K) p ≡ job
-      above = sym (same_parent (without_others u K) w2 a p) ∙ ap parent_in is
-
-      job_kept : (o : Option Body) → body_of w2 job ≡ o → is_job_body o ≡ true → body_of (without_others u K) job ≡ body_of u job
-      job_kept None at e = cc
-      job_kept (Some b) at e = body_kept job b at
+      above : parent_of (without_others u K) p ≡ own.job
+      above = sym (same_parent (without_others u K) w2 a p) ∙ ap parent_in own.there
 
 -- ---- the process
 
@@ -244,7 +239,7 @@ module _ (i : Image) (t : ℕ → Option State) (range : is_in_range i ≡ true)
   become w s there = turns (fired w) (fired_sized w s) (record { now = q; there = there; made = inl refl }) w.blocked
 
 -- a process that runs is as it was after settling
-settled_there : (u v : World) → Settles u v → (p : ℕ) (q : Process) → get u.processes p ≡ Some q → runs q.state ≡ true → get v.processes p ≡ Some q
+pub settled_there : (u v : World) → Settles u v → (p : ℕ) (q : Process) → get u.processes p ≡ Some q → runs q.state ≡ true → get v.processes p ≡ Some q
 unfolding without_others
 settled_there u v (K, largest, is) p q there running = rw is (get-each u.processes (process_settled K) p ∙ (ap (option_map (process_settled K p)) there ∙ ap (λ (l : Life). Some (record q { state = l })) (by q.state running)))
   where
@@ -261,7 +256,7 @@ lives_then _ e = cc
 
 -- ---- the end of a step
 
-module _ (i : Image) (t : ℕ → Option State) (range : is_in_range i ≡ true) (typing : IsTyping i t) (lib : Library) (w : World) (m : ℕ) (x : TraceItem) (w2 : World) (b : IsRunStep lib w m x w2) where
+module _ (lib : Library) (w : World) (m : ℕ) (x : TraceItem) (w2 : World) (b : IsRunStep lib w m x w2) where
   pub sound_before : IsSound w
   sound_before = run_sound lib b.statements b.boot w b.items b.begins.boots b.run
 
@@ -272,7 +267,7 @@ module _ (i : Image) (t : ℕ → Option State) (range : is_in_range i ≡ true)
   settled_so = settled_sized b.step.acted b.step.settled b.step.settles (acted_sized lib b.begins.images w m x w2 sound_before (world_sized lib b.statements b.boot w b.items b.begins b.run) b.step)
 
   -- a process that lives at the end is allowed as much as right after the act
-  allowed_after : (p : ℕ) (y : Process) → get w2.processes p ≡ Some y → lives y.state ≡ true → (c : Condition) → creates w2 p c ≡ creates b.step.acted p c
+  pub allowed_after : (p : ℕ) (y : Process) → get w2.processes p ≡ Some y → lives y.state ≡ true → (c : Condition) → creates w2 p c ≡ creates b.step.acted p c
   allowed_after p y there living c = by b.step.settles
     where
       by : Settles b.step.acted b.step.settled → creates w2 p c ≡ creates b.step.acted p c
@@ -281,12 +276,13 @@ module _ (i : Image) (t : ℕ → Option State) (range : is_in_range i ≡ true)
           let alike : AreBare (without_others b.step.acted K) w2 = subst (λ v. AreBare v w2) is awake in
           bare_creates (without_others b.step.acted K) w2 alike p c ∙ settled_creates b.step.acted w2 K alike p (sound_after.living p y there living) c
 
+module _ (i : Image) (t : ℕ → Option State) (range : is_in_range i ≡ true) (typing : IsTyping i t) (lib : Library) (w : World) (m : ℕ) (x : TraceItem) (w2 : World) (b : IsRunStep lib w m x w2) where
   module _ (p : ℕ) (q : Process) (there : get b.step.acted.processes p ≡ Some q) (running : runs q.state ≡ true) (k : Conforms i t b.step.acted p q) where
     still_allowed : (y : Process) → get w2.processes p ≡ Some y → lives y.state ≡ true → (c : Condition) → IsTrue (is_among i.needs c) → creates w2 p c ≡ None
-    still_allowed y at living c named = allowed_after p y at living c ∙ k.allowed c named
+    still_allowed y at living c named = allowed_after lib w m x w2 b p y at living c ∙ k.allowed c named
 
     become_so : HasBecome i t p q w2
-    become_so = subst (HasBecome i t p q) (sym b.step.ends_awake) (become i t range typing p q (is_typed i t b.step.acted p q k) b.step.settled settled_so (settled_there b.step.acted b.step.settled b.step.settles p q there running))
+    become_so = subst (HasBecome i t p q) (sym b.step.ends_awake) (become i t range typing p q (is_typed i t b.step.acted p q k) b.step.settled (settled_so lib w m x w2 b) (settled_there b.step.acted b.step.settled b.step.settles p q there running))
 
     ends_from : (h : HasBecome i t p q w2) → (h.now ≡ q) ⊎ ((awaited : Awaited) × (ds : List ℕ) × (q.state ≡ Blocked awaited ds) × IsAwake i t q h.now) → EndsStep i t p q w2
     ends_from h (inl was) =

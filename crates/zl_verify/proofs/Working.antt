@@ -7,7 +7,7 @@ use Rattle.std.proofs.lemmas.Bool.Decides.{nat_tests}
 use Rattle.std.proofs.lemmas.List.{length-set}
 use Rattle.std.proofs.lemmas.Nat.{and_assoc}
 use Rattle.std.specs.Int.Bits.{and_self}
-use Rattle.zl_rights.specs.Common.{bits, rights_of, within, get, is_empty, World, Process}
+use Rattle.zl_rights.specs.Common.{bits, rights_of, within, get, is_empty, World, Cpu, Process}
 use Rattle.zl_rights.specs.World.{Packet}
 use Rattle.zl_rights.specs.Signals.{active}
 use Rattle.zl_rights.specs.Numbers.{KNOWN_RIGHTS, SAME_RIGHTS, DUPLICATE}
@@ -27,9 +27,9 @@ use Rattle.zl_code.specs.Spells.{call_parts}
 use Rattle.zl_code.specs.Tests.{Operand, any, answer_if, with_rights, copy_of, entry_at, object_at, examined, by_policy, first_bytes, first_handles, queue_at}
 use Rattle.zl_code.specs.Waiting.{first_values, packets_at}
 use Rattle.zl_code.specs.Effects.{process_with, new_entry, may_get_all, told_of}
-use Rattle.zl_code.specs.CallTable.{Request, dup, replace, chan_read_etc, listed, new_handles, choosing, entering_at, gives_ok}
+use Rattle.zl_code.specs.CallTable.{Request, dup, replace, chan_read_etc, listed, new_handles, entering_at, gives_ok}
 use Rattle.zl_code.specs.Refusals.{needs, taking, handle_operands, condition_of, refusal}
-use Rattle.zl_code.specs.Calls.{taken_handles}
+use Rattle.zl_code.specs.Calls.{taken_handles, may_choose}
 use Rattle.zl_code.specs.Request.{Site}
 use Rattle.zl_code.specs.Sound.{IsSound}
 use Rattle.zl_abs.specs.declared.value.AbsVal.{AbsVal}
@@ -46,8 +46,8 @@ use Rattle.zl_verify.proofs.Agreeing.{above}
 use Rattle.zl_verify.proofs.Examining.{parts}
 use Rattle.zl_verify.proofs.Fitting.{Fits}
 use Rattle.zl_verify.proofs.Giving.{status_fits, zeros_fit, IsFreeLast, AllAs, getting, getting_all, handles_fit, triples_fit}
-use Rattle.zl_verify.proofs.OwnTable.{losing_all, losing}
-use Rattle.zl_verify.proofs.Sites.{SiteAt, close_at, dup_at, replace_at, chan_create_at, chan_write_at, chan_read_at, event_create_at, signal_at, signal_peer_at, wait_one_at, wait_poll_at, wait_async_at, port_create_at, port_queue_at, port_wait_at, port_poll_at, port_cancel_at, process_exit_at}
+use Rattle.zl_verify.proofs.OwnTable.{losing_all, losing, own_handles, MayGetOwn}
+use Rattle.zl_verify.proofs.Sites.{SiteAt, close_at, dup_at, replace_at, chan_create_at, chan_write_at, chan_read_at, event_create_at, signal_at, signal_peer_at, wait_one_at, wait_poll_at, wait_async_at, port_create_at, port_queue_at, port_wait_at, port_poll_at, port_cancel_at, process_create_at, process_start_at, process_exit_at, task_kill_at, job_create_at, job_set_policy_at}
 use Rattle.zl_verify.proofs.Aligned.{places_end, triples_zipped}
 use Rattle.zl_verify.proofs.Standing.{Stands, reads_own}
 use Rattle.zl_verify.proofs.Calm.{signals_few, first_sizes, packets_at_sized, first_rights}
@@ -149,12 +149,18 @@ unfolding listed
 message_fits lib w p h address room places none =
     has_places room places (length (first_bytes (queue_at w p h))) (length (first_handles (queue_at w p h))) (test_passes _ status.BufferTooSmall (listed_none lib w p (chan_read_etc h address room places) none).1.1.0)
 
+-- what may be chosen for the new handles, where they enter the caller's own table
+pub own_chosen : (c : Cpu) (x : CallInstr) (t : Site) → SiteAt c x t → (w u : World) (p : ℕ) (q : Process) (vs : List ℕ) → get u.processes p ≡ Some q → may_choose w u p t.request vs ≡ true → MayGetOwn w p q t.request vs
+unfolding may_choose
+own_chosen c _ _ (process_start_at a b o d) w u p q vs there may = tt
+own_chosen c _ _ _ w u p q vs there may = rw there at may
+
 -- ---- each call
 
 -- the answer OK of the request gives what fits these uses
 abbrev pub Works : World → ℕ → Process → State → List ℕ → Request → List ℕ → Uses → Type 0
 Works w p q s xs r vs u =
-    Fits (get (losing_all (taken_handles r) q).handles) s xs u.results (0 ∷ gives_ok w p r vs) (get (getting_all (new_handles w p r) (entering_at r vs) (losing_all (taken_handles r) q)).handles)
+    Fits (get (losing_all (taken_handles r) q).handles) s xs u.results (0 ∷ gives_ok w p r vs) (get (getting_all (own_handles w p r) (entering_at r vs) (losing_all (taken_handles r) q)).handles)
 
 module _ (lib : Library) (w : World) (p : ℕ) (q : Process) (sound : IsSound w) (sized : QueuesAreSized w) (free : IsFreeLast q) (none : get q.handles 0 ≡ None) (s : State) (xs : List ℕ) (long : length s ≡ register_count) (wide : length xs ≡ length s) (vs : List ℕ) where
   -- a status, and then these
@@ -231,7 +237,7 @@ module _ (lib : Library) (w : World) (p : ℕ) (q : Process) (sound : IsSound w)
     is_copied : (e : Option Entry) (rights : ℕ) → answer_if (is_empty (copy_of e rights)) status.InvalidArgs ≡ None → is_empty (copy_of e rights) ≡ false
     is_copied e rights none = test_fails _ status.InvalidArgs none
 
-    pub works : (x : CallInstr) (t : Site) → SiteAt q.cpu x t → Stands w p q x t before arrays u s → may_get_all (losing_all (taken_handles t.request) q) (choosing w p t.request) vs ≡ true → refusal lib w p t.request ≡ None
+    pub works : (x : CallInstr) (t : Site) → SiteAt q.cpu x t → Stands w p q x t before arrays u s → MayGetOwn w p (losing_all (taken_handles t.request) q) t.request vs → refusal lib w p t.request ≡ None
         → Works w p q s xs t.request vs u
     unfolding uses_of row_of call_parts gives_ok new_handles taken_handles handle_operands listed
     works _ _ (close_at a b) k may passes = as_used k _ (same_Some _ u k.uses) (alone_told _ a vs)
@@ -265,4 +271,9 @@ module _ (lib : Library) (w : World) (p : ℕ) (q : Process) (sound : IsSound w)
     works _ _ (port_wait_at a b d e g h) k may passes = as_used k _ (same_Some _ u k.uses) (packet_told k.bounds _ (reg q.cpu b) a d e g h)
     works _ _ (port_poll_at a b d e g h) k may passes = as_used k _ (same_Some _ u k.uses) (packet_told k.bounds _ (reg q.cpu b) a d e g h)
     works _ _ (port_cancel_at a b o d) k may passes = as_used k _ (same_Some _ u k.uses) (alone_told _ a vs)
+    works _ _ (process_create_at a b d e) k may passes = as_used k _ (same_Some _ u k.uses) (new_told a ((e, new kind.Process) ∷ []) (new_entry w.next_koid kind.Process ∷ []) may ((refl, refl), tt))
+    works _ _ (process_start_at a b o d) k may passes = as_used k _ (same_Some _ u k.uses) (alone_told _ a [])
     works _ _ (process_exit_at a) k may passes = as_used k _ (same_Some _ u k.uses) refl
+    works _ _ (task_kill_at a b) k may passes = as_used k _ (same_Some _ u k.uses) (alone_told _ a vs)
+    works _ _ (job_create_at a b d) k may passes = as_used k _ (same_Some _ u k.uses) (new_told a ((d, new kind.Job) ∷ []) (new_entry w.next_koid kind.Job ∷ []) may ((refl, refl), tt))
+    works _ _ (job_set_policy_at a b d e g) k may passes = as_used k _ (same_Some _ u k.uses) (alone_told _ a vs)

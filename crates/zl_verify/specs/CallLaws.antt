@@ -2,6 +2,7 @@
 use Rattle.std.specs.Prelude.{ℕ, ◌≡◌, ◌≤◌, ◌<◌, ℤ, Bool, true, false, List, [], length, Option, Some, None, IsTrue, slice_index}
 use Rattle.std.specs.List.{AllByRecursion}
 use Rattle.zl_rights.specs.Common.{get, World, Cpu, Process, Ready, Blocked, Object, queue_of}
+use Rattle.zl_rights.specs.Numbers.{KILLED}
 use Rattle.zl_rights.specs.World.{Awaited, Message, Packet}
 use Rattle.zl_rights.specs.declared.status.Status.{Status}
 use Rattle.zl_rights.specs.declared.status.Status.TheVariants as status
@@ -10,9 +11,11 @@ use Rattle.zl_code.specs.declared.history.CallName.TheVariants as name
 use Rattle.zl_code.specs.declared.instr.CallInstr.{CallInstr}
 use Rattle.zl_code.specs.Image.{Image}
 use Rattle.zl_code.specs.Spells.{is_in_range}
-use Rattle.zl_code.specs.CallTable.{process_exit}
+use Rattle.zl_code.specs.CallTable.{process_exit, task_kill}
 use Rattle.zl_code.specs.Effects.{signed_word}
+use Rattle.zl_code.specs.Jobs.{is_within}
 use Rattle.zl_code.specs.Request.{Site, name_of}
+use Rattle.zl_code.specs.Tests.{object_at}
 use Rattle.zl_code.specs.Waiting.{packets_in}
 use Rattle.zl_code.specs.Steps.{AtCall, next_at}
 use Rattle.zl_code.specs.Sound.{IsSound}
@@ -21,7 +24,6 @@ use Rattle.zl_abs.specs.States.{State}
 use Rattle.zl_abs.specs.Typing.{rule, IsTyping}
 use Rattle.zl_verify.specs.Steps.{OneOf, targets_of}
 use Rattle.zl_verify.specs.Conforms.{Conforms}
-use Rattle.zl_verify.specs.LocalLaws.{IsUnbuilt}
 
 -- ---- what a world has to be
 
@@ -88,16 +90,17 @@ pub record IsWaiting (i : Image) (t : ℕ → Option State) (p : ℕ) (q : Proce
   pub there : get w2.processes p ≡ Some (record q { state = Blocked awaited destinations })
   pub conforms : Conforms i t w2 p (record q { state = Blocked awaited destinations })
 
--- The process ends itself: the call is process_exit, and this is the code that it asks for.
-pub record IsOwnExit (called : CallName) (s : Site) (code : ℤ) : Type 0 where
-  pub named : called ≡ name.ProcessExit
-  pub number : ℕ
-  pub asked : s.request ≡ process_exit number
-  pub told : code ≡ signed_word number
+-- The process p of w ends itself by the call.
+pub data IsOwnEnd (w : World) (p : ℕ) (called : CallName) (s : Site) (code : ℤ) : Type 0 where
+  -- the call is process_exit, and this is the code that it asks for
+  exits : (number : ℕ) → called ≡ name.ProcessExit → s.request ≡ process_exit number → code ≡ signed_word number → IsOwnEnd w p called s code
+  -- the call is task_kill of p itself or of a job above it, and this is the code of what is killed
+  kills : (task : ℕ) → called ≡ name.TaskKill → s.request ≡ task_kill task → IsTrue (is_within w.objects (object_at w p task) p)
+      → code ≡ KILLED → IsOwnEnd w p called s code
 
 -- ---- that it isn't stuck
 
--- At the call what it asks for can be read, unless it isn't built.
-pub data CanCall (i : Image) (c : Cpu) (call : CallInstr) : Type 0 where
-  asks : (s : Site) → next_at i c ≡ AtCall (name_of call) s → CanCall i c call
-  unbuilt : IsUnbuilt i c → CanCall i c call
+-- At the call what it asks for can be read.
+pub record CanCall (i : Image) (c : Cpu) (call : CallInstr) : Type 0 where
+  pub site : Site
+  pub next : next_at i c ≡ AtCall (name_of call) site

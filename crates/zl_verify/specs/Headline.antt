@@ -1,17 +1,15 @@
--- The headline: in every run, whoever else acts, a process that was properly started from an accepted image is never refused for a handle, isn't stuck, is ended by no policy, and keeps its budget.
+-- The headline: in every run, whoever else acts, a process that was properly started from an accepted image is never refused for a handle, is never stuck, is ended by no policy, and keeps its budget, till it ends itself or another kills it.
 use Rattle.std.specs.Prelude.{ℕ, ◌≡◌, Bool, false, List, Some, slice_get}
 use Rattle.std.specs.List.{AllByRecursion}
-use Rattle.zl_rights.specs.Common.{get, World, Cpu, Process, Ready}
+use Rattle.zl_rights.specs.Common.{get, World, Process, Ready}
 use Rattle.zl_code.specs.declared.boot.Statement.{Statement}
-use Rattle.zl_code.specs.declared.history.CallName.TheVariants as name
 use Rattle.zl_code.specs.declared.history.Outcome.TheVariants as outcome
 use Rattle.zl_code.specs.declared.history.TraceItem.{TraceItem}
 use Rattle.zl_code.specs.declared.history.TraceItem.TheVariants as item
 use Rattle.zl_code.specs.Image.{Image, Library}
 use Rattle.zl_code.specs.Steps.{Runs}
 use Rattle.zl_verify.specs.CallLaws.{is_fault}
-use Rattle.zl_verify.specs.LocalLaws.{IsUnbuilt}
-use Rattle.zl_verify.specs.RunLaws.{KeepsBudget}
+use Rattle.zl_verify.specs.RunLaws.{MayEnd, KeepsBudget}
 use Rattle.zl_verify.specs.SizedLaws.{IsSizedBoot}
 use Rattle.zl_verify.specs.WakeLaws.{IsProperStart}
 
@@ -20,21 +18,21 @@ abbrev pub HasNoFault : ℕ → TraceItem → Type 0
 HasNoFault p (item.Call pid called (outcome.Answered answer)) = pid ≡ p → is_fault answer ≡ false
 HasNoFault p _ = Unit {0}
 
--- no call of p ends it here but process_exit, whatever its code
-abbrev pub EndsByExit : ℕ → TraceItem → Type 0
-EndsByExit p (item.Call pid called (outcome.Ended code)) = pid ≡ p → called ≡ name.ProcessExit
-EndsByExit p _ = Unit {0}
+-- no call of p ends it here but process_exit, whatever its code, and its own task_kill, with the code of the killed
+abbrev pub EndsItself : ℕ → TraceItem → Type 0
+EndsItself p (item.Call pid called (outcome.Ended code)) = pid ≡ p → MayEnd called code
+EndsItself p _ = Unit {0}
 
--- p, which runs this image, isn't stuck here, but for a call that isn't built
-abbrev pub IsNotStuck : Image → ℕ → TraceItem → Type 0
-IsNotStuck i p (item.Stuck pid) = pid ≡ p → (c : Cpu) × IsUnbuilt i c
-IsNotStuck i p _ = Unit {0}
+-- p isn't stuck here
+abbrev pub IsNotStuck : ℕ → TraceItem → Type 0
+IsNotStuck p (item.Stuck pid) = pid ≡ p → ⊥
+IsNotStuck p _ = Unit {0}
 
 -- What these items tell of the process p, which runs this image and was just started.
 pub record GoesWell (i : Image) (p : ℕ) (items : List TraceItem) : Type 0 where
   pub no_fault : AllByRecursion (HasNoFault p) items
-  pub by_exit : AllByRecursion (EndsByExit p) items
-  pub not_stuck : AllByRecursion (IsNotStuck i p) items
+  pub ends_itself : AllByRecursion (EndsItself p) items
+  pub not_stuck : AllByRecursion (IsNotStuck p) items
   pub budget : KeepsBudget i.budget p i.budget items
 
 -- The process p of w has just been properly started by a program of the library with this image.

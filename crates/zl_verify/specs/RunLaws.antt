@@ -1,6 +1,7 @@
 -- What the law of a checked process in a run says.
-use Rattle.std.specs.Prelude.{ℕ, ◌≡◌, Bool, false, Option, Some, IsTrue, slice_get, ◌-◌, true, ◌==◌, nat_le, List, [], ◌∷◌, None, IsSomeAnd, if◌then◌else◌}
-use Rattle.zl_rights.specs.Common.{get, runs, World, Cpu, Process}
+use Rattle.std.specs.Prelude.{ℕ, ℤ, ◌≡◌, ◌⊎◌, Bool, false, Option, Some, IsTrue, slice_get, ◌-◌, true, ◌==◌, nat_le, List, [], ◌∷◌, None, IsSomeAnd, if◌then◌else◌}
+use Rattle.zl_rights.specs.Common.{get, runs, World, Process}
+use Rattle.zl_rights.specs.Numbers.{KILLED}
 use Rattle.zl_rights.specs.Signals.{has_ended}
 use Rattle.zl_code.specs.declared.history.CallName.{CallName}
 use Rattle.zl_code.specs.declared.history.CallName.TheVariants as name
@@ -11,16 +12,19 @@ use Rattle.zl_code.specs.Image.{Image, Library}
 use Rattle.zl_code.specs.Steps.{pid_of}
 use Rattle.zl_abs.specs.States.{State}
 use Rattle.zl_verify.specs.Conforms.{Conforms}
-use Rattle.zl_verify.specs.LocalLaws.{IsUnbuilt}
 use Rattle.zl_verify.specs.CallLaws.{is_fault}
 
--- No call of p, which runs this image, is answered BAD_HANDLE, WRONG_TYPE or ACCESS_DENIED here, none ends p but process_exit, and p is stuck only at a call that isn't built.
-abbrev pub IsFineItem : Image → ℕ → TraceItem → Type 0
-IsFineItem i p (item.Call pid called (outcome.Answered answer)) = pid ≡ p → is_fault answer ≡ false
-IsFineItem i p (item.Call pid called (outcome.Ended code)) = pid ≡ p → called ≡ name.ProcessExit
-IsFineItem i p (item.Call pid called outcome.Blocked) = Unit {0}
-IsFineItem i p (item.Run pid count) = Unit {0}
-IsFineItem i p (item.Stuck pid) = pid ≡ p → (c : Cpu) × IsUnbuilt i c
+-- a call of this name may end its caller with this code: process_exit with any, and task_kill with that of the killed
+abbrev pub MayEnd : CallName → ℤ → Type 0
+MayEnd called code = (called ≡ name.ProcessExit) ⊎ ((called ≡ name.TaskKill) × (code ≡ KILLED))
+
+-- No call of p is answered BAD_HANDLE, WRONG_TYPE or ACCESS_DENIED here, none ends p but process_exit and its own task_kill, and p isn't stuck.
+abbrev pub IsFineItem : ℕ → TraceItem → Type 0
+IsFineItem p (item.Call pid called (outcome.Answered answer)) = pid ≡ p → is_fault answer ≡ false
+IsFineItem p (item.Call pid called (outcome.Ended code)) = pid ≡ p → MayEnd called code
+IsFineItem p (item.Call pid called outcome.Blocked) = Unit {0}
+IsFineItem p (item.Run pid count) = Unit {0}
+IsFineItem p (item.Stuck pid) = pid ≡ p → ⊥
 
 -- The process p of w runs, by a program of the library with this image, and is as the typing says.
 pub record IsUnderWay (lib : Library) (i : Image) (t : ℕ → Option State) (w : World) (p : ℕ) : Type 0 where

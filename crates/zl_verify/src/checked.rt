@@ -57,9 +57,10 @@ impl Checked {
     }
 
     /// In every run from a boot world, whatever others do: a process that was properly started from
-    /// this image gets no call answered BAD_HANDLE, WRONG_TYPE or ACCESS_DENIED, is stuck only at a
-    /// call that isn't built, is ended by no policy, and takes no more instructions than its budget
-    /// from its start on up to a wait or its exit, and behind each wait.
+    /// this image gets no call answered BAD_HANDLE, WRONG_TYPE or ACCESS_DENIED, is never stuck, is
+    /// ended by no policy, and takes no more instructions than its budget from its start on up to a
+    /// wait or its end, and behind each wait. It ends by its own `process_exit` or `task_kill`, or
+    /// where another kills it, and from then on it does nothing more.
     ///
     /// It does nothing: its clause is what an accepted image is good for. Own profile.
     pub fn sound(&self)

@@ -1,20 +1,26 @@
 //! Laws of the definitions: each function's contract is one law, and its body is empty.
 
 ghost use Rattle.std.specs.List.{AllByRecursion};
-ghost use Rattle.std.specs.Prelude.{ℕ, ◌≡◌, ◌≢◌, ◌==◌, ◌↔◌, ◌⊎◌, ℤ, Bool};
-ghost use Rattle.std.specs.Prelude.{slice_get, false, IsTrue, List, [], Option, Some, Ok};
+ghost use Rattle.std.specs.Prelude.{ℕ, ◌≡◌, ◌≢◌, ◌==◌, ◌↔◌, ◌⊎◌, ℤ, Bool, true, false};
+ghost use Rattle.std.specs.Prelude.{slice_get, IsTrue, List, [], None, Option, Some, Ok};
 ghost use Rattle.zl_rights.specs.Common.{World, Cpu, Process, Ready, get, runs};
 ghost use Rattle.zl_rights.specs.declared.status.Status.{Status};
+ghost use Rattle.zl_rights.specs.declared.status.Status.TheVariants as status;
 ghost use Rattle.zl_code.specs.declared.boot.Statement.{Statement};
 ghost use Rattle.zl_code.specs.declared.history.CallName.{CallName};
+ghost use Rattle.zl_code.specs.declared.history.CallName.TheVariants as name;
 ghost use Rattle.zl_code.specs.declared.history.Outcome.TheVariants as outcome;
 ghost use Rattle.zl_code.specs.declared.history.TraceItem.{TraceItem};
+ghost use Rattle.zl_code.specs.declared.history.TraceItem.TheVariants as item;
 ghost use Rattle.zl_code.specs.declared.instr.CallInstr.{CallInstr};
-ghost use Rattle.zl_code.specs.Image.{Image, Library, call_at};
+ghost use Rattle.zl_code.specs.Image.{Image, Library, call_at, is_among};
+ghost use Rattle.zl_code.specs.Tests.{creates};
+ghost use Rattle.zl_rights.specs.declared.policy.Condition.{Condition};
 ghost use Rattle.zl_code.specs.Spells.{is_in_range};
 ghost use Rattle.zl_code.specs.Handles.{HandlesAreSound};
 ghost use Rattle.zl_code.specs.Request.{Site};
 ghost use Rattle.zl_code.specs.Calls.{Calls};
+ghost use Rattle.zl_code.specs.Starting.{program_of};
 ghost use Rattle.zl_code.specs.Steps.{Moves, IsStuck, Runs, next_at};
 ghost use Rattle.zl_abs.specs.States.{State};
 ghost use Rattle.zl_abs.specs.Rule.{Edge};
@@ -22,36 +28,37 @@ ghost use Rattle.zl_abs.specs.Typing.{rule, IsTyping};
 ghost use Rattle.zl_verify.specs.Steps.{is_pause, IsStepBound, IsOver};
 ghost use Rattle.zl_verify.specs.Over.{IsOverByCount};
 ghost use Rattle.zl_verify.specs.Conforms.{Conforms};
-ghost use Rattle.zl_verify.specs.LocalLaws.{IsUnbuilt, GoesOn};
+ghost use Rattle.zl_verify.specs.LocalLaws.{GoesOn};
 ghost use Rattle.zl_verify.specs.CallLaws.{QueuesAreSized, StandsAtCall, is_fault};
-ghost use Rattle.zl_verify.specs.CallLaws.{IsAnswered, IsWaiting, IsOwnExit, CanCall};
+ghost use Rattle.zl_verify.specs.CallLaws.{IsAnswered, IsWaiting, IsOwnEnd, CanCall};
 ghost use Rattle.zl_verify.specs.RunLaws.{IsFineItem, IsUnderWay, HasEnded, KeepsBudget};
 ghost use Rattle.zl_verify.specs.SizedLaws.{IsSizedBoot, CpusAreSized};
 ghost use Rattle.zl_verify.specs.SizedLaws.{HoldsInRuns, HoldsInHistories};
 ghost use Rattle.zl_verify.specs.WakeLaws.{AreAsDeclared, IsProperStart};
-ghost use Rattle.zl_verify.specs.WakeLaws.{IsBooted, IsRunStep, EndsStep};
+ghost use Rattle.zl_verify.specs.WakeLaws.{IsBooted, IsRunStep, EndsStep, OthersLeave, StartsChild};
+ghost use Rattle.zl_verify.specs.Headline.{IsStarted};
 
-/// In a world with sound handles, a process that is as a typing of its image says is never stuck, but
-/// at a call that isn't built yet: there the operands can be read and the memory is there. After a
-/// local instruction it stands at the end of a followed edge, and is there as the typing says. Own
-/// profile.
+/// In a world with sound handles, a process that is as a typing of its image says is never stuck.
+/// After a local instruction it stands at the end of a followed edge, and is there as the typing
+/// says. Own profile.
 pub fn local_step()
     ensures not_stuck { (i : Image) (t : ℕ → Option State) (w : World) (p : ℕ) (q : Process)
         → IsTrue (is_in_range i) → IsTyping i t → HandlesAreSound w
         → get w.processes p ≡ Some q → Conforms i t w p q
-        → next_at i q.cpu ≡ IsStuck → IsUnbuilt i q.cpu }
+        → next_at i q.cpu ≢ IsStuck }
     ensures goes_on { (i : Image) (t : ℕ → Option State) (w : World) (p : ℕ) (q : Process)
         → IsTrue (is_in_range i) → IsTyping i t → HandlesAreSound w
         → get w.processes p ≡ Some q → Conforms i t w p q
         → q.state ≡ Ready → (c : Cpu) → next_at i q.cpu ≡ Moves c → GoesOn i t w p q c }
 {}
 
-/// A process that is as a typing of its image says can ask for its call, but for one that isn't built.
-/// In a sound world in which what is queued fits who receives it, however the call then ends: no answer
-/// is BAD_HANDLE, WRONG_TYPE or ACCESS_DENIED, and behind an answer the process stands at the end of a
-/// followed edge, as the typing says there; where the call blocks, the process is as the typing says
-/// where it stands; and no policy ends it, as nothing does but its own `process_exit`. The world is that
-/// right after the call, before handles that nothing holds go and processes wake. Own profile.
+/// A process that is as a typing of its image says can ask for its call. In a sound world in which
+/// what is queued fits who receives it, however the call then ends: no answer is BAD_HANDLE,
+/// WRONG_TYPE or ACCESS_DENIED, and behind an answer the process stands at the end of a followed
+/// edge, as the typing says there; where the call blocks, the process is as the typing says where
+/// it stands; and no policy ends it, as nothing does but its own `process_exit`, or its own
+/// `task_kill` of itself or of a job above it. The world is that right after the call, before
+/// handles that nothing holds go and processes wake. Own profile.
 pub fn own_call()
     ensures can_call { (i : Image) (t : ℕ → Option State) (w : World) (p : ℕ) (q : Process)
         → IsTrue (is_in_range i) → IsTyping i t → HandlesAreSound w
@@ -71,7 +78,7 @@ pub fn own_call()
     ensures ends_itself { (i : Image) (t : ℕ → Option State) (w : World) (p : ℕ) (q : Process)
         (called : CallName) (s : Site) → StandsAtCall i t w p q called s
         → (lib : Library) (code : ℤ) (w2 : World)
-        → Calls lib w p s (outcome.Ended code) w2 → IsOwnExit called s code }
+        → Calls lib w p s (outcome.Ended code) w2 → IsOwnEnd w p called s code }
 {}
 
 /// In every world of a run from a boot world, and of a legal history from one, what is queued fits
@@ -87,10 +94,11 @@ pub fn runs_keep_queues_sized()
 
 /// A process that is started with handles as its image declares them, and whose job allows what the
 /// image needs, is as a typing of its image says; a boot starts each of its processes so, where the
-/// handles that it gives to it are as the image declares them. And in each step of a run from a
-/// boot world, a process that is so right after what the step does is so at its end, once handles
-/// that nothing holds are gone, waits have given their packets and processes are awake: it is as it
-/// was, or it waited, and stands ready at the end of a followed edge. Own profile.
+/// handles that it gives to it are as the image declares them and the policy of its job allows what
+/// the image needs. And in each step of a run from a boot world, a process that is so right after
+/// what the step does is so at its end, once handles that nothing holds are gone, waits have given
+/// their packets and processes are awake: it is as it was, or it waited, and stands ready at the
+/// end of a followed edge. Own profile.
 pub fn start_and_wake()
     ensures starts { (i : Image) (t : ℕ → Option State) (w : World) (p : ℕ) (q : Process)
         → IsTrue (is_in_range i) → IsTyping i t → IsProperStart i w p q → Conforms i t w p q }
@@ -99,7 +107,9 @@ pub fn start_and_wake()
         → IsSizedBoot lib statements boot → get boot.processes p ≡ Some q
         → (s : IsBooted lib q) × ((i : Image) (checked : Bool)
         → slice_get lib s.program ≡ Some (record { checked = checked; image = i })
-        → AreAsDeclared i.starts s.handles → IsProperStart i boot p q) }
+        → AreAsDeclared i.starts s.handles
+        → ((c : Condition) → IsTrue (is_among i.needs c) → creates boot p c ≡ None)
+        → IsProperStart i boot p q) }
     ensures wakes { (i : Image) (t : ℕ → Option State)
         (lib : Library) (w : World) (p : ℕ) (x : TraceItem) (w2 : World)
         → IsTrue (is_in_range i) → IsTyping i t → (run : IsRunStep lib w p x w2)
@@ -108,28 +118,41 @@ pub fn start_and_wake()
         → EndsStep i t q process w2 }
 {}
 
+/// In a run from a boot world, a process that another starts by a `process_start` that is answered
+/// OK has been started properly, where its program is checked: it is ready, with a handle as its
+/// image declares it, and its job allows what the image needs. So what is promised from a proper
+/// start on is promised of it too. Own profile.
+pub fn started_by_another()
+    ensures { (i : Image) (lib : Library) (w : World) (p : ℕ) (x : TraceItem) (w2 : World) (k : ℕ)
+        → (run : IsRunStep lib w p x w2)
+        → x ≡ item.Call p name.ProcessStart (outcome.Answered status.Ok)
+        → StartsChild lib w p run.step.process k
+        → program_of lib w k ≡ Some (record { checked = true; image = i })
+        → IsStarted lib i w2 k }
+{}
+
 /// In each step of a run from a boot world, a process that runs and is as a typing of its image
 /// says is so after the step of another, whatever that does: it is as it was, or it waited, and
-/// stands ready at the end of a followed edge. Own profile.
+/// stands ready at the end of a followed edge. Or it was killed, and has ended. Own profile.
 pub fn steps_of_others()
     ensures { (i : Image) (t : ℕ → Option State)
         (lib : Library) (w : World) (p : ℕ) (x : TraceItem) (w2 : World)
         → IsTrue (is_in_range i) → IsTyping i t → IsRunStep lib w p x w2
         → (q : ℕ) (process : Process) → (p == q) ≡ false → get w.processes q ≡ Some process
-        → IsTrue (runs process.state) → Conforms i t w q process → EndsStep i t q process w2 }
+        → IsTrue (runs process.state) → Conforms i t w q process → OthersLeave i t q process w2 }
 {}
 
 /// In a run from a boot world, from where a process runs and is as a typing of its image says,
 /// whatever it and others do: none of its calls is answered BAD_HANDLE, WRONG_TYPE or
-/// ACCESS_DENIED, no call ends it but its own `process_exit`, so that no policy does, and it is
-/// stuck only at a call that isn't built. In each world that follows it runs, and is as the typing
-/// says, or has ended. Own profile.
+/// ACCESS_DENIED, no call of its own ends it but `process_exit` and `task_kill` of itself or of a
+/// job above it, so that no policy does, and it is never stuck. In each world that follows it runs,
+/// and is as the typing says, or has ended, as it also does where another kills it. Own profile.
 pub fn never_refused()
     ensures fine { (i : Image) (t : ℕ → Option State) → IsTrue (is_in_range i) → IsTyping i t
         → (lib : Library) (statements : List Statement) (boot w after : World)
         (items more : List TraceItem) (p : ℕ)
         → IsSizedBoot lib statements boot → Runs lib boot items w → IsUnderWay lib i t w p
-        → Runs lib w more after → AllByRecursion (IsFineItem i p) more }
+        → Runs lib w more after → AllByRecursion (IsFineItem p) more }
     ensures stays { (i : Image) (t : ℕ → Option State) → IsTrue (is_in_range i) → IsTyping i t
         → (lib : Library) (statements : List Statement) (boot w after : World)
         (items more : List TraceItem) (p : ℕ)

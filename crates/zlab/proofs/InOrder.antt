@@ -3,6 +3,15 @@ use Rattle.zlab.proofs.Common.{◌≡◌, ℕ, ◌+◌, ◌≤◌, Bool, true, f
 use Rattle.zl_code.specs.declared.boot.Grant.{Grant}
 use Rattle.zl_code.specs.declared.boot.Statement.{Statement}
 use Rattle.zl_code.specs.declared.boot.Statement.TheVariants as statement
+use Rattle.zl_rights.specs.declared.policy.Action.{Action}
+use Rattle.zl_rights.specs.declared.policy.Condition.{Condition}
+use Rattle.std.specs.Prelude.{◌&&◌, codes}
+use Rattle.zl_asm.specs.Words.{is_word}
+use Rattle.zl_rights.specs.Names.{condition_named}
+use Rattle.zl_rights.specs.Signals.{is_empty}
+use Rattle.zlab.specs.Handles.{handles_of}
+use Rattle.zlab.specs.Lines.{number_of}
+use Rattle.zlab.specs.Scenario.{action_named, job_said, policy_said}
 use Rattle.zlab.specs.declared.fault.Cause.{Cause}
 use Rattle.zlab.specs.declared.fault.Cause.TheVariants as cause
 
@@ -69,6 +78,20 @@ process_below n said new (Some job) (Some program) None handles h e = absurd (cc
 process_below n said new (Some job) None word handles h e = absurd (cc)
 process_below n said new None program word handles h e = absurd (cc)
 
+job_below : (n : ℕ) (said new : Scenario) (parent : Option ℕ) → IsBelow n said → job_said n said parent ≡ Ok new → IsBelow (n + 1) new
+unfolding job_said
+job_below n said new (Some parent) h e = let same : with_statement said n (statement.Job parent) ≡ new = cc in subst (IsBelow (n + 1)) same (statement_below n said (statement.Job parent) h)
+job_below n said new None h e = absurd (cc)
+
+policy_below : (n : ℕ) (said new : Scenario) (job : Option ℕ) (condition : Option Condition) (act : Option Action) → IsBelow n said → policy_said n said job condition act ≡ Ok new → IsBelow (n + 1) new
+unfolding policy_said
+policy_below n said new (Some job) (Some condition) (Some act) h e =
+    let same : with_statement said n (statement.Policy job condition act) ≡ new = cc in
+    subst (IsBelow (n + 1)) same (statement_below n said (statement.Policy job condition act) h)
+policy_below n said new (Some job) (Some condition) None h e = absurd (cc)
+policy_below n said new (Some job) None act h e = absurd (cc)
+policy_below n said new None condition act h e = absurd (cc)
+
 object_below : (n : ℕ) (said new : Scenario) (o : Option Statement) → IsBelow n said → object_said n said o ≡ Ok new → IsBelow (n + 1) new
 object_below n said new (Some s) h e = let same : with_statement said n s ≡ new = cc in subst (IsBelow (n + 1)) same (statement_below n said s h)
 object_below n said new None h e = absurd (cc)
@@ -90,6 +113,17 @@ opened_placed : (n : ℕ) (said : Scenario) (body : Option Body) (next : Place) 
 opened_placed n said (Some body) next h e = let same : at said (Block n false body) ≡ next = cc in subst (IsPlaced (n + 1)) same (record { below = h; told = omega arith })
 opened_placed n said None next h e = absurd (cc)
 
+-- one statement of two, by two tests
+either_placed : (n : ℕ) (t u : Bool) (one other : Result Scenario Cause) (next : Place) → ((new : Scenario) → one ≡ Ok new → IsBelow (n + 1) new) → ((new : Scenario) → other ≡ Ok new → IsBelow (n + 1) new)
+    → cond t (onto Statements one) (cond u (onto Statements other) (Err cause.Syntax)) ≡ Ok next → IsPlaced (n + 1) next
+either_placed n true u one other next f g e =
+    let read = onto_ok Statements one next e in
+    next_line n Statements next read.0 refl (f read.0 read.1) read.2
+either_placed n false true one other next f g e =
+    let read = onto_ok Statements other next e in
+    next_line n Statements next read.0 refl (g read.0 read.1) read.2
+either_placed n false false one other next f g e = absurd (cc)
+
 statement_placed : (n : ℕ) (said : Scenario) (words : List (List ℕ)) (next : Place) → IsBelow n said → statement_said n said words ≡ Ok next → IsPlaced (n + 1) next
 unfolding statement_said
 statement_placed n said [] next h e = next_line n Statements next said refl (below_more n (n + 1) said h (omega arith)) (cc)
@@ -101,12 +135,13 @@ statement_placed n said (name ∷ []) next h e = alone _ e
         let read = onto_ok Statements _ next e in
         next_line n Statements next read.0 refl (object_below n said read.0 _ h read.1) read.2
 statement_placed n said (name ∷ most ∷ []) next h e =
-    let read = onto_ok Statements _ next (then_ok _ _ next _ e) in
-    next_line n Statements next read.0 refl (limit_below n said read.0 _ h read.1) read.2
+    either_placed n (is_word name (codes "limit")) (is_word name (codes "job")) (limit_said said (number_of most)) (job_said n said (number_of most)) next
+    (λ new. limit_below n said new _ h) (λ new. job_below n said new _ h) e
 statement_placed n said (name ∷ mark ∷ form ∷ []) next h e = opened_placed n said (body_named name mark form) next h e
 statement_placed n said (name ∷ job ∷ program ∷ word ∷ handles) next h e =
-    let read = onto_ok Statements _ next (then_ok _ _ next _ e) in
-    next_line n Statements next read.0 refl (process_below n said read.0 _ _ _ _ h read.1) read.2
+    either_placed n (is_word name (codes "policy") && is_empty handles) (is_word name (codes "process")) (policy_said n said (number_of job) (condition_named program) (action_named word))
+    (process_said n said (number_of job) (number_of program) (number_of word) (handles_of handles)) next
+    (λ new. policy_below n said new _ _ _ h) (λ new. process_below n said new _ _ _ _ h) e
 
 program_below : (is_refused : Refusals) (n : ℕ) (said new : Scenario) (checked : Bool) (bytes : Result (List ℕ) Cause) → IsBelow n said → program_said is_refused said checked bytes ≡ Ok new → IsBelow n new
 unfolding program_said

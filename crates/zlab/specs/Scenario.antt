@@ -1,6 +1,11 @@
 -- What the lines of a scenario and of its schedule say, one after another, and the first fault of each.
 use Rattle.std.specs.Prelude.{ℕ, ◌≡◌, ◌≤◌, ◌+◌, ◌%◌, Bool, false, ◌&&◌, not, ◌==◌, nat_lt, nat_le, List, [], ◌∷◌, ◌++◌, length, codes, Option, Some, None, is_some, IfSome, Result, Ok, Err, if◌then◌else◌}
 use Rattle.zl_code.specs.Common.{MOST_ITEMS, first_fault}
+use Rattle.zl_rights.specs.Names.{condition_named}
+use Rattle.zl_rights.specs.Signals.{is_empty}
+use Rattle.zl_rights.specs.declared.policy.Action.{Action}
+use Rattle.zl_rights.specs.declared.policy.Action.TheVariants as action
+use Rattle.zl_rights.specs.declared.policy.Condition.{Condition}
 use Rattle.zl_code.specs.declared.boot.Grant.{Grant}
 use Rattle.zl_code.specs.declared.boot.Statement.{Statement}
 use Rattle.zl_code.specs.declared.boot.Statement.TheVariants as statement
@@ -71,6 +76,23 @@ process_said n said (Some job) (Some program) (Some word) (Some handles) =
     if nat_lt program (length said.programs) then Ok (with_statement said n (statement.Process job program word handles)) else Err cause.Unknown
 process_said n said _ _ _ _ = Err cause.Syntax
 
+-- `job PARENT`: a number
+unfoldable pub job_said : ℕ → Scenario → Option ℕ → Result Scenario Cause
+job_said n said (Some parent) = Ok (with_statement said n (statement.Job parent))
+job_said n said None = Err cause.Syntax
+
+-- an action, as a line names it
+unfoldable pub action_named : List ℕ → Option Action
+action_named name =
+    if is_word name (codes "ALLOW") then Some action.Allow
+    else (if is_word name (codes "DENY") then Some action.Deny
+    else (if is_word name (codes "KILL") then Some action.Kill else None))
+
+-- `policy JOB CONDITION ACTION`: a number and two names
+unfoldable pub policy_said : ℕ → Scenario → Option ℕ → Option Condition → Option Action → Result Scenario Cause
+policy_said n said (Some job) (Some condition) (Some action) = Ok (with_statement said n (statement.Policy job condition action))
+policy_said n said _ _ _ = Err cause.Syntax
+
 -- `event`, `port` or `channel`
 unfoldable pub object_named : List ℕ → Option Statement
 object_named name =
@@ -104,10 +126,14 @@ opened_by n said None = Err cause.Syntax
 unfoldable pub statement_said : ℕ → Scenario → List (List ℕ) → Result Place Cause
 statement_said n said [] = Ok (at said Statements)
 statement_said n said (name ∷ []) = if is_word name (codes "--") then Ok (at said Schedule) else onto Statements (object_said n said (object_named name))
-statement_said n said (name ∷ most ∷ []) = if is_word name (codes "limit") then onto Statements (limit_said said (number_of most)) else Err cause.Syntax
+statement_said n said (name ∷ most ∷ []) =
+    if is_word name (codes "limit") then onto Statements (limit_said said (number_of most))
+    else (if is_word name (codes "job") then onto Statements (job_said n said (number_of most)) else Err cause.Syntax)
 statement_said n said (name ∷ mark ∷ form ∷ []) = opened_by n said (body_named name mark form)
 statement_said n said (name ∷ job ∷ program ∷ word ∷ handles) =
-    if is_word name (codes "process") then onto Statements (process_said n said (number_of job) (number_of program) (number_of word) (handles_of handles)) else Err cause.Syntax
+    if is_word name (codes "policy") && is_empty handles then onto Statements (policy_said n said (number_of job) (condition_named program) (action_named word))
+    else (if is_word name (codes "process") then onto Statements (process_said n said (number_of job) (number_of program) (number_of word) (handles_of handles))
+    else Err cause.Syntax)
 
 -- ---- the block of a program
 

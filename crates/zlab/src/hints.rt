@@ -10,6 +10,7 @@ mod above;
 mod command;
 mod failing;
 mod handles;
+mod jobs;
 mod numbers;
 mod refusal;
 mod scenario;

@@ -10,7 +10,7 @@ unlet! b:current_syntax
 syntax match zlsNumber /\<\d\+\>/
 " A first word that nothing below knows. What is defined later is tried first.
 syntax match zlsUnknown /\%(^ *\)\@<=[^ ]\+/
-syntax match zlsStatement /\%(^ *\)\@<=\%(process\|limit\)\>/
+syntax match zlsStatement /\%(^ *\)\@<=\%(process\|job\|policy\|limit\)\>/
 " An object stands alone on its line.
 syntax match zlsStatement /^ *\%(event\|port\|channel\) *$/
 " A handle: the rights for `*` too.

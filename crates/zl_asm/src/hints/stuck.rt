@@ -2,7 +2,7 @@
 
 use crate::hints::instr_text::push_instr_text;
 use std::alloc::{AllocError, Global};
-use zl_code::{CallInstr, Image, Instr, InstrBytes, LocalInstr, Row};
+use zl_code::{CallInstr, Image, Instr, InstrBytes, LocalInstr};
 
 /// A stuck process.
 #[derive(Clone, Copy)]
@@ -53,10 +53,8 @@ fn push_reason(hint: &mut String, stuck: Stuck, instr: Instr) -> Result<(), Allo
         Instr::Unknown(_) => write!(hint, ": no instruction has the opcode {}", bytes[0]),
         Instr::Call(CallInstr::ChanWrite { .. }) => push_no_bytes(hint, stuck, bytes),
         Instr::Call(CallInstr::ChanReadEtc { .. }) => push_no_bytes(hint, stuck, bytes),
-        Instr::Call(_) => match Row::of_opcode(bytes[0]) {
-            Some(row) => write!(hint, ": the call {} isn't built yet", row.name),
-            None => Ok(()),
-        },
+        // every other call is answered
+        Instr::Call(_) => Ok(()),
         Instr::Local(local) => push_outside(hint, stuck, *local, bytes),
     }
 }

@@ -142,8 +142,8 @@ pub data Action : Type 1 where
   waits : (A : Type 0) (told : A → Told) (Acts : Handles → Objects → A → Handles → Objects → Type 0) (Awaits : Handles → Objects → Awaited → Type 0) → Action
   -- its caller ends with the code, and gets no answer
   exits : (code : ℤ) → Action
-  -- no instruction asks for it yet
-  unbuilt : Action
+  -- it reaches other processes too, and more is said of it where they are
+  reaches : Action
 
 -- its answer gives no value
 abbrev pub gives_none : (Handles → Objects → Result ⊤ Status → Handles → Objects → Type 0) → Action

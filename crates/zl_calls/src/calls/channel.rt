@@ -132,7 +132,7 @@ fn find_peer(
 }
 
 /// Whether each handle of the list may be sent, and none is listed twice.
-fn examine_list(table: &Table, handles: &[u64]) -> Result<(), Status>
+pub fn examine_list(table: &Table, handles: &[u64]) -> Result<(), Status>
     ensures { fault_of result ≡ list_refusal table.now.entries [] handles.now }
 {
     for (n, handle) in handles.iter().enumerate() {

@@ -2,6 +2,7 @@
 
 use crate::hints::above::{Above, Part, read_above};
 use crate::hints::handles::{push_no_handle, push_no_object, push_wrong_handles};
+use crate::hints::jobs::{push_job, push_no_job, push_policy};
 use crate::hints::numbers::{decimal, push_first_no_number, push_no_number};
 use std::alloc::{AllocError, Global};
 use zl_asm::hints::{
@@ -11,18 +12,18 @@ use zl_asm::hints::{
 use zl_rights::Kind;
 
 /// The statements and lines that there are.
-const STATEMENTS: [&str; 8] = [
-    "process", "program", "event", "port", "channel", "limit", "end", "--",
+const STATEMENTS: [&str; 10] = [
+    "process", "program", "event", "port", "channel", "job", "policy", "limit", "end", "--",
 ];
 
 /// The statements of one word.
 const OBJECTS: [&str; 3] = ["event", "port", "channel"];
 
-/// The statements that come later.
-const LATER: [&str; 2] = ["job", "policy"];
-
 /// The most processes that a scenario starts.
 const MOST_PROCESSES: usize = 64;
+
+/// The most objects that a scenario makes, the root job among them.
+const MOST_OBJECTS: usize = 1024;
 
 /// Adds a line that says why the scenario is refused, whose answer names this line, or 0, and this
 /// cause.
@@ -87,6 +88,11 @@ fn push_statement(
 ) -> Result<(), AllocError> {
     match words {
         [name, rest @ ..] if is(name, b"process") => push_process(hint, rest, above, cause),
+        [name, _] if is(name, b"job") && cause == "Limit" && is_full(above) => {
+            push_no_koid(hint, above)
+        }
+        [name, rest @ ..] if is(name, b"job") => push_job(hint, rest, above, cause),
+        [name, rest @ ..] if is(name, b"policy") => push_policy(hint, alloc, rest, above, cause),
         [name, rest @ ..] if is(name, b"limit") => push_limit(hint, rest),
         [name, rest @ ..] if is(name, b"program") => push_opening(hint, alloc, rest),
         [name, ..] if is_among(name, &OBJECTS) && cause == "Limit" => { push_no_koid(hint, above) }
@@ -103,11 +109,7 @@ fn push_statement(
 
 /// Adds which statement was meant by a word that is none.
 fn push_no_statement(hint: &mut String, alloc: Global, name: &[u8]) -> Result<(), AllocError> {
-    let word = Word(name);
-    if is_among(name, &LATER) {
-        return write!(hint, "the statement {word} comes later");
-    }
-    write!(hint, "no statement is called {word}")?;
+    write!(hint, "no statement is called {}", Word(name))?;
     if decimal(name).is_some() {
         return hint.push_str("; turns stand below a line --");
     }
@@ -161,14 +163,15 @@ fn push_unknown(
         return push_no_program(hint, program, programs);
     }
     if above.kind_of(decimal(job).unwrap_or(0)) != Some(Kind::Job) {
-        return write!(
-            hint,
-            "there is no job {}; job 1 is the root job, and the only one",
-            Word(job)
-        );
+        return push_no_job(hint, job, above);
     }
     push_no_object(hint, handles, above)?;
     Ok(())
+}
+
+/// Whether no further object can be made.
+fn is_full(above: &Above) -> bool {
+    above.objects.len() >= MOST_OBJECTS
 }
 
 /// Adds that too few koids are left, and how many there are of them.

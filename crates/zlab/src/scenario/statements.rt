@@ -1,9 +1,12 @@
 //! The lines that make a statement or open a part.
-ghost use Rattle.std.specs.Prelude.{◌≡◌, [], map};
+ghost use Rattle.std.specs.Prelude.{◌≡◌, ◌&&◌, [], ◌∷◌, map, codes};
+ghost use Rattle.zl_asm.specs.Words.{is_word};
+ghost use Rattle.zl_rights.specs.Signals.{is_empty};
 ghost use Rattle.std.specs.Option.{option_map};
 ghost use Rattle.zlab.specs.Lines.{number_of};
 ghost use Rattle.zlab.specs.Handles.{handles_of};
-ghost use Rattle.zlab.specs.Scenario.{at, body_named, object_named, process_said, limit_said, statement_said};
+ghost use Rattle.zl_rights.specs.Names.{condition_named};
+ghost use Rattle.zlab.specs.Scenario.{at, Statements, action_named, body_named, job_said, object_named, policy_said, process_said, limit_said, statement_said};
 ghost use Rattle.zlab.specs.Reading.{part_with, body_with, Tells, Keeps};
 
 use crate::fault::Cause;
@@ -16,6 +19,7 @@ use crate::scenario::part::Part;
 use crate::scenario::words::is;
 use std::alloc::Global;
 use zl_code::{Boot, Statement};
+use zl_rights::{Action, Condition};
 
 /// Reads the words of a line that stands among the statements, and answers what the next line
 /// belongs to. Where that is a block, `body` is empty.
@@ -41,8 +45,8 @@ pub fn read_statement(
             draft.push_statement(line, statement)?;
             Ok(Part::Statements)
         }
-        [name, most] if is(name, b"limit") => {
-            read_limit(draft, most)?;
+        [name, value] => {
+            read_pair(draft, line, name, value)?;
             Ok(Part::Statements)
         }
         [name, mark, form] => {
@@ -52,11 +56,49 @@ pub fn read_statement(
             body.open(form);
             Ok(Part::Block { opened: line })
         }
-        [name, job, program, word, handles @ ..] if is(name, b"process") => {
-            read_process(draft, alloc, line, job, program, word, handles)?;
-            Ok(Part::Statements)
+        [name, job, program, word, handles @ ..] => {
+            if is_policy(name, handles) {
+                read_policy(draft, line, job, program, word)?;
+                return Ok(Part::Statements);
+            }
+            if is(name, b"process") {
+                read_process(draft, alloc, line, job, program, word, handles)?;
+                return Ok(Part::Statements);
+            }
+            Err(Fault::Refused(Cause::Syntax))
         }
-        _ => Err(Fault::Refused(Cause::Syntax)),
+    }
+}
+
+/// Reads a line of a name and one number.
+#[tactic(auto, unfolding(crate::specs::Scenario::statement_said))]
+fn read_pair(draft: &mut Draft, line: u64, name: &[u8], value: &[u8]) -> Result<(), Fault>
+    ensures answer { Tells result (λ _. at draft.new Statements)
+        (statement_said line draft.old (name.now ∷ value.now ∷ [])) }
+    ensures unchanged { Keeps result draft.old draft.new }
+{
+    if is(name, b"limit") {
+        read_limit(draft, value)?;
+        return Ok(());
+    }
+    if is(name, b"job") {
+        read_job(draft, line, value)?;
+        return Ok(());
+    }
+    Err(Fault::Refused(Cause::Syntax))
+}
+
+/// Whether a line of this name, with these words behind its first four, is a policy.
+fn is_policy(name: &[u8], more: &[&[u8]]) -> bool
+    ensures { result ≡ (is_word name.now (codes "policy")
+        && is_empty (map (λ word. word.now) more.now)) }
+{
+    if !is(name, b"policy") {
+        return false;
+    }
+    match more {
+        [] => true,
+        _ => false,
     }
 }
 
@@ -126,6 +168,64 @@ fn read_process(
     };
     draft.push_statement(line, statement)?;
     Ok(())
+}
+
+#[tactic(auto, unfolding(crate::specs::Scenario::job_said))]
+fn read_job(draft: &mut Draft, line: u64, parent: &[u8]) -> Result<(), Fault>
+    ensures answer { Tells result (λ _. draft.new)
+        (job_said line draft.old (number_of parent.now)) }
+    ensures unchanged { Keeps result draft.old draft.new }
+{
+    let Some(parent) = number(parent) else {
+        return Err(Fault::Refused(Cause::Syntax));
+    };
+    draft.push_statement(line, Statement::Job { parent })?;
+    Ok(())
+}
+
+#[tactic(auto, unfolding(crate::specs::Scenario::policy_said))]
+fn read_policy(
+    draft: &mut Draft,
+    line: u64,
+    job: &[u8],
+    condition: &[u8],
+    action: &[u8],
+) -> Result<(), Fault>
+    ensures answer { Tells result (λ _. draft.new)
+        (policy_said line draft.old (number_of job.now) (condition_named condition.now)
+        (action_named action.now)) }
+    ensures unchanged { Keeps result draft.old draft.new }
+{
+    let (Some(job), Some(condition), Some(action)) = (
+        number(job),
+        Condition::named(condition),
+        action_named(action),
+    ) else {
+        return Err(Fault::Refused(Cause::Syntax));
+    };
+    let statement = Statement::Policy {
+        job,
+        condition,
+        action,
+    };
+    draft.push_statement(line, statement)?;
+    Ok(())
+}
+
+/// The action of this name, if one has it.
+#[tactic(auto, unfolding(crate::specs::Scenario::action_named))]
+fn action_named(name: &[u8]) -> Option<Action>
+    ensures { result ≡ action_named name.now }
+{
+    if is(name, b"ALLOW") {
+        Some(Action::Allow)
+    } else if is(name, b"DENY") {
+        Some(Action::Deny)
+    } else if is(name, b"KILL") {
+        Some(Action::Kill)
+    } else {
+        None
+    }
 }
 
 #[tactic(auto, unfolding(crate::specs::Scenario::limit_said))]

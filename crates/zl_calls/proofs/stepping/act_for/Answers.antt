@@ -1,63 +1,79 @@
-use Rattle.zl_calls.proofs.Common.{sym, ◌∙◌}
-use Rattle.zl_calls.proofs.Performing.{calls_so, moves_so, stops_so}
+use Rattle.zl_calls.proofs.Common.{sym, ◌∙◌, ◌<◌, length, process_value, ℕ}
+use Rattle.zl_calls.specs.declared.process.Process.{Process}
+use Rattle.zl_calls.specs.calls.Task.{lab}
+use Rattle.zl_calls.proofs.BlockedLists.{no_more}
+use Rattle.zl_calls.proofs.CallSteps.{called_so, moves_from, stops_from, caller_ready, within}
+use Rattle.zl_calls.proofs.Calling.{is_there}
+use Rattle.zl_calls.proofs.Idle.{are_bare}
+use Rattle.zl_calls.proofs.Performing.{HasLeft, HasActed}
 use Rattle.zl_calls.proofs.stepping.act_for.Goals as goal
 
+pub call_next-requires-clause-bare : goal.call_next-requires-clause-bare
+call_next-requires-clause-bare c = are_bare c.args.processes.now.items c.args.objects.now c.args.blocked.now.items c.requires.lab.processes_in_order c.requires.sound
+
+pub call_next-requires-clause-few : goal.call_next-requires-clause-few
+call_next-requires-clause-few c = no_more c.args.processes.now.items c.args.blocked.now.items c.requires.list
+
+pub call_next-requires-clause-ready : goal.call_next-requires-clause-ready
+call_next-requires-clause-ready c =
+    caller_ready c.args.processes.now.items c.args.pid c.in_ok-place.place c.index.result.now (rw c.deref.ensures.value at c.in_ok-place.ensures.first) c.index.ensures (sym c.is_ready.ensures ∙ c.if-not-is_ready.false)
+
 pub returns-in-Some-clause-acts : goal.returns-in-Some-clause-acts
-returns-in-Some-clause-acts c =
-    (calls_so c.args.library.now c.args.processes.now.items c.args.objects.now c.requires c.args.pid c.in_ok-place.place c.index_mut-process.result.now
-    (rw c.deref.ensures.value at c.in_ok-place.ensures.first) c.index_mut-process.ensures.value (sym c.is_ready.ensures ∙ c.if-not-is_ready.false)
-    c.in-Some.call c.in-Some.outcome c.call_next.new.process c.call_next.new.objects c.in-Some.ensures.calls).acts
-
-pub returns-in-Some-clause-list : goal.returns-in-Some-clause-list
-returns-in-Some-clause-list c =
-    (calls_so c.args.library.now c.args.processes.now.items c.args.objects.now c.requires c.args.pid c.in_ok-place.place c.index_mut-process.result.now
-    (rw c.deref.ensures.value at c.in_ok-place.ensures.first) c.index_mut-process.ensures.value (sym c.is_ready.ensures ∙ c.if-not-is_ready.false)
-    c.in-Some.call c.in-Some.outcome c.call_next.new.process c.call_next.new.objects c.in-Some.ensures.calls).list
-
-pub returns-in-Some-clause-lab : goal.returns-in-Some-clause-lab
-returns-in-Some-clause-lab c =
-    (calls_so c.args.library.now c.args.processes.now.items c.args.objects.now c.requires c.args.pid c.in_ok-place.place c.index_mut-process.result.now
-    (rw c.deref.ensures.value at c.in_ok-place.ensures.first) c.index_mut-process.ensures.value (sym c.is_ready.ensures ∙ c.if-not-is_ready.false)
-    c.in-Some.call c.in-Some.outcome c.call_next.new.process c.call_next.new.objects c.in-Some.ensures.calls).lab
+returns-in-Some-clause-acts c = rw c.leave.ensures
+    (called_so c.args.library.now c.args.processes.now.items c.args.objects.now c.requires.lab c.args.blocked.now.items c.requires.list c.requires.sound c.args.pid c.in_ok-place.place c.index.result.now
+    (rw c.deref.ensures.value at c.in_ok-place.ensures.first) c.index.ensures (sym c.is_ready.ensures ∙ c.if-not-is_ready.false) (lab c.call_next.new.processes.items c.call_next.new.objects c.call_next.new.blocked.items) c.in-Some.outcome c.in-Some.call
+    ((c.in-Some.ensures {u = tt}).calls c.index.result.now (is_there c.args.library.now c.args.processes.now.items c.args.objects.now c.args.blocked.now.items c.in_ok-place.place c.index.result.now (within c.args.processes.now.items c.args.pid c.in_ok-place.place c.index.result.now (rw c.deref.ensures.value at c.in_ok-place.ensures.first) c.index.ensures) c.index.ensures))).acts
 
 pub returns-in-Some-run_next-clause-acts : goal.returns-in-Some-run_next-clause-acts
 returns-in-Some-run_next-clause-acts c =
-    (moves_so c.args.library.now c.args.processes.now.items c.args.objects.now c.requires c.args.pid c.in_ok-place.place c.index_mut-process.result.now
-    (rw c.deref.ensures.value at c.in_ok-place.ensures.first) c.index_mut-process.ensures.value (sym c.is_ready.ensures ∙ c.if-not-is_ready.false)
-    c.call_next.new.process c.call_next.new.objects c.in_default.ensures.same_process c.in_default.ensures.same_objects
-    c.run_next.new.process c.in-Some-run_next.ensures.runs c.in-Some-run_next.ensures.cpu).acts
+    (moves_from c.args.library.now c.args.processes.now.items c.args.objects.now c.requires.lab c.args.blocked.now.items c.requires.list c.requires.sound c.args.pid c.in_ok-place.place c.index.result.now
+    (rw c.deref.ensures.value at c.in_ok-place.ensures.first) c.index.ensures (sym c.is_ready.ensures ∙ c.if-not-is_ready.false)
+    c.call_next.new.processes.items c.call_next.new.objects c.call_next.new.blocked.items (c.in_default.ensures {u = tt}).same_processes (c.in_default.ensures {u = tt}).same_objects (c.in_default.ensures {u = tt}).same_blocked c.index_mut-process.result.now c.index_mut-process.ensures.value
+    c.run_next.new.process (c.in-Some-run_next.ensures {u = tt}).runs (c.in-Some-run_next.ensures {u = tt}).cpu).acts
+
+pub returns-in-None-clause-acts : goal.returns-in-None-clause-acts
+returns-in-None-clause-acts c = rw c.leave-in-None.ensures
+    (stops_from c.args.library.now c.args.processes.now.items c.args.objects.now c.requires.lab c.args.blocked.now.items c.requires.list c.requires.sound c.args.pid c.in_ok-place.place c.index.result.now
+    (rw c.deref.ensures.value at c.in_ok-place.ensures.first) c.index.ensures (sym c.is_ready.ensures ∙ c.if-not-is_ready.false)
+    c.call_next.new.processes.items c.call_next.new.objects c.call_next.new.blocked.items (c.in_default.ensures {u = tt}).same_processes (c.in_default.ensures {u = tt}).same_objects (c.in_default.ensures {u = tt}).same_blocked c.index_mut-process.result.now c.index_mut-process.ensures.value
+    c.end.new.process c.end.new.objects ((c.in_default.ensures {u = tt}).missing c.index.result.now (is_there c.args.library.now c.args.processes.now.items c.args.objects.now c.args.blocked.now.items c.in_ok-place.place c.index.result.now (within c.args.processes.now.items c.args.pid c.in_ok-place.place c.index.result.now (rw c.deref.ensures.value at c.in_ok-place.ensures.first) c.index.ensures) c.index.ensures)) (c.in-None.ensures {u = tt}).stuck (rw (c.in-None.ensures {u = tt}).unchanged at c.end.ensures)).acts
+
+pub returns-in-Some-clause-list : goal.returns-in-Some-clause-list
+returns-in-Some-clause-list c = rw c.leave.ensures
+    (called_so c.args.library.now c.args.processes.now.items c.args.objects.now c.requires.lab c.args.blocked.now.items c.requires.list c.requires.sound c.args.pid c.in_ok-place.place c.index.result.now
+    (rw c.deref.ensures.value at c.in_ok-place.ensures.first) c.index.ensures (sym c.is_ready.ensures ∙ c.if-not-is_ready.false) (lab c.call_next.new.processes.items c.call_next.new.objects c.call_next.new.blocked.items) c.in-Some.outcome c.in-Some.call
+    ((c.in-Some.ensures {u = tt}).calls c.index.result.now (is_there c.args.library.now c.args.processes.now.items c.args.objects.now c.args.blocked.now.items c.in_ok-place.place c.index.result.now (within c.args.processes.now.items c.args.pid c.in_ok-place.place c.index.result.now (rw c.deref.ensures.value at c.in_ok-place.ensures.first) c.index.ensures) c.index.ensures))).list
 
 pub returns-in-Some-run_next-clause-list : goal.returns-in-Some-run_next-clause-list
 returns-in-Some-run_next-clause-list c =
-    (moves_so c.args.library.now c.args.processes.now.items c.args.objects.now c.requires c.args.pid c.in_ok-place.place c.index_mut-process.result.now
-    (rw c.deref.ensures.value at c.in_ok-place.ensures.first) c.index_mut-process.ensures.value (sym c.is_ready.ensures ∙ c.if-not-is_ready.false)
-    c.call_next.new.process c.call_next.new.objects c.in_default.ensures.same_process c.in_default.ensures.same_objects
-    c.run_next.new.process c.in-Some-run_next.ensures.runs c.in-Some-run_next.ensures.cpu).list
+    (moves_from c.args.library.now c.args.processes.now.items c.args.objects.now c.requires.lab c.args.blocked.now.items c.requires.list c.requires.sound c.args.pid c.in_ok-place.place c.index.result.now
+    (rw c.deref.ensures.value at c.in_ok-place.ensures.first) c.index.ensures (sym c.is_ready.ensures ∙ c.if-not-is_ready.false)
+    c.call_next.new.processes.items c.call_next.new.objects c.call_next.new.blocked.items (c.in_default.ensures {u = tt}).same_processes (c.in_default.ensures {u = tt}).same_objects (c.in_default.ensures {u = tt}).same_blocked c.index_mut-process.result.now c.index_mut-process.ensures.value
+    c.run_next.new.process (c.in-Some-run_next.ensures {u = tt}).runs (c.in-Some-run_next.ensures {u = tt}).cpu).list
+
+pub returns-in-None-clause-list : goal.returns-in-None-clause-list
+returns-in-None-clause-list c = rw c.leave-in-None.ensures
+    (stops_from c.args.library.now c.args.processes.now.items c.args.objects.now c.requires.lab c.args.blocked.now.items c.requires.list c.requires.sound c.args.pid c.in_ok-place.place c.index.result.now
+    (rw c.deref.ensures.value at c.in_ok-place.ensures.first) c.index.ensures (sym c.is_ready.ensures ∙ c.if-not-is_ready.false)
+    c.call_next.new.processes.items c.call_next.new.objects c.call_next.new.blocked.items (c.in_default.ensures {u = tt}).same_processes (c.in_default.ensures {u = tt}).same_objects (c.in_default.ensures {u = tt}).same_blocked c.index_mut-process.result.now c.index_mut-process.ensures.value
+    c.end.new.process c.end.new.objects ((c.in_default.ensures {u = tt}).missing c.index.result.now (is_there c.args.library.now c.args.processes.now.items c.args.objects.now c.args.blocked.now.items c.in_ok-place.place c.index.result.now (within c.args.processes.now.items c.args.pid c.in_ok-place.place c.index.result.now (rw c.deref.ensures.value at c.in_ok-place.ensures.first) c.index.ensures) c.index.ensures)) (c.in-None.ensures {u = tt}).stuck (rw (c.in-None.ensures {u = tt}).unchanged at c.end.ensures)).list
+
+pub returns-in-Some-clause-lab : goal.returns-in-Some-clause-lab
+returns-in-Some-clause-lab c = rw c.leave.ensures
+    (called_so c.args.library.now c.args.processes.now.items c.args.objects.now c.requires.lab c.args.blocked.now.items c.requires.list c.requires.sound c.args.pid c.in_ok-place.place c.index.result.now
+    (rw c.deref.ensures.value at c.in_ok-place.ensures.first) c.index.ensures (sym c.is_ready.ensures ∙ c.if-not-is_ready.false) (lab c.call_next.new.processes.items c.call_next.new.objects c.call_next.new.blocked.items) c.in-Some.outcome c.in-Some.call
+    ((c.in-Some.ensures {u = tt}).calls c.index.result.now (is_there c.args.library.now c.args.processes.now.items c.args.objects.now c.args.blocked.now.items c.in_ok-place.place c.index.result.now (within c.args.processes.now.items c.args.pid c.in_ok-place.place c.index.result.now (rw c.deref.ensures.value at c.in_ok-place.ensures.first) c.index.ensures) c.index.ensures))).lab
 
 pub returns-in-Some-run_next-clause-lab : goal.returns-in-Some-run_next-clause-lab
 returns-in-Some-run_next-clause-lab c =
-    (moves_so c.args.library.now c.args.processes.now.items c.args.objects.now c.requires c.args.pid c.in_ok-place.place c.index_mut-process.result.now
-    (rw c.deref.ensures.value at c.in_ok-place.ensures.first) c.index_mut-process.ensures.value (sym c.is_ready.ensures ∙ c.if-not-is_ready.false)
-    c.call_next.new.process c.call_next.new.objects c.in_default.ensures.same_process c.in_default.ensures.same_objects
-    c.run_next.new.process c.in-Some-run_next.ensures.runs c.in-Some-run_next.ensures.cpu).lab
-
-pub returns-in-None-clause-acts : goal.returns-in-None-clause-acts
-returns-in-None-clause-acts c =
-    (stops_so c.args.library.now c.args.processes.now.items c.args.objects.now c.requires c.args.pid c.in_ok-place.place c.index_mut-process.result.now
-    (rw c.deref.ensures.value at c.in_ok-place.ensures.first) c.index_mut-process.ensures.value (sym c.is_ready.ensures ∙ c.if-not-is_ready.false)
-    c.call_next.new.process c.call_next.new.objects c.in_default.ensures.same_process c.in_default.ensures.same_objects
-    c.end.new.process c.end.new.objects c.in_default.ensures.missing c.in-None.ensures.stuck (rw c.in-None.ensures.unchanged at c.end.ensures)).acts
-
-pub returns-in-None-clause-list : goal.returns-in-None-clause-list
-returns-in-None-clause-list c =
-    (stops_so c.args.library.now c.args.processes.now.items c.args.objects.now c.requires c.args.pid c.in_ok-place.place c.index_mut-process.result.now
-    (rw c.deref.ensures.value at c.in_ok-place.ensures.first) c.index_mut-process.ensures.value (sym c.is_ready.ensures ∙ c.if-not-is_ready.false)
-    c.call_next.new.process c.call_next.new.objects c.in_default.ensures.same_process c.in_default.ensures.same_objects
-    c.end.new.process c.end.new.objects c.in_default.ensures.missing c.in-None.ensures.stuck (rw c.in-None.ensures.unchanged at c.end.ensures)).list
+    (moves_from c.args.library.now c.args.processes.now.items c.args.objects.now c.requires.lab c.args.blocked.now.items c.requires.list c.requires.sound c.args.pid c.in_ok-place.place c.index.result.now
+    (rw c.deref.ensures.value at c.in_ok-place.ensures.first) c.index.ensures (sym c.is_ready.ensures ∙ c.if-not-is_ready.false)
+    c.call_next.new.processes.items c.call_next.new.objects c.call_next.new.blocked.items (c.in_default.ensures {u = tt}).same_processes (c.in_default.ensures {u = tt}).same_objects (c.in_default.ensures {u = tt}).same_blocked c.index_mut-process.result.now c.index_mut-process.ensures.value
+    c.run_next.new.process (c.in-Some-run_next.ensures {u = tt}).runs (c.in-Some-run_next.ensures {u = tt}).cpu).lab
 
 pub returns-in-None-clause-lab : goal.returns-in-None-clause-lab
-returns-in-None-clause-lab c =
-    (stops_so c.args.library.now c.args.processes.now.items c.args.objects.now c.requires c.args.pid c.in_ok-place.place c.index_mut-process.result.now
-    (rw c.deref.ensures.value at c.in_ok-place.ensures.first) c.index_mut-process.ensures.value (sym c.is_ready.ensures ∙ c.if-not-is_ready.false)
-    c.call_next.new.process c.call_next.new.objects c.in_default.ensures.same_process c.in_default.ensures.same_objects
-    c.end.new.process c.end.new.objects c.in_default.ensures.missing c.in-None.ensures.stuck (rw c.in-None.ensures.unchanged at c.end.ensures)).lab
+returns-in-None-clause-lab c = rw c.leave-in-None.ensures
+    (stops_from c.args.library.now c.args.processes.now.items c.args.objects.now c.requires.lab c.args.blocked.now.items c.requires.list c.requires.sound c.args.pid c.in_ok-place.place c.index.result.now
+    (rw c.deref.ensures.value at c.in_ok-place.ensures.first) c.index.ensures (sym c.is_ready.ensures ∙ c.if-not-is_ready.false)
+    c.call_next.new.processes.items c.call_next.new.objects c.call_next.new.blocked.items (c.in_default.ensures {u = tt}).same_processes (c.in_default.ensures {u = tt}).same_objects (c.in_default.ensures {u = tt}).same_blocked c.index_mut-process.result.now c.index_mut-process.ensures.value
+    c.end.new.process c.end.new.objects ((c.in_default.ensures {u = tt}).missing c.index.result.now (is_there c.args.library.now c.args.processes.now.items c.args.objects.now c.args.blocked.now.items c.in_ok-place.place c.index.result.now (within c.args.processes.now.items c.args.pid c.in_ok-place.place c.index.result.now (rw c.deref.ensures.value at c.in_ok-place.ensures.first) c.index.ensures) c.index.ensures)) (c.in-None.ensures {u = tt}).stuck (rw (c.in-None.ensures {u = tt}).unchanged at c.end.ensures)).lab

@@ -1,4 +1,4 @@
-use Rattle.std.proofs.Common.{◌≡◌, [], vec_capacity}
+use Rattle.std.proofs.Common.{◌≡◌, ◌+◌, [], length, vec_capacity}
 use Rattle.zl_objects.specs.Dying.{LetsGo, budget}
 use Rattle.zl_objects.proofs.releasing.remove_dying.Given as goal
 
@@ -9,4 +9,4 @@ invariant-loop-koid l = record {
 }
 
 abbrev pub decreases-loop-koid : goal.decreases-loop-koid
-decreases-loop-koid l = budget l.by_koid.entries l.dying.items
+decreases-loop-koid l = budget l.by_koid.entries l.dying.items + length l.by_koid.entries

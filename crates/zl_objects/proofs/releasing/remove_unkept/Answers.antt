@@ -1,44 +1,19 @@
-use Rattle.zl_rights.proofs.Common.{arith, ◌≡◌, [], ap, sym, subst, ◌∙◌, without, None, refl}
-use Rattle.zl_objects.specs.Objects.{queue_of}
-use Rattle.zl_objects.specs.Release.{named_in}
-use Rattle.zl_objects.specs.Dying.{unkept_at, LetsGo}
-use Rattle.zl_objects.specs.Waits.{ending_waits}
-use Rattle.zl_objects.proofs.Budget.{IsTaken, kept_went, less_ending, none_left_at, none_taken, none_went, no_queue, taken, unkept_went}
-use Rattle.zl_objects.proofs.Ending.{ended_by}
+use Rattle.std.proofs.Common.{arith, ◌≡◌, ◌∷◌, [], refl, sym, ◌∙◌, vec_capacity}
+use Rattle.zl_objects.proofs.Budget.{none_noted, test_fits, test_kept}
 use Rattle.zl_objects.proofs.releasing.remove_unkept.Goals as goal
 
-pub returns-in_default-clause-goes : goal.returns-in_default-clause-goes
-returns-in_default-clause-goes c =
-    let none : unkept_at c.args.by_koid.now.entries c.args.koid ≡ None = sym c.take_unkept.ensures.taken ∙ c.in_default.is in
-    rw (c.take_unkept.ensures.left, none_left_at c.args.by_koid.now.entries c.args.koid none) (kept_went c.args.by_koid.now.entries c.args.dying.now.items c.args.koid (none_taken c.args.by_koid.now.entries c.args.koid none))
+pub push_reserved-requires : goal.push_reserved-requires
+push_reserved-requires c = omega (arith, none_noted c.args.by_koid.now.entries c.args.koid (vec_capacity c.args.dying.now) c.args.dying.now.items (sym c.is_unkept.ensures ∙ c.if-is_unkept.true) c.requires.none c.requires.room, c.args.dying.now.ok.0)
 
-pub let_go_queue-requires : goal.let_go_queue-requires
-let_go_queue-requires c =
-    let was : IsTaken c.args.by_koid.now.entries c.args.koid c.in-Some.gone = taken c.args.by_koid.now.entries c.args.koid c.in-Some.gone (sym c.take_unkept.ensures.taken ∙ c.in-Some.is) in
-    let ended : c.end_waits.new.by_koid.entries ≡ ending_waits c.args.koid c.in-Some.gone (without c.args.by_koid.now.entries c.args.koid) = c.end_waits.ensures ∙ ended_by c.args.by_koid.now.entries c.take_unkept.new.by_koid.entries c.args.koid c.in-Some.gone c.has_reserved-reserved.result was.there (c.take_unkept.ensures.left ∙ was.left) c.has_reserved-reserved.ensures in
-    record { fits = rw ended (omega (arith, less_ending c.args.by_koid.now.entries c.args.dying.now.items c.args.koid c.in-Some.gone, c.requires.fits)) }
+pub remove_dying-requires : goal.remove_dying-requires
+remove_dying-requires c =
+    let noted : c.push_reserved.new.self.items ≡ c.args.koid ∷ [] = c.push_reserved.ensures.items ∙ rw c.requires.none refl in
+    record { fits = rw noted (omega (arith, test_fits c.args.by_koid.now.entries c.args.koid (sym c.is_unkept.ensures ∙ c.if-is_unkept.true), c.requires.room, c.push_reserved.ensures.capacity)) }
 
-pub returns-in-ChannelEnd-clause-goes : goal.returns-in-ChannelEnd-clause-goes
-returns-in-ChannelEnd-clause-goes c =
-    let was : IsTaken c.args.by_koid.now.entries c.args.koid c.in-Some.gone = taken c.args.by_koid.now.entries c.args.koid c.in-Some.gone (sym c.take_unkept.ensures.taken ∙ c.in-Some.is) in
-    let ended : c.end_waits.new.by_koid.entries ≡ ending_waits c.args.koid c.in-Some.gone (without c.args.by_koid.now.entries c.args.koid) = c.end_waits.ensures ∙ ended_by c.args.by_koid.now.entries c.take_unkept.new.by_koid.entries c.args.koid c.in-Some.gone c.has_reserved-reserved.result was.there (c.take_unkept.ensures.left ∙ was.left) c.has_reserved-reserved.ensures in
-    let went : LetsGo (named_in c.in-ChannelEnd.queue) (ending_waits c.args.koid c.in-Some.gone (without c.args.by_koid.now.entries c.args.koid)) c.args.dying.now.items c.let_go_queue.new.by_koid.entries c.let_go_queue.new.dying.items = rw ended at c.let_go_queue.ensures.goes in
-    unkept_went c.args.by_koid.now.entries c.args.dying.now.items c.args.koid c.in-Some.gone c.let_go_queue.new.by_koid.entries c.let_go_queue.new.dying.items was.there was.unkept (subst (λ queue. LetsGo (named_in queue) (ending_waits c.args.koid c.in-Some.gone (without c.args.by_koid.now.entries c.args.koid)) c.args.dying.now.items c.let_go_queue.new.by_koid.entries c.let_go_queue.new.dying.items) (sym (ap queue_of c.in-ChannelEnd.is)) went)
+pub returns-then-is_unkept-clause-goes : goal.returns-then-is_unkept-clause-goes
+returns-then-is_unkept-clause-goes c =
+    let noted : c.push_reserved.new.self.items ≡ c.args.koid ∷ [] = c.push_reserved.ensures.items ∙ rw c.requires.none refl in
+    rw (noted, c.remove_dying.ensures.none) at c.remove_dying.ensures.goes
 
-pub returns-in-ChannelEnd-clause-less : goal.returns-in-ChannelEnd-clause-less
-returns-in-ChannelEnd-clause-less c =
-    let was : IsTaken c.args.by_koid.now.entries c.args.koid c.in-Some.gone = taken c.args.by_koid.now.entries c.args.koid c.in-Some.gone (sym c.take_unkept.ensures.taken ∙ c.in-Some.is) in
-    let ended : c.end_waits.new.by_koid.entries ≡ ending_waits c.args.koid c.in-Some.gone (without c.args.by_koid.now.entries c.args.koid) = c.end_waits.ensures ∙ ended_by c.args.by_koid.now.entries c.take_unkept.new.by_koid.entries c.args.koid c.in-Some.gone c.has_reserved-reserved.result was.there (c.take_unkept.ensures.left ∙ was.left) c.has_reserved-reserved.ensures in
-    let went : LetsGo (named_in c.in-ChannelEnd.queue) (ending_waits c.args.koid c.in-Some.gone (without c.args.by_koid.now.entries c.args.koid)) c.args.dying.now.items c.let_go_queue.new.by_koid.entries c.let_go_queue.new.dying.items = rw ended at c.let_go_queue.ensures.goes in
-    omega (arith, less_ending c.args.by_koid.now.entries c.args.dying.now.items c.args.koid c.in-Some.gone, went.cheap)
-
-pub returns : goal.returns
-returns c =
-    let was : IsTaken c.args.by_koid.now.entries c.args.koid c.in-Some.gone = taken c.args.by_koid.now.entries c.args.koid c.in-Some.gone (sym c.take_unkept.ensures.taken ∙ c.in-Some.is) in
-    let ended : c.end_waits.new.by_koid.entries ≡ ending_waits c.args.koid c.in-Some.gone (without c.args.by_koid.now.entries c.args.koid) = c.end_waits.ensures ∙ ended_by c.args.by_koid.now.entries c.take_unkept.new.by_koid.entries c.args.koid c.in-Some.gone c.has_reserved-reserved.result was.there (c.take_unkept.ensures.left ∙ was.left) c.has_reserved-reserved.ensures in
-    let empty : queue_of c.in-Some.gone.body ≡ [] = no_queue c.in-Some.gone.body c.in_default-body.not-ChannelEnd in
-    rw ended (record {
-      goes = unkept_went c.args.by_koid.now.entries c.args.dying.now.items c.args.koid c.in-Some.gone (ending_waits c.args.koid c.in-Some.gone (without c.args.by_koid.now.entries c.args.koid)) c.args.dying.now.items was.there was.unkept (rw empty (none_went (ending_waits c.args.koid c.in-Some.gone (without c.args.by_koid.now.entries c.args.koid)) c.args.dying.now.items));
-      less = less_ending c.args.by_koid.now.entries c.args.dying.now.items c.args.koid c.in-Some.gone;
-      capacity = refl;
-    })
+pub returns-else-is_unkept-clause-goes : goal.returns-else-is_unkept-clause-goes
+returns-else-is_unkept-clause-goes c = test_kept c.args.by_koid.now.entries c.args.koid (sym c.is_unkept.ensures ∙ c.if-is_unkept.false)

@@ -1,5 +1,6 @@
 use Rattle.zl_calls.proofs.Common.{◌≡◌, ◌+◌, ◌-◌, ℕ, refl, arith}
 use Rattle.zl_calls.proofs.BootLab.{all_swept, none_swept, one_swept}
+use Rattle.zl_calls.proofs.Departed.{left_keeps}
 use Rattle.zl_calls.proofs.booting.Made.settle.Goals as goal
 
 pub loop-koid-init : goal.loop-koid-init
@@ -19,12 +20,12 @@ loop-koid-preserved c =
 pub returns-clause-settles : goal.returns-clause-settles
 returns-clause-settles c =
     let all : ◌≡◌ {A = ℕ} c.loop-koid.koid 0 = omega (arith, c.loop-koid-test.false) in
-    rw c.loop-koid.invariant.processes ((all_swept c.args.self.now.processes.items c.args.self.now.objects c.loop-koid.self.objects c.requires (rw all at c.loop-koid.invariant.swept)).settles)
+    rw (c.leave.ensures, c.loop-koid.invariant.processes) ((all_swept c.args.self.now.processes.items c.args.self.now.objects c.loop-koid.self.objects c.requires (rw all at c.loop-koid.invariant.swept)).settles)
 
 pub returns-clause-lab : goal.returns-clause-lab
 returns-clause-lab c =
     let all : ◌≡◌ {A = ℕ} c.loop-koid.koid 0 = omega (arith, c.loop-koid-test.false) in
-    rw c.loop-koid.invariant.processes ((all_swept c.args.self.now.processes.items c.args.self.now.objects c.loop-koid.self.objects c.requires (rw all at c.loop-koid.invariant.swept)).lab)
+    rw (c.leave.ensures, c.loop-koid.invariant.processes) (left_keeps c.args.self.now.processes.items c.loop-koid.self.objects (all_swept c.args.self.now.processes.items c.args.self.now.objects c.loop-koid.self.objects c.requires (rw all at c.loop-koid.invariant.swept)).lab)
 
 pub returns-clause-unwatched : goal.returns-clause-unwatched
 returns-clause-unwatched c =

@@ -15,7 +15,7 @@ steps : (c : goal.After-wake) → TakesStep (lab_value c.self.inside.library c.s
 steps c =
     takes_step c.self.inside.library c.self.inside.processes.items c.self.inside.objects c.self.inside.blocked.items c.args.pid
     c.act_for.new.processes.items c.wake.new.processes.items c.act_for.new.objects c.end_unheld.new.objects c.fire_waits.new.objects c.wake.new.objects _ c.wake.new.blocked.items c.in_ok-item.item
-    (c.in_ok-item.ensures.acts c.self.inside.blocked.items c.self.invariant.are_blocked c.self.invariant.sound)
+    c.in_ok-item.ensures.acts
     (subst (λ (ps : List Process). EndsUnheld ps c.act_for.new.objects c.end_unheld.new.objects) c.deref.ensures.value c.end_unheld.ensures)
     (subst (λ (ps : List Process). FiresWaits ps c.end_unheld.new.objects c.fire_waits.new.objects) c.deref-2.ensures.value c.fire_waits.ensures)
     (rw c.add_blocked.ensures.items at c.wake.ensures.wakes)
@@ -25,14 +25,14 @@ returns-clause-ran c = rw (← c.self.view_is) (steps c)
 
 pub add_blocked-requires : goal.add_blocked-requires
 add_blocked-requires c =
-    let few : length (then_blocked c.args.pid c.in_ok-item.item c.self.inside.blocked.items) ≤ length c.act_for.new.processes.items =
-    no_more c.act_for.new.processes.items _ (c.in_ok-item.ensures.list c.self.inside.blocked.items c.self.invariant.are_blocked) in
-    omega (arith, few, c.in_ok-item.ensures.count, c.self.invariant.room)
+    let few : length (then_blocked c.args.pid c.in_ok-item.item c.act_for.new.blocked.items) ≤ length c.act_for.new.processes.items =
+    no_more c.act_for.new.processes.items _ c.in_ok-item.ensures.list in
+    omega (arith, few, c.act_for.ensures.room)
 
 pub invariant_of-self-2 : goal.invariant_of-self-2
 invariant_of-self-2 c = record {
   lab = c.wake.ensures.lab;
   sound = stepped_sound c.self.inside.library c.self.inside.processes.items c.wake.new.processes.items c.self.inside.objects c.wake.new.objects c.self.inside.blocked.items c.wake.new.blocked.items c.args.pid c.in_ok-item.item (steps c) c.self.invariant.sound;
   are_blocked = c.wake.ensures.list;
-  room = omega (arith, c.wake.ensures.count, c.in_ok-item.ensures.count, c.wake.ensures.capacity, c.add_blocked.ensures.capacity, c.self.invariant.room);
+  room = omega (arith, c.wake.ensures.count, c.wake.ensures.capacity, c.add_blocked.ensures.capacity, c.act_for.ensures.room);
 }

@@ -1,0 +1,84 @@
+-- A call in the midst of all processes, step by step: its policy, then what reaches others, then what it does by itself.
+use Rattle.zl_calls.proofs.Common.{◌≡◌, ◌<◌, ℕ, true, false, ◌==◌, zero, suc, List, [], ◌∷◌, length, get_or, set, refl, sym, ap, ◌∙◌, subst, Option, Some, None, IfSome, IfNone, IsSome, arith, false≢true, same_Some, slice_get, slice_get-get_or, call_in, calls_at, name_of, site_of, Library, Site, Objects, Acted}
+use Rattle.zl_code.specs.declared.history.CallName.{CallName}
+use Rattle.zl_code.specs.declared.history.Outcome.{Outcome}
+use Rattle.zl_code.specs.declared.instr.CallInstr.{CallInstr}
+use Rattle.zl_calls.specs.Policed.{Policed, verdict_on}
+use Rattle.zl_calls.specs.Reaching.{CallActs, CalledAmong, IsAlone, Reaches, acts, is_reaching, policed, reaches}
+use Rattle.zl_calls.specs.World.{CallsNext}
+use Rattle.zl_calls.specs.calls.Task.{IsReachedBy, Lab, lab}
+use Rattle.zl_calls.specs.declared.process.Process.{Process}
+
+pub set_read : {X : Type 0} (xs : List X) (n : ℕ) (x : X) → x ≡ get_or xs n x → set xs n x ≡ xs
+set_read [] n x read = refl
+set_read (y ∷ xs) zero x read = ap (λ z. z ∷ xs) read
+set_read (y ∷ xs) (suc n) x read = ap (λ zs. y ∷ zs) (set_read xs n x read)
+
+-- the caller p stands at the place, and its call has a site
+module _ (lib : Library) (ps : List Process) (r : Objects) (b : List ℕ) (place : ℕ) (p : Process) (within : place < length ps) (read : p ≡ get_or ps place p) where
+  pub is_there : slice_get ps place ≡ Some p
+  is_there = slice_get-get_or ps place p within ∙ ap (λ (q : Process). Some q) (sym read)
+
+  -- who is read there once more is the same
+  pub same_caller : (ps1 : List Process) (q : Process) → ps1 ≡ ps → q ≡ get_or ps1 place q → q ≡ p
+  same_caller ps1 q same again =
+      let other : slice_get ps place ≡ Some q = slice_get-get_or ps place q within ∙ ap (λ (x : Process). Some x) (sym (again ∙ ap (λ (xs : List Process). get_or xs place q) same)) in
+      same_Some q p (sym other ∙ is_there)
+
+  -- what is true of it is true of the caller
+  pub of_caller : (P : Process → Type 0) → P p → (caller : Process) → slice_get ps place ≡ Some caller → P caller
+  of_caller P here caller at = subst P (same_Some p caller (sym is_there ∙ at)) here
+
+  module _ (call : CallInstr) (has_site : (caller : Process) → slice_get ps place ≡ Some caller → IsSome (site_of call caller.cpu)) where
+    abbrev Done : Outcome → Lab → Process → Type 0
+    Done o l2 q = IsReachedBy (site_of call q.cpu) (λ s. CallActs lib place q s (lab ps r b) o l2)
+
+    pub policed_acts : (o : Outcome) (p2 : Process) (r2 : Objects) → IfSome (site_of call p.cpu) (λ s. Policed s p r o p2 r2) → (caller : Process) → slice_get ps place ≡ Some caller → Done o (lab (set ps place p2) r2 b) caller
+    policed_acts o p2 r2 ends = of_caller (Done o (lab (set ps place p2) r2 b)) (by_site (site_of call p.cpu) (has_site p is_there) ends)
+      where
+        by_site : (at : Option Site) → IsSome at → IfSome at (λ s. Policed s p r o p2 r2) → IsReachedBy at (λ s. CallActs lib place p s (lab ps r b) o (lab (set ps place p2) r2 b))
+        by_site None none ends = absurd (elim (false≢true none) [ ])
+        by_site (Some s) there ends = policed p2 (record { processes = refl; blocked = refl }) ends
+
+    -- the policy says nothing
+    module _ (none : IfSome (site_of call p.cpu) (λ s. verdict_on p.table.entries r.objects p.pid s.request ≡ None)) where
+      pub reached_acts : (ps1 : List Process) (r1 : Objects) → ps1 ≡ ps → r1 ≡ r → (o : Outcome) (l2 : Lab)
+          → ((caller : Process) → slice_get ps1 place ≡ Some caller → IsReachedBy (site_of call caller.cpu) (λ s. Reaches lib place caller s (lab ps1 r1 b) o l2))
+          → (caller : Process) → slice_get ps place ≡ Some caller → Done o l2 caller
+      reached_acts ps1 r1 same_list same_objects o l2 reached =
+          let here = reached p (ap (λ (xs : List Process). slice_get xs place) same_list ∙ is_there) in
+          of_caller (Done o l2) (by_site (site_of call p.cpu) none (subst (λ (x : Objects). IsReachedBy (site_of call p.cpu) (λ s. Reaches lib place p s (lab ps x b) o l2)) same_objects
+          (subst (λ (xs : List Process). IsReachedBy (site_of call p.cpu) (λ s. Reaches lib place p s (lab xs r1 b) o l2)) same_list here)))
+        where
+          by_site : (at : Option Site) → IfSome at (λ s. verdict_on p.table.entries r.objects p.pid s.request ≡ None) → IsReachedBy at (λ s. Reaches lib place p s (lab ps r b) o l2) → IsReachedBy at (λ s. CallActs lib place p s (lab ps r b) o l2)
+          by_site None none reached = reached
+          by_site (Some s) none reached = reaches none reached
+
+      pub acted_acts : (ps1 : List Process) (r1 : Objects) (b1 : List ℕ) → ps1 ≡ ps → r1 ≡ r → b1 ≡ b → (q : Process) → q ≡ p → (o : Option Outcome) (p2 : Process) (r2 : Objects)
+          → IfSome o (λ x. Acted (site_of call q.cpu) q r1 x p2 r2) → IfSome o (λ x. (caller : Process) → slice_get ps place ≡ Some caller → Done x (lab (set ps1 place p2) r2 b1) caller)
+      acted_acts ps1 r1 b1 same_list same_objects same_blocked q same None p2 r2 acted = tt
+      acted_acts ps1 r1 b1 same_list same_objects same_blocked q same (Some x) p2 r2 acted =
+          rw (same_list, same_blocked) (of_caller (Done x (lab (set ps place p2) r2 b)) (by_site (site_of call p.cpu) none (rw (same, same_objects) at acted)))
+        where
+          by_site : (at : Option Site) → IfSome at (λ s. verdict_on p.table.entries r.objects p.pid s.request ≡ None) → Acted at p r x p2 r2 → IsReachedBy at (λ s. CallActs lib place p s (lab ps r b) x (lab (set ps place p2) r2 b))
+          by_site None none acted = acted
+          by_site (Some s) none acted = acts p2 none (record { processes = refl; blocked = refl }) acted
+
+    -- a call that doesn't reach others is done by itself
+    pub is_done : (q : Process) → q ≡ p → {A : Type 0} (o : Option A) → IfNone o (IfSome (site_of call q.cpu) (λ s. is_reaching s.request ≡ true)) → IfSome (site_of call p.cpu) (λ s. is_reaching s.request ≡ false) → IsSome o
+    is_done q same (Some x) missing other = refl
+    is_done q same None missing other = absurd (by_site (site_of call p.cpu) (has_site p is_there) (rw same at missing) other)
+      where
+        by_site : (at : Option Site) → IsSome at → IfSome at (λ s. is_reaching s.request ≡ true) → IfSome at (λ s. is_reaching s.request ≡ false) → ⊥
+        by_site None none reaching other = false≢true none
+        by_site (Some s) there reaching other = false≢true (sym other ∙ reaching)
+
+  -- the call that stands next is done so
+  pub called_among : (call : CallInstr) (name : CallName) (o : Outcome) (l2 : Lab) → CallsNext lib p call → call_in (calls_at (name_of call) (site_of call p.cpu)) ≡ Some name
+      → ((caller : Process) → slice_get ps place ≡ Some caller → IsReachedBy (site_of call caller.cpu) (λ s. CallActs lib place caller s (lab ps r b) o l2))
+      → (caller : Process) → slice_get ps place ≡ Some caller → CalledAmong lib place caller (lab ps r b) name o l2
+  called_among call name o l2 next named done = of_caller (λ q. CalledAmong lib place q (lab ps r b) name o l2) (by_site (site_of call p.cpu) refl named (done p is_there))
+    where
+      by_site : (at : Option Site) → site_of call p.cpu ≡ at → call_in (calls_at (name_of call) at) ≡ Some name → IsReachedBy at (λ s. CallActs lib place p s (lab ps r b) o l2) → CalledAmong lib place p (lab ps r b) name o l2
+      by_site None is named done = absurd done
+      by_site (Some s) is named done = record { call = call; next = next; named = sym (same_Some (name_of call) name named); site = s; at_site = is; acts = done }

@@ -1,0 +1,63 @@
+-- A loop that takes out of a list what doesn't pass, and lists at one place.
+use Rattle.zl_rights.proofs.Common.{◌≡◌, ◌<◌, ◌≤◌, ◌+◌, ℕ, Bool, true, false, List, [], ◌∷◌, ◌++◌, length, take, drop, zero, suc, refl, sym, ap, ◌∙◌, arith, get_or, take_more, take_all, length-take-le, append-nil, append_assoc}
+use Rattle.std.specs.List.{filter}
+
+module _ {X : Type 0} where
+  pub drop_out : (xs : List X) (i : ℕ) → i < length xs → drop i (take i xs ++ drop (suc i) xs) ≡ drop (suc i) xs
+  drop_out [] i within = absurd (omega (arith, within))
+  drop_out (x ∷ xs) zero within = refl
+  drop_out (x ∷ xs) (suc i) within = drop_out xs i (omega (arith, within))
+
+  pub take_out : (xs : List X) (i : ℕ) → i < length xs → take i (take i xs ++ drop (suc i) xs) ≡ take i xs
+  take_out [] i within = absurd (omega (arith, within))
+  take_out (x ∷ xs) zero within = refl
+  take_out (x ∷ xs) (suc i) within = ap (λ (ys : List X). x ∷ ys) (take_out xs i (omega (arith, within)))
+
+  pub drop_here : (xs : List X) (i : ℕ) (d : X) → i < length xs → drop i xs ≡ get_or xs i d ∷ drop (suc i) xs
+  drop_here [] i d within = absurd (omega (arith, within))
+  drop_here (x ∷ xs) zero d within = refl
+  drop_here (x ∷ xs) (suc i) d within = drop_here xs i d (omega (arith, within))
+
+  pub none_behind : (xs : List X) (i : ℕ) → length xs ≤ i → drop i xs ≡ []
+  none_behind [] zero long = refl
+  none_behind [] (suc i) long = refl
+  none_behind (x ∷ xs) zero long = absurd (omega (arith, long))
+  none_behind (x ∷ xs) (suc i) long = none_behind xs i (omega (arith, long))
+
+-- ---- those that pass are left
+
+module _ {X : Type 0} (test : X → Bool) (before : List X) where
+  -- what stands before the place passes, and so do those behind it that are to be left
+  pub record IsKeeping (place : ℕ) (xs : List X) : Type 0 where
+    pub left : take place xs ++ filter test (drop place xs) ≡ filter test before
+
+  pub keeping_starts : IsKeeping 0 before
+  keeping_starts = record { left = refl }
+
+  module _ (place : ℕ) (xs : List X) (so_far : IsKeeping place xs) where
+    pub keeping_ends : length xs ≤ place → xs ≡ filter test before
+    keeping_ends long =
+        sym (append-nil xs) ∙ ((λ i. sym (take_all place xs long) i ++ filter test (sym (none_behind xs place long) i)) ∙ so_far.left)
+
+    module _ (d x : X) (within : place < length xs) (at : get_or xs place d ≡ x) where
+      stands : drop place xs ≡ x ∷ drop (suc place) xs
+      stands = drop_here xs place d within ∙ ap (λ (y : X). y ∷ drop (suc place) xs) at
+
+      pub keeping_stays : test x ≡ true → IsKeeping (place + 1) xs
+      keeping_stays passes = record {
+        left =
+            let one : place + 1 ≡ suc place = omega arith in
+            let more : take (place + 1) xs ≡ take place xs ++ (x ∷ []) = take_more xs place d within ∙ ap (λ (y : X). take place xs ++ (y ∷ [])) at in
+            let rest : x ∷ filter test (drop (suc place) xs) ≡ filter test (drop place xs) = sym (ap (filter test) stands ∙ rw passes refl) in
+            (λ i. more i ++ filter test (drop (one i) xs))
+            ∙ (append_assoc (take place xs) (x ∷ []) (filter test (drop (suc place) xs))
+            ∙ (ap (λ (ys : List X). take place xs ++ ys) rest ∙ so_far.left));
+      }
+
+      pub keeping_takes : test x ≡ false → IsKeeping place (take place xs ++ drop (suc place) xs)
+      keeping_takes fails = record {
+        left =
+            let rest : filter test (drop (suc place) xs) ≡ filter test (drop place xs) = sym (ap (filter test) stands ∙ rw fails refl) in
+            (λ i. take_out xs place within i ++ filter test (drop_out xs place within i))
+            ∙ (ap (λ (ys : List X). take place xs ++ ys) rest ∙ so_far.left);
+      }

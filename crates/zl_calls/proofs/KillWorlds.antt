@@ -1,0 +1,202 @@
+-- What a kill makes of the world of a lab: the definitions see the same of its processes, objects and list of the blocked.
+use Rattle.zl_calls.proofs.Common.{◌≡◌, ℕ, zero, suc, Bool, true, false, not, ◌&&◌, ◌||◌, ◌==◌, List, [], ◌∷◌, map, refl, sym, ap, ◌∙◌, subst, Option, Some, None, inl, inr, IsTrue, arith, cases_Bool, option_map, Map, get, each, lives, runs, length, ◌<◌, state_passes, eqb-true, below_all, AreBlocked, none-some, same_Some, eq-eqb, ne_eqb, false≢true, object_entry, object_value, body_value, process_entry, process_value, state_value, Objects, World, world_blocked, is_sorted, nat_cmp, if◌then◌else◌, ⊤}
+use Rattle.zl_code.proofs.Common.{Process as ProcessValue, Object as ObjectValue, State as StateValue, Created, Ready, Blocked, Ended, Gone, is_blocked, get-each}
+use Rattle.std.specs.List.{filter}
+use Rattle.zl_rights.specs.Numbers.{KILLED}
+use Rattle.zl_code.specs.Jobs.{body_killed, is_under_by, is_within as is_within_value, object_killed, process_killed}
+use Rattle.zl_code.specs.Tests.{body_in, parent_in as parent_in_value}
+use Rattle.zl_code.specs.Sound.{IsSound as IsSoundWorld}
+use Rattle.zl_table.proofs.MapEdits.{below_parts, sorted_parts}
+use Rattle.zl_objects.specs.declared.object.Body.{Body}
+use Rattle.zl_objects.specs.declared.object.Body.TheVariants as body
+use Rattle.zl_objects.specs.declared.object.Object.{Object}
+use Rattle.zl_objects.specs.Jobs.{all_killed, is_below_by, is_within, killed_body, killed_if, parent_at, parent_of}
+use Rattle.zl_objects.proofs.Law.{get_seen}
+use Rattle.zl_calls.specs.declared.process.Process.{Process}
+use Rattle.zl_calls.specs.declared.process.State.TheVariants as state
+use Rattle.zl_calls.specs.calls.Task.{ClosesAllEnded, ClosesEnded, ended_if, ended_within, lives_on, is_over, none_left, one_more}
+
+-- ---- who stands below
+
+module _ (m : Map Object) (t : ℕ) where
+  same_parent : (k : ℕ) → parent_in_value (body_in (get (map object_entry m) k)) ≡ parent_at m k
+  same_parent k = ap (λ (o : Option ObjectValue). parent_in_value (body_in o)) (get_seen m k) ∙ by_object (get m k)
+    where
+      by_body : (b : Body) → parent_in_value (Some (body_value b)) ≡ parent_of b
+      by_body (body.Job job) = refl
+      by_body (body.Process job life) = refl
+      by_body body.Event = refl
+      by_body (body.ChannelEnd peer queue) = refl
+      by_body (body.Port port) = refl
+
+      by_object : (o : Option Object) → parent_in_value (body_in (option_map object_value o)) ≡ (elim o as (λ _. ℕ) [ None ↦ 0 | Some x ↦ parent_of x.body ])
+      by_object None = refl
+      by_object (Some o) = by_body o.body
+
+  same_under : (n k : ℕ) → is_under_by (map object_entry m) t n k ≡ is_below_by m t n k
+  unfolding is_under_by is_below_by
+  same_under zero k = refl
+  same_under (suc n) k = rw (same_parent k, same_under n (parent_at m k)) refl
+
+  pub same_within : (k : ℕ) → is_within_value (map object_entry m) t k ≡ is_within m t k
+  unfolding is_within_value
+  same_within k = ap (λ (b : Bool). (k == t) || b) (same_under 16 k)
+
+-- ---- objects
+
+killed_seen : (b : Bool) (o : Object) → object_value (killed_if b o) ≡ object_killed b (object_value o)
+killed_seen false o = refl
+killed_seen true o = ap (λ x. record (object_value o) { body = x }) (by_body o.body)
+  where
+    by_body : (b : Body) → body_value (killed_body b) ≡ body_killed (body_value b)
+    by_body (body.Job job) = refl
+    by_body (body.Process job life) = refl
+    by_body body.Event = refl
+    by_body (body.ChannelEnd peer queue) = refl
+    by_body (body.Port port) = refl
+
+each_seen : (f g : ℕ → Bool) → ((k : ℕ) → f k ≡ g k) → (m : Map Object) → map object_entry (each (λ k. killed_if (f k)) m) ≡ each (λ k. object_killed (g k)) (map object_entry m)
+unfolding each
+each_seen f g same [] = refl
+each_seen f g same (e ∷ m) = λ i. (e.0, (killed_seen (f e.0) e.1 ∙ ap (λ (b : Bool). object_killed b (object_value e.1)) (same e.0)) i) ∷ each_seen f g same m i
+
+pub objects_killed : (m : Map Object) (t : ℕ) → map object_entry (all_killed m t) ≡ each (λ k. object_killed (is_within_value (map object_entry m) t k)) (map object_entry m)
+unfolding all_killed
+objects_killed m t = each_seen (is_within m t) (is_within_value (map object_entry m) t) (λ k. sym (same_within m t k)) m
+
+-- ---- processes
+
+-- what doesn't live has no handle
+abbrev pub IsIdle : Process → Type 0
+IsIdle p = lives (state_value p.state) ≡ false → (p.table.entries ≡ []) × (p.table.last ≡ None)
+
+-- so it is with each of them
+abbrev pub AreIdle : List Process → Type 0
+AreIdle [] = ⊤
+AreIdle (p ∷ ps) = IsIdle p × AreIdle ps
+
+lower_missing : {X : Type 0} (k : ℕ) (m : Map X) → IsTrue (below_all nat_cmp k m) → get m k ≡ None
+unfolding get
+lower_missing k [] below = refl
+lower_missing k (e ∷ m) below =
+    let parts = below_parts k e m below in
+    rw (ne_eqb e.0 k (λ is. omega (arith, is, parts.0))) (lower_missing k m parts.1)
+
+module _ (ps : List Process) (r : Objects) (blocked : List ℕ) (sound : IsSoundWorld (world_blocked ps r blocked)) where
+  -- what is true of the process at each koid is true of each
+  idle_from : (qs : List Process) → IsTrue (is_sorted nat_cmp (map process_entry qs)) → ((k : ℕ) (q : ProcessValue) → get (map process_entry qs) k ≡ Some q → lives q.state ≡ false → (q.handles ≡ []) × (q.last ≡ None)) → AreIdle qs
+  unfolding get
+  idle_from [] sorted all = tt
+  idle_from (p ∷ qs) sorted all =
+      let parts = sorted_parts (process_entry p) (map process_entry qs) sorted in (
+        all p.pid (process_value p) (rw (eq-eqb p.pid p.pid refl) refl),
+        idle_from qs parts.1 (λ k q at. all k q (elim (cases_Bool (p.pid == k)) as (λ _. (if p.pid == k then Some (process_value p) else get (map process_entry qs) k) ≡ Some q) [
+          | inl here ↦ absurd (none-some q (sym (lower_missing k (map process_entry qs) (subst (λ (n : ℕ). IsTrue (below_all nat_cmp n (map process_entry qs))) (eqb-true p.pid k here) parts.0)) ∙ at))
+          | inr apart ↦ rw apart at
+        ])),
+      )
+
+  -- a process that doesn't live has no handle, as the world is sound
+  pub are_idle : IsTrue (is_sorted nat_cmp (map process_entry ps)) → AreIdle ps
+  are_idle sorted = idle_from ps sorted (λ k q at dead. (sound.tables k q at).idle (not_running q.state dead))
+    where
+      not_running : (s : StateValue) → lives s ≡ false → runs s ≡ false
+      not_running Created dead = refl
+      not_running Ready dead = absurd (false≢true (sym dead))
+      not_running (Blocked awaited ds) dead = absurd (false≢true (sym dead))
+      not_running (Ended code) dead = refl
+      not_running Gone dead = refl
+
+  -- those are left that are still blocked: who isn't among the killed
+  pub blocked_left : (t : ℕ) (qs : List Process) → AreBlocked ps blocked → map process_entry qs ≡ each (λ k. process_killed (is_within_value (map object_entry r.objects) t k)) (map process_entry ps)
+      → filter (λ k. state_passes is_blocked (get (map process_entry qs) k)) blocked ≡ filter (λ k. not (is_within_value (map object_entry r.objects) t k)) blocked
+  blocked_left t qs are is = alike blocked (λ k. times_of k)
+    where
+      within : ℕ → Bool
+      within k = is_within_value (map object_entry r.objects) t k
+
+      -- whoever is in the list is blocked
+      times_of : (k : ℕ) → 0 < length (filter (λ q. q == k) blocked) → state_passes is_blocked (get (map process_entry ps) k) ≡ true
+      times_of k some = by_test (state_passes is_blocked (get (map process_entry ps) k)) refl
+        where
+          by_test : (b : Bool) → state_passes is_blocked (get (map process_entry ps) k) ≡ b → state_passes is_blocked (get (map process_entry ps) k) ≡ true
+          by_test true at = at
+          by_test false at = let none : length (filter (λ q. q == k) blocked) ≡ 0 = are.once k ∙ rw at refl in absurd (omega (arith, some, none))
+
+      one : (k : ℕ) → state_passes is_blocked (get (map process_entry ps) k) ≡ true → state_passes is_blocked (get (map process_entry qs) k) ≡ not (within k)
+      one k was = ap (λ m. state_passes is_blocked (get m k)) is ∙ (ap (state_passes is_blocked) (get-each (map process_entry ps) (λ j. process_killed (within j)) k) ∙ by_process (get (map process_entry ps) k) (within k) was)
+        where
+          by_state : (q : ProcessValue) (s : StateValue) → q.state ≡ s → is_blocked s ≡ true → is_blocked (if lives s then record q { state = Ended KILLED; handles = []; last = None } else q).state ≡ false
+          by_state q (Blocked awaited ds) at h = refl
+          by_state q Created at h = absurd (false≢true h)
+          by_state q Ready at h = absurd (false≢true h)
+          by_state q (Ended code) at h = absurd (false≢true h)
+          by_state q Gone at h = absurd (false≢true h)
+
+          by_process : (o : Option ProcessValue) (b : Bool) → state_passes is_blocked o ≡ true → state_passes is_blocked (option_map (process_killed b) o) ≡ not b
+          by_process None b h = absurd (false≢true h)
+          by_process (Some q) true h = by_state q q.state refl h
+          by_process (Some q) false h = h
+
+      alike : (xs : List ℕ) → ((k : ℕ) → 0 < length (filter (λ q. q == k) xs) → state_passes is_blocked (get (map process_entry ps) k) ≡ true)
+          → filter (λ k. state_passes is_blocked (get (map process_entry qs) k)) xs ≡ filter (λ k. not (within k)) xs
+      alike [] all = refl
+      alike (x ∷ xs) all =
+          let here : state_passes is_blocked (get (map process_entry qs) x) ≡ not (within x) = one x (all x (rw (eq-eqb x x refl) (omega arith))) in
+          let rest = alike xs (λ k some. all k (longer k some)) in
+          (λ i. if here i then x ∷ filter (λ k. state_passes is_blocked (get (map process_entry qs) k)) xs else filter (λ k. state_passes is_blocked (get (map process_entry qs) k)) xs)
+          ∙ (λ i. if not (within x) then x ∷ rest i else rest i)
+        where
+          longer : (k : ℕ) → 0 < length (filter (λ q. q == k) xs) → 0 < length (filter (λ q. q == k) (x ∷ xs))
+          longer k some = elim (cases_Bool (x == k)) as (λ _. 0 < length (filter (λ q. q == k) (x ∷ xs))) [
+            | inl is2 ↦ rw is2 (omega arith)
+            | inr other ↦ rw other some
+          ]
+
+-- one process: where it lives and is killed it has ended, and else it is as it was
+killed_one : (r : Objects) (t : ℕ) (p p1 p2 : Process) (mid r2 : Objects) → p1 ≡ ended_within r t p → IsIdle p → ClosesEnded p1 mid p2 r2
+    → ◌≡◌ {A = ℕ × ProcessValue} (process_entry p2) (p.pid, process_killed (is_within r.objects t p.pid) (process_value p))
+killed_one r t p p1 p2 mid r2 is idle closes = by_life (lives (state_value p.state)) (is_within r.objects t p.pid) refl refl
+  where
+    same_p : (l : Bool) → lives (state_value p.state) && is_within r.objects t p.pid ≡ false → p1 ≡ p
+    same_p l none = is ∙ ap (λ (b : Bool). ended_if b p) none
+
+    over : p1 ≡ ended_if true p → lives (state_value p.state) ≡ true → (q1 q2 : Process) (a b : Objects) → q1 ≡ p1 → ClosesEnded q1 a q2 b → ◌≡◌ {A = ℕ × ProcessValue} (process_entry q2) (p.pid, process_killed true (process_value p))
+    over ended living q1 _ a b at (lives_on _ _ alive) = absurd (false≢true (sym (ap (λ (x : Process). lives (state_value x.state)) (at ∙ ended)) ∙ alive))
+    over ended living q1 q2 a b at (is_over _ _ _ _ dead same entries last drained) =
+        ap process_entry (same ∙ ap (λ (x : Process). record x { table = q2.table }) (at ∙ ended)) ∙ rw (living, entries, last) refl
+
+    stays : p1 ≡ p → (q1 q2 : Process) (a b : Objects) → q1 ≡ p1 → ClosesEnded q1 a q2 b → ◌≡◌ {A = ℕ × ProcessValue} (process_entry q2) (process_entry p)
+    stays as_was q1 _ a b at (lives_on _ _ alive) = ap process_entry (at ∙ as_was)
+    stays as_was q1 q2 a b at (is_over _ _ _ _ dead same entries last drained) =
+        let none = idle (sym (ap (λ (x : Process). lives (state_value x.state)) (at ∙ as_was)) ∙ dead) in
+        ap process_entry (same ∙ ap (λ (x : Process). record x { table = q2.table }) (at ∙ as_was))
+        ∙ (λ i. (p.pid, record (process_value p) { handles = (entries ∙ sym none.0) i; last = (last ∙ sym none.1) i }))
+
+    by_life : (live inside : Bool) → lives (state_value p.state) ≡ live → is_within r.objects t p.pid ≡ inside
+        → ◌≡◌ {A = ℕ × ProcessValue} (process_entry p2) (p.pid, process_killed (is_within r.objects t p.pid) (process_value p))
+    by_life true true living in_it = rw in_it (over (is ∙ rw (living, in_it) refl) living p1 p2 mid r2 refl closes)
+    by_life true false living out = rw out (stays (is ∙ rw (living, out) refl) p1 p2 mid r2 refl closes)
+    by_life false inside dead at = stays (is ∙ rw dead refl) p1 p2 mid r2 refl closes ∙ (λ i. (p.pid, sym (untouched (is_within r.objects t p.pid)) i))
+      where
+        untouched : (b : Bool) → process_killed b (process_value p) ≡ process_value p
+        untouched false = refl
+        untouched true = rw dead refl
+
+-- all of them
+killed_all : (r : Objects) (t : ℕ) (ps qs ps2 : List Process) (mid r2 : Objects) → qs ≡ map (ended_within r t) ps → AreIdle ps → ClosesAllEnded qs mid ps2 r2
+    → map process_entry ps2 ≡ each (λ k. process_killed (is_within r.objects t k)) (map process_entry ps)
+unfolding each
+killed_all r t [] qs ps2 mid r2 is idle (none_left _) = refl
+killed_all r t [] _ _ mid r2 is idle (one_more p1 p2 qs ps2 _ _ _ one rest) = absurd cc
+killed_all r t (p ∷ ps) qs ps2 mid r2 is idle (none_left _) = absurd cc
+killed_all r t (p ∷ ps) _ _ mid r2 is idle (one_more p1 p2 qs ps2 _ between _ one rest) =
+    let first : p1 ≡ ended_within r t p = cc in
+    let others : qs ≡ map (ended_within r t) ps = cc in
+    λ i. killed_one r t p p1 p2 mid between first idle.0 one i ∷ killed_all r t ps qs ps2 between r2 others idle.1 rest i
+
+pub processes_killed : (ps ps2 : List Process) (r mid r2 : Objects) (t : ℕ) → AreIdle ps → ClosesAllEnded (map (ended_within r t) ps) mid ps2 r2
+    → map process_entry ps2 ≡ each (λ k. process_killed (is_within_value (map object_entry r.objects) t k)) (map process_entry ps)
+processes_killed ps ps2 r mid r2 t idle closes =
+    killed_all r t ps (map (ended_within r t) ps) ps2 mid r2 refl idle closes
+    ∙ (λ i. each (λ k. process_killed (sym (same_within r.objects t k) i)) (map process_entry ps))

@@ -1,0 +1,294 @@
+-- The process that a call starts: how it is found by its koid, and what becomes of all processes.
+use Rattle.zl_rights.proofs.Common.{◌≡◌, ◌≢◌, ◌<◌, ◌+◌, ℕ, Bool, true, false, not, ◌==◌, List, [], ◌∷◌, length, Option, Some, None, Ok, Err, refl, sym, ap, ◌∙◌, subst, arith, zero, suc, false≢true, same_Some, none-some, position, find, if◌then◌else◌, slice_get, slice_set, slice_get-get_or, nat_tests, eqb-true, get_or, set, then_some}
+use Rattle.std.specs.List.{position_or_len}
+use Rattle.std.specs.Option.{option_or}
+use Rattle.std.proofs.lemmas.List.{length-set}
+use Rattle.std.proofs.lemmas.List.Folds.{find_at}
+use Rattle.std.proofs.lemmas.List.Quantifiers.{position-Some}
+use Rattle.std.proofs.lemmas.Option.{get_or_from_slice_get, slice_get_within}
+use Rattle.zl_signals.proofs.Takes.{none_found}
+use Rattle.zl_code.specs.Common.{Library}
+use Rattle.zl_code.specs.Jobs.{misfits}
+use Rattle.zl_code.specs.Starting.{is_created}
+use Rattle.zl_rights.specs.declared.entry.Entry.{Entry}
+use Rattle.zl_rights.specs.declared.status.Status.{Status}
+use Rattle.zl_rights.specs.declared.status.Status.TheVariants as status
+use Rattle.zl_rights.specs.Signals.{is_ready}
+use Rattle.zl_code.specs.Starting.{cpu_given}
+use Rattle.zl_objects.specs.Objects.{Objects, starting}
+use Rattle.zl_calls.specs.World.{state_value}
+use Rattle.zl_calls.specs.calls.Answer.{ClosesEach, IsRefusedBy, without_handle}
+use Rattle.zl_calls.specs.declared.process.State.{State}
+use Rattle.zl_calls.specs.declared.process.State.TheVariants as state
+use Rattle.zl_calls.specs.declared.tasks.Started.{Started}
+use Rattle.zl_calls.specs.declared.process.Process.{Process}
+use Rattle.zl_table.specs.Table.{Handles, Inserts}
+use Rattle.zl_calls.specs.calls.Task.{AreBare, Enters, IsCallerStill, IsCreatedAt, IsFound, ProcessStartDoes, child_refusal, lab, process_at, start_refusal}
+
+-- ---- the process that is found
+
+module _ {X : Type 0} (p : X → Bool) (xs : List X) where
+  pub place_found : (i : ℕ) (x : X) → position p xs ≡ Some i → slice_get xs i ≡ Some x → find p xs ≡ Some x
+  place_found i x at is =
+      let here : position_or_len p xs ≡ i = grind (arith, nat_tests) in
+      find_at p xs ∙ (ap (slice_get xs) here ∙ is)
+
+  pub within_at : (i : ℕ) → position p xs ≡ Some i → i < length xs
+  within_at i at = grind (arith, nat_tests)
+
+  pub passes_at : (i : ℕ) (x : X) → position p xs ≡ Some i → slice_get xs i ≡ Some x → p x ≡ true
+  passes_at i x at is = subst (λ (y : X). p y ≡ true) (get_or_from_slice_get xs i x x is) (position-Some p xs i x at).1
+
+-- there is an element at each place
+pub stands_at : {X : Type 0} (xs : List X) (i : ℕ) → i < length xs → (x : X) × (slice_get xs i ≡ Some x)
+stands_at [] i within = absurd (omega (arith, within))
+stands_at (x ∷ xs) zero within = (x, refl)
+stands_at (x ∷ xs) (suc i) within = stands_at xs i (omega (arith, within))
+
+-- what was read at a place stands there
+pub read_at : {X : Type 0} (xs : List X) (i : ℕ) (x : X) → i < length xs → x ≡ get_or xs i x → slice_get xs i ≡ Some x
+read_at xs i x within read = slice_get-get_or xs i x within ∙ ap (λ y. Some y) (sym read)
+
+module _ (lib : Library) (ps : List Process) (pid : ℕ) (e : Entry) where
+  pub none_refused : ◌≡◌ {A = Option ℕ} None (position (λ (q : Process). q.pid == pid) ps) → ◌≡◌ {A = Option Status} (Some status.BadState) (child_refusal lib (process_at ps pid) e)
+  none_refused none = sym (ap (λ (o : Option Process). child_refusal lib o e) (none_found (λ (q : Process). q.pid == pid) ps (sym none)))
+
+  module _ (i : ℕ) (q : Process) (at : Some i ≡ position (λ (q : Process). q.pid == pid) ps) (read : q ≡ get_or ps i q) where
+    is : slice_get ps i ≡ Some q
+    is = read_at ps i q (within_at (λ (x : Process). x.pid == pid) ps i (sym at)) read
+
+    found : child_refusal lib (process_at ps pid) e ≡ child_refusal lib (Some q) e
+    found = ap (λ (o : Option Process). child_refusal lib o e) (place_found (λ (x : Process). x.pid == pid) ps i q (sym at) is)
+
+    pub started_refused : is_created (state_value q.state) ≡ false → ◌≡◌ {A = Option Status} (Some status.BadState) (child_refusal lib (process_at ps pid) e)
+    started_refused over = sym (found ∙ rw over refl)
+
+    pub is_created_at : is_created (state_value q.state) ≡ true → IsCreatedAt ps pid i
+    is_created_at created = record { child = q; is_there = is; is_pid = eqb-true q.pid pid (passes_at (λ (x : Process). x.pid == pid) ps i q (sym at) is); is_created = created }
+
+    module _ (q2 : Process) (again : q2 ≡ get_or ps i q2) where
+      same : q2 ≡ q
+      same = same_Some q2 q (sym (read_at ps i q2 (within_at (λ (x : Process). x.pid == pid) ps i (sym at)) again) ∙ is)
+
+      pub misfit_refused : is_created (state_value q.state) ≡ true → misfits (slice_get lib q2.program) (Some e) ≡ true → ◌≡◌ {A = Option Status} (Some status.InvalidArgs) (child_refusal lib (process_at ps pid) e)
+      misfit_refused created fails = let fails_too : misfits (slice_get lib q.program) (Some e) ≡ true = subst (λ (x : Process). misfits (slice_get lib x.program) (Some e) ≡ true) same fails in sym (found ∙ rw (created, fails_too) refl)
+
+      pub not_refused : is_created (state_value q.state) ≡ true → misfits (slice_get lib q2.program) (Some e) ≡ false → ◌≡◌ {A = Option Status} None (child_refusal lib (process_at ps pid) e)
+      not_refused created fits = let fits_too : misfits (slice_get lib q.program) (Some e) ≡ false = subst (λ (x : Process). misfits (slice_get lib x.program) (Some e) ≡ false) same fits in sym (found ∙ rw (created, fits_too) refl)
+
+-- ---- the handle enters its table
+
+module _ (lib : Library) (ps ds : List Process) (same : ds ≡ ps) (place child process h : ℕ) (e : Entry) (found : (caller : Process) → slice_get ds place ≡ Some caller → IsFound ds caller process h child e) where
+  pub child_within : place < length ps → child < length ps
+  child_within within =
+      let there : (x : Process) × (slice_get ps place ≡ Some x) = stands_at ps place within in
+      let it : IsFound ds there.0 process h child e = found there.0 (ap (λ (xs : List Process). slice_get xs place) same ∙ there.1) in
+      subst (λ (xs : List Process). child < length xs) same (slice_get_within ds child it.at.child it.at.is_there)
+
+  module _ (q : Process) (read : q ≡ get_or ps child q) where
+    is_child : (caller : Process) (at : slice_get ds place ≡ Some caller) → q ≡ (found caller at).at.child
+    is_child caller at =
+        let there : slice_get ps child ≡ Some (found caller at).at.child = subst (λ (xs : List Process). slice_get xs child ≡ Some (found caller at).at.child) same (found caller at).at.is_there in
+        read ∙ get_or_from_slice_get ps child (found caller at).at.child q there
+
+    pub child_room : place < length ps → AreBare ps → length q.table.entries < 1024
+    child_room within bare =
+        let there : (x : Process) × (slice_get ps place ≡ Some x) = stands_at ps place within in
+        let at : slice_get ds place ≡ Some there.0 = ap (λ (xs : List Process). slice_get xs place) same ∙ there.1 in
+        let it : IsFound ds there.0 process h child e = found there.0 at in
+        let empty : it.at.child.table.entries ≡ [] = bare child it.at.child (subst (λ (xs : List Process). slice_get xs child ≡ Some it.at.child) same it.at.is_there) it.at.is_created in
+        let none : q.table.entries ≡ [] = ap (λ (x : Process). x.table.entries) (is_child there.0 at) ∙ empty in
+        rw none (omega arith)
+
+    pub enters_so : (refusal : (caller : Process) → slice_get ds place ≡ Some caller → ◌≡◌ {A = Option Status} None (start_refusal lib ds caller.table.entries process h)) (t2 : Handles) (value : ℕ)
+        → Inserts q.table e value t2 → (caller : Process) → slice_get ps place ≡ Some caller
+        → Enters lib ps caller process h (record { place = child; handle = value }) (slice_set ps child (record q { table = t2 }))
+    enters_so refusal t2 value inserts caller there =
+        let at : slice_get ds place ≡ Some caller = ap (λ (xs : List Process). slice_get xs place) same ∙ there in
+        let it : IsFound ds caller process h child e = found caller at in
+        let is : q ≡ it.at.child = is_child caller at in
+        record {
+          unrefused = subst (λ (xs : List Process). start_refusal lib xs caller.table.entries process h ≡ None) same (sym (refusal caller at));
+          e = e;
+          found = record {
+            named = it.named;
+            is_named = it.is_named;
+            at = record {
+              child = it.at.child;
+              is_there = subst (λ (xs : List Process). slice_get xs child ≡ Some it.at.child) same it.at.is_there;
+              is_pid = it.at.is_pid;
+              is_created = it.at.is_created;
+            };
+            is_given = it.is_given;
+          };
+          child = record q { table = t2 };
+          same = ap (λ (x : Process). record x { table = t2 }) is;
+          inserts = subst (λ (x : Process). Inserts x.table e value t2) is inserts;
+          entered = refl;
+        }
+
+-- ---- two places of a list
+
+module _ {X : Type 0} where
+  pub set_twice : (xs : List X) (i : ℕ) (x y : X) → slice_set (slice_set xs i x) i y ≡ slice_set xs i y
+  set_twice [] i x y = refl
+  set_twice (z ∷ xs) zero x y = refl
+  set_twice (z ∷ xs) (suc i) x y = ap (λ (ys : List X). z ∷ ys) (set_twice xs i x y)
+
+  pub set_apart : (xs : List X) (i j : ℕ) (x y : X) → i ≢ j → slice_set (slice_set xs i x) j y ≡ slice_set (slice_set xs j y) i x
+  set_apart [] i j x y apart = refl
+  set_apart (z ∷ xs) zero zero x y apart = absurd (apart refl)
+  set_apart (z ∷ xs) zero (suc j) x y apart = refl
+  set_apart (z ∷ xs) (suc i) zero x y apart = refl
+  set_apart (z ∷ xs) (suc i) (suc j) x y apart = ap (λ (ys : List X). z ∷ ys) (set_apart xs i j x y (λ e. apart (ap suc e)))
+
+  pub get_set : (xs : List X) (i : ℕ) (x y : X) → slice_get xs i ≡ Some x → slice_get (slice_set xs i y) i ≡ Some y
+  get_set [] i x y at = absurd (none-some x at)
+  get_set (z ∷ xs) zero x y at = refl
+  get_set (z ∷ xs) (suc i) x y at = get_set xs i x y at
+
+  pub get_apart : (xs : List X) (i j : ℕ) (y : X) → i ≢ j → slice_get (slice_set xs i y) j ≡ slice_get xs j
+  get_apart [] i j y apart = refl
+  get_apart (z ∷ xs) zero zero y apart = absurd (apart refl)
+  get_apart (z ∷ xs) zero (suc j) y apart = refl
+  get_apart (z ∷ xs) (suc i) zero y apart = refl
+  get_apart (z ∷ xs) (suc i) (suc j) y apart = get_apart xs i j y (λ e. apart (ap suc e))
+
+-- all stay in their places
+module _ (lib : Library) (ps ps1 : List Process) (place process h : ℕ) (started : Started) (within : place < length ps)
+    (enters : (caller : Process) → slice_get ps place ≡ Some caller → Enters lib ps caller process h started ps1) where
+  it_enters : (caller : Process) × Enters lib ps caller process h started ps1
+  it_enters = let there : (x : Process) × (slice_get ps place ≡ Some x) = stands_at ps place within in (there.0, enters there.0 there.1)
+
+  pub as_many : length ps1 ≡ length ps
+  as_many = ap (λ (xs : List Process). length xs) it_enters.1.entered ∙ length-set ps started.place it_enters.1.child
+
+  pub caller_inside : place < length ps1
+  caller_inside = omega (arith, as_many, within)
+
+  pub started_inside : started.place < length ps1
+  started_inside = omega (arith, as_many, slice_get_within ps started.place it_enters.1.found.at.child it_enters.1.found.at.is_there)
+
+  pub written_twice : (i j : ℕ) (x y : Process) → length (slice_set (slice_set ps1 i x) j y) ≡ length ps
+  written_twice i j x y = length-set (slice_set ps1 i x) j y ∙ (length-set ps1 i x ∙ as_many)
+
+-- ---- a ready process starts another one
+
+pub not_both : (s : State) → is_created (state_value s) ≡ true → is_ready (state_value s) ≡ true → ⊥
+not_both state.Created created ready = false≢true ready
+not_both state.Gone created ready = false≢true created
+not_both state.Ready created ready = false≢true created
+not_both (state.AwaitsSignal koid mask to) created ready = false≢true created
+not_both (state.AwaitsPacket port to) created ready = false≢true created
+not_both (state.Ended code) created ready = false≢true created
+
+module _ (lib : Library) (ps : List Process) (r : Objects) (blocked : List ℕ) (place process h word : ℕ) (caller : Process) (is_caller : slice_get ps place ≡ Some caller) (ready : is_ready (state_value caller.state) ≡ true) where
+  -- the handle entered the table of the other; then it leaves the caller's, and the other begins
+  module _ (started : Started) (ps1 : List Process) (enters : Enters lib ps caller process h started ps1) where
+    abbrev child : Process
+    child = enters.found.at.child
+
+    child_at : slice_get ps started.place ≡ Some child
+    child_at = enters.found.at.is_there
+
+    apart : started.place ≢ place
+    apart same =
+        let one : caller ≡ child = same_Some caller child (sym is_caller ∙ (ap (slice_get ps) (sym same) ∙ child_at)) in
+        not_both child.state enters.found.at.is_created (subst (λ (q : Process). is_ready (state_value q.state) ≡ true) one ready)
+
+    caller_stays : slice_get ps1 place ≡ Some caller
+    caller_stays = ap (λ (xs : List Process). slice_get xs place) enters.entered ∙ (get_apart ps started.place place enters.child apart ∙ is_caller)
+
+    child_there : slice_get ps1 started.place ≡ Some enters.child
+    child_there = ap (λ (xs : List Process). slice_get xs started.place) enters.entered ∙ get_set ps started.place child enters.child child_at
+
+    pub caller_within : place < length ps1
+    caller_within = slice_get_within ps1 place caller caller_stays
+
+    module _ (p : Process) (read : p ≡ get_or ps1 place p) (t : Handles) (taken : t ≡ without_handle p.table h) where
+      is_it : p ≡ caller
+      is_it = read ∙ get_or_from_slice_get ps1 place caller p caller_stays
+
+      abbrev ps2 : List Process
+      ps2 = slice_set ps1 place (record p { table = t })
+
+      child_still : slice_get ps2 started.place ≡ Some enters.child
+      child_still = get_apart ps1 place started.place (record p { table = t }) (λ e. apart (sym e)) ∙ child_there
+
+      pub child_inside : started.place < length ps2
+      child_inside = slice_get_within ps2 started.place enters.child child_still
+
+      module _ (q q2 : Process) (read_too : q ≡ get_or ps2 started.place q) (begins : q2 ≡ record q { state = state.Ready; cpu = cpu_given (started.handle ∷ []) word q.cpu }) where
+        is_q : q ≡ enters.child
+        is_q = read_too ∙ get_or_from_slice_get ps2 started.place enters.child q child_still
+
+        is_q2 : q2 ≡ record child { state = state.Ready; cpu = cpu_given (started.handle ∷ []) word child.cpu; table = enters.child.table }
+        is_q2 = begins ∙ ap (λ (x : Process). record x { state = state.Ready; cpu = cpu_given (started.handle ∷ []) word x.cpu }) (is_q ∙ enters.same)
+
+        abbrev after : Process
+        after = record caller { table = t }
+
+        written : slice_set ps2 started.place q2 ≡ slice_set (slice_set ps place after) started.place q2
+        written =
+            let first : ps2 ≡ slice_set (slice_set ps started.place enters.child) place after = λ i. slice_set (enters.entered i) place (record (is_it i) { table = t }) in
+            ap (λ (xs : List Process). slice_set xs started.place q2) (first ∙ set_apart ps started.place place enters.child after apart)
+            ∙ set_twice (slice_set ps place after) started.place enters.child q2
+
+        pub caller_still : IsCallerStill caller (slice_get (slice_set ps2 started.place q2) place)
+        caller_still =
+            subst (λ (o : Option Process). IsCallerStill caller o)
+            (sym (get_apart ps2 started.place place q2 apart ∙ get_set ps1 place caller (record p { table = t }) caller_stays))
+            (ap (λ (x : Process). x.cpu) is_it)
+
+        pub starts_so : (r2 : Objects) → r2 ≡ starting r q.pid → ProcessStartDoes lib place process h word caller (lab ps r blocked) (Ok tt) (lab (slice_set ps2 started.place q2) r2 blocked)
+        starts_so r2 begun = record {
+          ok = record {
+            caller = caller;
+            after = after;
+            is_caller = record { is_there = is_caller; same = refl };
+            unrefused = enters.unrefused;
+            given = enters.e;
+            is_given = enters.found.is_given;
+            table = taken ∙ ap (λ (x : Process). without_handle x.table h) is_it;
+            child = child;
+            started = q2;
+            at_place = started.place;
+            is_child = child_at;
+            is_created = enters.found.at.is_created;
+            named = enters.found.named;
+            is_named = enters.found.is_named;
+            pid = enters.found.at.is_pid;
+            value = started.handle;
+            inserts = subst (λ (x : Process). Inserts child.table enters.e started.handle x.table) (sym is_q2) enters.inserts;
+            starts = is_q2 ∙ ap (λ (x : Process). record child { state = state.Ready; cpu = cpu_given (started.handle ∷ []) word child.cpu; table = x.table }) (sym is_q2);
+            processes = written;
+            objects = begun ∙ ap (λ (x : Process). starting r x.pid) (is_q ∙ enters.same);
+            blocked = refl;
+          };
+          err = tt;
+          refused = tt;
+        }
+
+  -- the start was refused, and the handle closes
+  module _ (refused : Status) (ps1 : List Process) (same : ps1 ≡ ps) (refuses : IsRefusedBy true (start_refusal lib ps caller.table.entries process h) refused) (p : Process) (read : p ≡ get_or ps1 place p) (t : Handles) (r2 : Objects) (closes : ClosesEach (h ∷ []) p.table r t r2) where
+    pub refused_still : IsCallerStill caller (slice_get (slice_set ps1 place (record p { table = t })) place)
+    refused_still =
+        subst (λ (o : Option Process). IsCallerStill caller o)
+        (sym (get_set ps1 place caller (record p { table = t }) (ap (λ (xs : List Process). slice_get xs place) same ∙ is_caller)))
+        (ap (λ (x : Process). x.cpu) (read ∙ (ap (λ (xs : List Process). get_or xs place p) same ∙ get_or_from_slice_get ps place caller p is_caller)))
+
+    pub refused_so : ProcessStartDoes lib place process h word caller (lab ps r blocked) (Err refused) (lab (slice_set ps1 place (record p { table = t })) r2 blocked)
+    refused_so =
+        let is_it : p ≡ caller = read ∙ (ap (λ (xs : List Process). get_or xs place p) same ∙ get_or_from_slice_get ps place caller p is_caller) in
+        record {
+          ok = tt;
+          err = refuses;
+          refused = record {
+            caller = caller;
+            after = record caller { table = t };
+            is_caller = record { is_there = is_caller; same = refl };
+            closes = subst (λ (x : Process). ClosesEach (h ∷ []) x.table r t r2) is_it closes;
+            processes = λ i. slice_set (same i) place (record (is_it i) { table = t });
+            blocked = refl;
+          };
+        }

@@ -1,0 +1,17 @@
+use Rattle.zl_calls.proofs.Common.{◌≡◌, ◌<◌, ℕ, length, arith}
+use Rattle.zl_calls.specs.Leaving.{left_beside}
+use Rattle.zl_calls.proofs.Mapping.{all_mapped, none_mapped, one_mapped}
+use Rattle.zl_calls.proofs.leaving.leave.Goals as goal
+
+pub loop-place-init : goal.loop-place-init
+loop-place-init c = none_mapped (left_beside c.args.objects.now.objects) c.args.processes.now.items
+
+pub loop-place-preserved : goal.loop-place-preserved
+loop-place-preserved c =
+    let within : c.loop-place.place < length c.loop-place.processes.items = omega (arith, c.loop-place-test.true, c.len-place-end.ensures, c.args.processes.now.ok.0, c.loop-place.invariant.long) in
+    one_mapped (left_beside c.args.objects.now.objects) c.args.processes.now.items c.loop-place.processes.items c.loop-place.place c.index_mut.result.now c.leave_one.new.process c.loop-place.invariant within c.index_mut.ensures.value c.leave_one.ensures
+
+pub returns : goal.returns
+returns c =
+    let all : c.loop-place.place ≡ length c.loop-place.processes.items = omega (arith, c.loop-place-test.false, c.loop-place.auto.place-end, c.len-place-end.ensures, c.args.processes.now.ok.0, c.loop-place.invariant.long) in
+    all_mapped (left_beside c.args.objects.now.objects) c.args.processes.now.items c.loop-place.processes.items c.loop-place.place c.loop-place.invariant all

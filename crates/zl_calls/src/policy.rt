@@ -1,0 +1,255 @@
+//! What the policy of a job says to a call of its process, which is asked before the call is done.
+
+ghost use Rattle.std.specs.Prelude.{◌≡◌, ◌<◌, ◌^◌, [], None, IfSome, IfNone};
+ghost use Rattle.std.specs.Result.{result_err};
+ghost use Rattle.zl_rights.specs.LookUp.{looked_up};
+ghost use Rattle.zl_rights.specs.Numbers.{bits};
+ghost use Rattle.zl_code.specs.Local.{reg};
+ghost use Rattle.zl_code.specs.Refusals.{condition_of, handle_operands};
+ghost use Rattle.zl_code.specs.Request.{site_of};
+ghost use Rattle.zl_objects.specs.Jobs.{action_of, job_at};
+ghost use Rattle.zl_calls.specs.Policed.{IsDenied, Policed, on_fault, on_making, operands_fault, verdict_on};
+
+use crate::calls::channel::examine_list;
+use crate::calls::look_up;
+use crate::calls::process::end;
+use crate::cpu::Cpu;
+use crate::process::Process;
+use bitflags::Flags;
+use std::alloc::Global;
+use zl_code::{CallInstr, Outcome, Register};
+use zl_objects::Objects;
+use zl_rights::{Action, Condition, Kind, Koid, Rights, Status};
+use zl_table::Table;
+
+/// The code with which a process ends that a policy kills (own profile).
+const BY_POLICY: i32 = -1026;
+
+/// How a policy ends a call, if it does.
+#[derive(Clone, Copy)]
+pub enum Verdict {
+    /// The call may make no object, and is answered so.
+    Denied,
+    /// The caller is killed for it.
+    Killed,
+}
+
+/// Ends the call as the policy of the caller's job says, if that keeps the call from being done. The
+/// call itself looks at no policy.
+///
+/// A handle operand that is `BadHandle` or `WrongType` kills the caller where the policy kills for
+/// that. Where all of them will do, a call that makes an object is answered `AccessDenied` where the
+/// policy denies it, and its caller is killed where the policy kills for it. It takes no memory.
+/// Source: the page "zx_job_set_policy" of the Fuchsia documentation; that it denies no bad handle is
+/// own profile.
+pub fn by_policy(
+    alloc: Global,
+    process: &mut Process,
+    objects: &mut Objects,
+    call: &CallInstr,
+) -> Option<Outcome>
+    requires counter { process.old.cpu.counter < 2 ^ 32 }
+    ensures policed { IfSome result (λ outcome. IfSome (site_of call.now process.old.cpu)
+        (λ s. Policed s process.old objects.old outcome process.new objects.new)) }
+    ensures done { IfNone result (IfSome (site_of call.now process.old.cpu) (λ s.
+        verdict_on process.old.table.entries objects.old.objects process.old.pid s.request
+        ≡ None)) }
+    ensures same_process { IfNone result (process.new ≡ process.old) }
+    ensures same_objects { IfNone result (objects.new ≡ objects.old) }
+{
+    match judge(process, objects, call)? {
+        Verdict::Denied => deny(process, call),
+        Verdict::Killed => {
+            end(alloc, process, objects, BY_POLICY);
+            Some(Outcome::Ended(BY_POLICY))
+        }
+    }
+}
+
+/// How the policy of the process's job ends the call, if it does.
+fn judge(process: &Process, objects: &Objects, call: &CallInstr) -> Option<Verdict>
+    ensures { IfSome (site_of call.now process.now.cpu) (λ s. result
+        ≡ verdict_on process.now.table.entries objects.now.objects process.now.pid s.request) }
+{
+    let job = objects.job_of(process.pid)?;
+    if !objects.has_policy(job) {
+        // So it is in most jobs, and spares the examination.
+        return None;
+    }
+    match examine(&process.table, &process.cpu, *call) {
+        Ok(()) => on_making(objects.action(job, made_by(call)?)),
+        Err(fault) => on_fault(objects, job, fault),
+    }
+}
+
+/// How a call ends that makes an object, where this is the action for it.
+fn on_making(action: Action) -> Option<Verdict>
+    ensures { result ≡ on_making action }
+{
+    match action {
+        Action::Allow => None,
+        Action::Deny => Some(Verdict::Denied),
+        Action::Kill => Some(Verdict::Killed),
+    }
+}
+
+/// How a call ends with this fault of a handle operand: in any other way than it would without a
+/// policy just where the job kills for it.
+fn on_fault(objects: &Objects, job: Koid, fault: Status) -> Option<Verdict>
+    ensures { result ≡ on_fault (action_of (job_at objects.now.objects job)) fault }
+{
+    let condition = match fault {
+        Status::BadHandle => Condition::BadHandle,
+        Status::WrongType => Condition::WrongObject,
+        _ => return None,
+    };
+    match objects.action(job, condition) {
+        Action::Kill => Some(Verdict::Killed),
+        _ => None,
+    }
+}
+
+/// The condition of making the object that the call makes, if it makes one of which a policy decides.
+#[tactic(auto, unfolding(zl_code::specs::Request::site_of, zl_code::specs::Instructions::row_of, zl_code::specs::Spells::call_parts))]
+fn made_by(call: &CallInstr) -> Option<Condition>
+    ensures { (cpu : Cpu) → IfSome (site_of call.now cpu)
+        (λ s. result ≡ condition_of s.request) }
+{
+    match call {
+        CallInstr::ChanCreate { .. } => Some(Condition::NewChannel),
+        CallInstr::EventCreate { .. } => Some(Condition::NewEvent),
+        CallInstr::PortCreate { .. } => Some(Condition::NewPort),
+        CallInstr::ProcessCreate { .. } => Some(Condition::NewProcess),
+        _ => None,
+    }
+}
+
+/// Answers a call that makes an object with `AccessDenied`, and 0 in the registers of its handles.
+#[tactic(auto, unfolding(zl_code::specs::Request::site_of, zl_code::specs::Instructions::row_of, zl_code::specs::Spells::call_parts))]
+fn deny(process: &mut Process, call: &CallInstr) -> Option<Outcome>
+    requires counter { process.old.cpu.counter < 2 ^ 32 }
+    ensures denied { IfSome result (λ outcome. (r : Objects)
+        → IfSome (site_of call.now process.old.cpu)
+        (λ s. IsDenied s process.old r outcome process.new r)) }
+    ensures nothing { IfNone result (IfSome (site_of call.now process.old.cpu)
+        (λ s. condition_of s.request ≡ None)) }
+    ensures unchanged { IfNone result (process.new ≡ process.old) }
+{
+    let denied = Err(Status::AccessDenied);
+    match call {
+        CallInstr::ChanCreate {
+            status,
+            first,
+            second,
+        } => Some(process.answer_made_two(*status, *first, *second, Err(Status::AccessDenied))),
+        CallInstr::EventCreate { status, event } => {
+            Some(process.answer_made(*status, *event, denied))
+        }
+        CallInstr::PortCreate { status, port } => Some(process.answer_made(*status, *port, denied)),
+        CallInstr::ProcessCreate {
+            status,
+            process: made,
+            ..
+        } => Some(process.answer_made(*status, *made, denied)),
+        _ => None,
+    }
+}
+
+/// Examines the handle operands of the call from left to right, and gives the fault of the first that
+/// has one. A handle that stands in a list twice isn't live any more at the second place.
+#[tactic(auto, unfolding(zl_code::specs::Request::site_of, zl_code::specs::Instructions::row_of, zl_code::specs::Spells::call_parts, zl_code::specs::Refusals::handle_operands, crate::specs::Policed::operands_fault))]
+fn examine(table: &Table, cpu: &Cpu, call: CallInstr) -> Result<(), Status>
+    ensures { IfSome (site_of call cpu.now) (λ s. result_err result
+        ≡ operands_fault table.now.entries [] (handle_operands s.request)) }
+{
+    match call {
+        CallInstr::ChanCreate { .. } => Ok(()),
+        CallInstr::EventCreate { .. } => Ok(()),
+        CallInstr::PortCreate { .. } => Ok(()),
+        CallInstr::ProcessExit { .. } => Ok(()),
+        CallInstr::Close { handle, .. } => {
+            // A value of 0 names nothing, and may be closed.
+            if cpu.register(handle) == 0 {
+                return Ok(());
+            }
+            find(table, cpu, handle, &[], Rights::empty())
+        }
+        CallInstr::Dup { handle, .. } => find(table, cpu, handle, &[], Rights::DUPLICATE),
+        CallInstr::Replace { handle, .. } => find(table, cpu, handle, &[], Rights::empty()),
+        CallInstr::ChanWrite {
+            channel,
+            handles,
+            ..
+        } => {
+            find(table, cpu, channel, &[Kind::Channel], Rights::WRITE)?;
+            let (values, count) = cpu.listed(&handles);
+            examine_list(table, &values[..count])
+        }
+        CallInstr::ChanReadEtc { channel, .. } => {
+            find(table, cpu, channel, &[Kind::Channel], Rights::READ)
+        }
+        CallInstr::Signal { handle, .. } => find(table, cpu, handle, &[], Rights::SIGNAL),
+        CallInstr::SignalPeer { handle, .. } => {
+            find(table, cpu, handle, &[Kind::Channel], Rights::SIGNAL_PEER)
+        }
+        CallInstr::WaitOne { handle, .. } => find(table, cpu, handle, &[], Rights::WAIT),
+        CallInstr::WaitPoll { handle, .. } => find(table, cpu, handle, &[], Rights::WAIT),
+        CallInstr::WaitAsync { handle, port, .. } => {
+            find(table, cpu, handle, &[], Rights::WAIT)?;
+            find(table, cpu, port, &[Kind::Port], Rights::WRITE)
+        }
+        CallInstr::PortQueue { port, .. } => {
+            find(table, cpu, port, &[Kind::Port], Rights::WRITE)
+        }
+        CallInstr::PortWait { port, .. } => find(table, cpu, port, &[Kind::Port], Rights::READ),
+        CallInstr::PortPoll { port, .. } => find(table, cpu, port, &[Kind::Port], Rights::READ),
+        CallInstr::PortCancel { port, source, .. } => {
+            find(table, cpu, port, &[Kind::Port], Rights::WRITE)?;
+            find(table, cpu, source, &[], Rights::empty())
+        }
+        CallInstr::ProcessCreate { job, .. } => {
+            find(table, cpu, job, &[Kind::Job], Rights::MANAGE_PROCESS)
+        }
+        CallInstr::ProcessStart {
+            process,
+            handle,
+            ..
+        } => {
+            find(table, cpu, process, &[Kind::Process], Rights::WRITE)?;
+            find(table, cpu, handle, &[], Rights::TRANSFER)
+        }
+        CallInstr::TaskKill { task, .. } => {
+            find(
+                table,
+                cpu,
+                task,
+                &[Kind::Process, Kind::Job],
+                Rights::DESTROY,
+            )
+        }
+        CallInstr::JobCreate { job, .. } => {
+            find(table, cpu, job, &[Kind::Job], Rights::MANAGE_JOB)
+        }
+        CallInstr::JobSetPolicy { job, .. } => {
+            find(table, cpu, job, &[Kind::Job], Rights::SET_POLICY)
+        }
+    }
+}
+
+/// Whether the register has a handle of one of the kinds with the rights, and its fault if it hasn't.
+/// No kinds stand for any.
+fn find(
+    table: &Table,
+    cpu: &Cpu,
+    register: Register,
+    kinds: &[Kind],
+    rights: Rights,
+) -> Result<(), Status>
+    ensures { result_err result ≡ result_err
+        (looked_up table.now.entries (reg cpu.now register) kinds.now (bits rights)) }
+{
+    match look_up(table, cpu.register(register), kinds, rights) {
+        Ok(_) => Ok(()),
+        Err(fault) => Err(fault),
+    }
+}

@@ -1,0 +1,162 @@
+-- What is known of a call that isn't refused: that none of its causes is there, and what its look-ups granted.
+use Rattle.zl_code.proofs.Common.{Created, State, state_passes, is_process, nat_tests, All-nil, All-cons, get-update, process_without, ◌==◌, JobBody, ProcessBody, created_process, with_process, get-put, ne_eqb, ◌<◌, All, Body, Bool, ChannelEnd, EventBody, HandlesAreNamed, HandlesAreSound, IsSound, IsTrue, Library, List, Map, None, Object, Option, PortBody, Process, Ready, Request, SIGNAL, Some, World, [], and_from, and_parts, answer_if, ap, arith, bits, by_look_up, cases_Bool, chan_create, chan_read_etc, chan_write, copy_of, default_rights_of, dup, effect, entry_at, eq-eqb, event_create, examined, false, first_some, get, handle_operands, handles_in, handles_to, has_key, has_koids, has_room, inl, inr, insert_all, is_some, kind_of, queue_of, leb-true, length, listed, may_choose, may_get, may_get_all, nat_le, new_handles, none-some, not, object_at, on_object, operand, raisable, refl, refusal, remove_all, replace, rights_of, row_of, runs, same_Some, signal, subst, sym, taken_handles, true, with_effect, with_object, within, without, ℕ, ◌+◌, ◌&&◌, ◌^◌, ◌||◌, ◌∙◌, ◌∷◌, ◌≡◌, ◌≤◌, ⊤, not-false, or_parts, Packet, settable_of, by_policy, new_entry, object_changed, gets_all, true≢false, false≢true, body_in, body_of, HasPeer, IsSoundWait, is_port_there, is_empty, slice_index_or, eqb-true, on_process, ◌==◌, drop, filter, is_end_if_there, takes, ◌++◌, if◌then◌else◌, Ok, Err}
+use Rattle.zl_code.proofs.Changes.{AreUnmade}
+use Rattle.zl_rights.specs.declared.kind.Kind.TheVariants as kind
+use Rattle.zl_rights.specs.declared.entry.Entry.{Entry}
+use Rattle.zl_rights.specs.declared.status.Status.{Status}
+use Rattle.zl_rights.specs.declared.status.Status.TheVariants as status
+use Rattle.zl_rights.specs.LookUp.{granted}
+use Rattle.zl_rights.proofs.Narrowed.{narrowed_within}
+use Rattle.zl_code.specs.declared.history.Outcome.{Outcome}
+use Rattle.zl_rights.specs.declared.kind.Kind.{Kind}
+use Rattle.zl_rights.specs.Numbers.{DESTROY, TRANSFER, MANAGE_PROCESS, SIGNAL_PEER, USER_SIGNALS, WAIT, WRITE}
+use Rattle.zl_rights.specs.Packets.{is_from, user_packet}
+use Rattle.zl_code.specs.CallTable.{choosing, receiver_of, signal_peer, wait_async, port_create, port_queue, port_wait, port_poll, port_cancel, process_create, process_start, task_kill, job_create, job_set_policy}
+use Rattle.zl_code.specs.Jobs.{depth_in, is_dead, is_deepest, job_within, policy_changed, with_killed}
+use Rattle.zl_code.specs.Starting.{cpu_given, is_created, started_with}
+use Rattle.zl_code.specs.Sound.{IsSoundJob, LivesAt, StandsBelow}
+use Rattle.zl_rights.specs.Policies.{setting_of}
+use Rattle.zl_rights.specs.declared.policy.Action.{Action}
+use Rattle.std.specs.Option.{option_to_list}
+use Rattle.zl_code.specs.Waiting.{source_at, wait_of, registered, without_keyed, is_by_handle}
+use Rattle.zl_rights.specs.World.{Wait}
+use Rattle.std.proofs.lemmas.Bool.{not-true}
+use Rattle.std.proofs.lemmas.List.Elements.{All-filter, filter_passes}
+use Rattle.zl_code.specs.Effects.{message_read, storing, without_waits}
+use Rattle.zl_code.specs.Local.{overwritten}
+use Rattle.zl_code.specs.Tests.{operand_of, koid_in, entries_at, first_bytes, first_handles, peer_at, peer_in, queue_at}
+use Rattle.zl_code.proofs.MapKept.{changed}
+use Rattle.zl_code.specs.Refusals.{condition_of}
+use Rattle.zl_code.proofs.Entering.{IsFine, HaveRoom, MayTake, IsLeft, left_behind, all_enter, get_without, gone_without, copy_is_fine, one_copy, entry_is_fine, length_without, new_is_fine, removed_last}
+
+-- ---- what holds where a call isn't refused
+
+-- the first of these answers isn't given, nor is any behind it
+pub first_is_none : {X : Type 0} (o : Option X) (os : List (Option X)) → first_some (o ∷ os) ≡ None → o ≡ None
+first_is_none None os h = refl
+first_is_none (Some x) os h = h
+
+pub first_none : (o : Option Outcome) (os : List (Option Outcome)) → first_some (o ∷ os) ≡ None → first_some os ≡ None
+first_none None os h = h
+first_none (Some o) os h = cc
+
+-- none of the answers is given
+abbrev pub AreNone : List (Option Outcome) → Type 0
+AreNone [] = ⊤
+AreNone (o ∷ os) = (o ≡ None) × AreNone os
+
+pub are_none : (os : List (Option Outcome)) → first_some os ≡ None → AreNone os
+are_none [] h = tt
+are_none (o ∷ os) h = (first_is_none o os h, are_none os (first_none o os h))
+
+pub listed_none : (lib : Library) (w : World) (p : ℕ) (r : Request) → refusal lib w p r ≡ None → AreNone (listed lib w p r)
+unfolding refusal
+listed_none lib w p r h =
+    are_none (listed lib w p r) (first_none (by_policy w p (condition_of r)) _ (first_none (examined w p [] (handle_operands r)) _ h))
+
+pub test_fails : (b : Bool) (s : Status) → answer_if b s ≡ None → b ≡ false
+test_fails true s h = cc
+test_fails false s h = refl
+
+-- there is room for n handles, where its want or b would refuse the call
+pub room_or : (w : World) (p n : ℕ) (b : Bool) → answer_if (not (has_room w p n) || b) status.NoResources ≡ None → has_room w p n ≡ true
+room_or w p n b h = not-false _ (or_parts (not (has_room w p n)) b (test_fails _ status.NoResources h)).0
+
+-- the same where anything but room and b would
+pub room_and : (w : World) (p n : ℕ) (b : Bool) → answer_if (not (has_room w p n && b)) status.NoResources ≡ None → has_room w p n ≡ true
+room_and w p n b h = (and_parts (has_room w p n) b (not-false _ (test_fails _ status.NoResources h))).0
+
+-- ---- what a look-up granted
+
+-- there is a handle, of a kind that is taken, and it has the rights
+abbrev pub IsGranted : List Kind → ℕ → Option Entry → Type 0
+IsGranted kinds needed o = (x : Entry) × (o ≡ Some x) × IsTrue (takes kinds x.kind) × IsTrue (within needed (bits x.rights))
+
+pub is_granted : (w : World) (p : ℕ) (kinds : List Kind) (needed : ℕ) (o : Option Entry) → by_look_up w p (granted o kinds needed) ≡ None → IsGranted kinds needed o
+is_granted w p kinds needed None fails = absurd (none-some _ (sym fails))
+is_granted w p kinds needed (Some x) fits = by_tests (takes kinds x.kind) (within needed (bits x.rights)) refl refl fits
+  where
+    by_tests : (kind right : Bool) → takes kinds x.kind ≡ kind → within needed (bits x.rights) ≡ right
+        → by_look_up w p (if kind then (if right then Ok x else Err status.AccessDenied) else Err status.WrongType) ≡ None → IsGranted kinds needed (Some x)
+    by_tests true true kind right h = (x, refl, kind, right)
+    by_tests true false kind right h = absurd (none-some _ (sym h))
+    by_tests false right kind is h = absurd (none-some _ (sym h))
+
+-- the handle names an object of a kind that is taken
+pub named_object : (w : World) (p h : ℕ) (kinds : List Kind) (needed : ℕ) → IsGranted kinds needed (entry_at w p h) → HandlesAreNamed w
+    → (o : Object) × (get w.objects (object_at w p h) ≡ Some o) × IsTrue (takes kinds (kind_of o.body))
+named_object w p h kinds needed (e, at, fits, right) named =
+    let (o, there, same) = (entry_is_fine w p h e at).names named in
+    (o, rw at there, subst (λ k. IsTrue (takes kinds k)) same fits)
+
+-- the handle that is replaced is live
+pub is_live : (w : World) (p h rights : ℕ) (q : Process) (lib : Library) → get w.processes p ≡ Some q → refusal lib w p (replace h rights) ≡ None → has_key q.handles h ≡ true
+unfolding row_of refusal handle_operands examined operand
+is_live w p h rights q lib there passes =
+    let found = is_granted w p [] 0 (entry_at w p h) (first_is_none _ _ (first_is_none _ _ passes)) in
+    ap is_some (sym (ap (λ o. get (handles_in o) h) there) ∙ found.1)
+
+-- ---- signals
+
+-- the handle that a signal is sent by has the right to it
+pub has_right : (w : World) (p h clear set : ℕ) (lib : Library) → refusal lib w p (signal h clear set) ≡ None → IsGranted [] SIGNAL (entry_at w p h)
+unfolding row_of refusal handle_operands examined operand
+has_right w p h clear set lib passes = is_granted w p [] SIGNAL (entry_at w p h) (first_is_none _ _ (first_is_none _ _ passes))
+
+-- no handle to a port has it
+pub no_port : (w : World) (p h : ℕ) (e : Entry) (o : Object) (packets : List Packet) → entry_at w p h ≡ Some e → IsTrue (within SIGNAL (bits e.rights)) → get w.objects e.koid ≡ Some o → o.body ≡ PortBody packets
+    → HandlesAreSound w → HandlesAreNamed w → ⊥
+no_port w p h e o packets at right there port sound named =
+    let fine = entry_is_fine w p h e at in
+    let (x, is, same) = fine.names named in
+    let is_port : e.kind ≡ kind.Port = same ∙ ap kind_of (ap (λ (y : Object). y.body) (same_Some x o (sym is ∙ there)) ∙ port) in
+    let inside : IsTrue (within SIGNAL (default_rights_of e.kind)) = narrowed_within e.rights SIGNAL (rights_of SIGNAL) (default_rights_of e.kind) (rw right refl) (fine.rights sound) in
+    true≢false (sym (rw is_port at inside))
+
+pub may_signal : (w : World) (p h clear set : ℕ) (lib : Library) → refusal lib w p (signal h clear set) ≡ None → (o : Object) → get w.objects (object_at w p h) ≡ Some o
+    → IsSound w → IsTrue (within set (raisable o.body))
+unfolding listed
+may_signal w p h clear set lib passes o there sound = by_body o.body refl (and_parts _ _ (rw there at (not-false _ (test_fails _ status.InvalidArgs (listed_none lib w p (signal h clear set) passes).0)))).1
+  where
+    by_body : (b : Body) → o.body ≡ b → IsTrue (within set (settable_of (Some b))) → IsTrue (within set (raisable b))
+    by_body (PortBody packets) is h2 =
+        let (e, at, kind, right) = has_right w p h clear set lib passes in
+        absurd (no_port w p h e o packets at right (rw at at there) is sound.handles sound.named)
+    by_body _ is h2 = h2
+
+-- the handle by which the peer is signaled names an end
+pub has_end : (w : World) (p h clear set : ℕ) (lib : Library) → refusal lib w p (signal_peer h clear set) ≡ None → IsGranted (kind.Channel ∷ []) SIGNAL_PEER (entry_at w p h)
+unfolding row_of refusal handle_operands examined operand
+has_end w p h clear set lib passes = is_granted w p (kind.Channel ∷ []) SIGNAL_PEER (entry_at w p h) (first_is_none _ _ (first_is_none _ _ passes))
+
+pub may_signal_peer : (w : World) (p h clear set : ℕ) (lib : Library) → refusal lib w p (signal_peer h clear set) ≡ None → (o : Object) → get w.objects (peer_at w p h) ≡ Some o
+    → IsSound w → IsTrue (within set (raisable o.body))
+unfolding listed
+may_signal_peer w p h clear set lib passes o there sound =
+    let (x, at, fits) = named_object w p h (kind.Channel ∷ []) SIGNAL_PEER (has_end w p h clear set lib passes) sound.named in
+    by_body x x.body at refl fits
+  where
+    at_end : (b : Body) → IsTrue (is_end_if_there (Some b)) → IsTrue (within set USER_SIGNALS) → IsTrue (within set (raisable b))
+    at_end (ChannelEnd peer queue) is h2 = h2
+    at_end _ is h2 = absurd (false≢true is)
+
+    by_body : (x : Object) (b : Body) → get w.objects (object_at w p h) ≡ Some x → x.body ≡ b → IsTrue (takes (kind.Channel ∷ []) (kind_of b)) → IsTrue (within set (raisable o.body))
+    by_body x (ChannelEnd peer queue) at is fits =
+        let body : body_of w (object_at w p h) ≡ Some (ChannelEnd peer queue) = ap body_in at ∙ ap Some is in
+        let has : HasPeer w.objects w.next_koid (ChannelEnd peer queue) = subst (HasPeer w.objects w.next_koid) is (sound.peers (object_at w p h) x at) in
+        let found : get w.objects peer ≡ Some o = ap (get w.objects) (sym (ap peer_in body)) ∙ there in
+        at_end o.body (rw found at has.1) (and_parts _ _ (rw body at (not-false _ (test_fails _ status.InvalidArgs (listed_none lib w p (signal_peer h clear set) passes).0)))).1
+    by_body x _ at is fits = absurd (false≢true fits)
+
+-- by a value that no handle of p has no wait was made
+pub unmade : (w : World) (p : ℕ) (q : Process) → get w.processes p ≡ Some q → IsSound w → (v : ℕ) → has_key q.handles v ≡ false → AreUnmade w.waits p v
+unmade w p q there s v free i d inside = by_wait (slice_index_or w.waits i d) (s.waits i d inside)
+  where
+    by_wait : (x : Wait) → IsSoundWait w x → is_by_handle p v x ≡ false
+    by_wait x t = elim (cases_Bool (is_by_handle p v x)) as (λ _. is_by_handle p v x ≡ false) [
+      | inl made ↦
+          let both = and_parts (x.pid == p) (x.value == v) made in
+          let at : get (handles_in (get w.processes p)) v ≡ Some t.handle.0 = rw (eqb-true x.pid p both.0, eqb-true x.value v both.1) at t.handle.1 in
+          absurd (false≢true (sym free ∙ ap is_some (rw there at at)))
+      | inr other ↦ other
+    ]

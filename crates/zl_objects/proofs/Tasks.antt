@@ -1,0 +1,146 @@
+-- The invariant of the objects, once jobs and processes were started, killed or given a policy.
+use Rattle.zl_rights.proofs.Common.{◌≡◌, ℕ, Bool, true, false, List, [], ◌∷◌, length, refl, sym, ap, ◌∙◌, subst, suc, Option, Some, None, arith, is_some, nat_cmp, none-some, same_Some, Map, each, get, update, has_key, option_map, sum_by-cons}
+use Rattle.std.specs.Prelude.{Result, Ok, Err, OnOk, OnErr}
+use Rattle.std.specs.Map.{lookup, set_value}
+use Rattle.std.specs.BTreeMap.{is_at}
+use Rattle.zl_rights.specs.World.{Wait as WaitValue}
+use Rattle.zl_rights.specs.declared.policy.Action.{Action}
+use Rattle.zl_rights.specs.declared.policy.Condition.{Condition}
+use Rattle.zl_rights.proofs.MapLaws.{get-each}
+use Rattle.zl_objects.specs.declared.object.Body.{Body}
+use Rattle.zl_objects.specs.declared.object.Body.TheVariants as body
+use Rattle.zl_objects.specs.declared.object.Object.{Object}
+use Rattle.zl_objects.specs.Dying.{HasPeer, IsKept, IsWhole}
+use Rattle.zl_objects.specs.Jobs.{all_killed, is_within, killed_body, killed_if, with_policy_body, with_policy_set}
+use Rattle.zl_objects.specs.Objects.{is_end_at, is_end_body, is_end_in, started, started_body}
+use Rattle.zl_objects.specs.Ports.{reserved_in, reserved_of}
+use Rattle.zl_objects.specs.Waits.{HavePlaces, waits_at, waits_for, waits_in}
+use Rattle.zl_objects.proofs.ByKoid.{written, written_back}
+use Rattle.zl_objects.proofs.Listed.{same_listed, updated_listed, updated_or_listed}
+use Rattle.zl_objects.proofs.Whole.{roomy_whole, updated_whole}
+
+-- what a change of jobs and processes keeps of each body
+record Stays (b c : Body) : Type 0 where
+  ends : is_end_body c ≡ is_end_body b
+  reserved : reserved_of c ≡ reserved_of b
+  peer : (m : Map Object) (next : ℕ) → HasPeer m next b → HasPeer m next c
+
+stays_same : (b : Body) → Stays b b
+stays_same b = record { ends = refl; reserved = refl; peer = λ m next has. has }
+
+started_stays : (b : Body) → Stays b (started_body b)
+started_stays (body.Process job life) = record { ends = refl; reserved = refl; peer = λ m next has. has }
+started_stays (body.Job own) = stays_same (body.Job own)
+started_stays body.Event = stays_same body.Event
+started_stays (body.Port port) = stays_same (body.Port port)
+started_stays (body.ChannelEnd p queue) = stays_same (body.ChannelEnd p queue)
+
+policy_stays : (c : Condition) (a : Action) (b : Body) → Stays b (with_policy_body c a b)
+policy_stays c a (body.Job own) = record { ends = refl; reserved = refl; peer = λ m next has. has }
+policy_stays c a (body.Process job life) = stays_same (body.Process job life)
+policy_stays c a body.Event = stays_same body.Event
+policy_stays c a (body.Port port) = stays_same (body.Port port)
+policy_stays c a (body.ChannelEnd p queue) = stays_same (body.ChannelEnd p queue)
+
+killed_stays : (b : Body) → Stays b (killed_body b)
+killed_stays (body.Job own) = record { ends = refl; reserved = refl; peer = λ m next has. has }
+killed_stays (body.Process job life) = record { ends = refl; reserved = refl; peer = λ m next has. has }
+killed_stays body.Event = stays_same body.Event
+killed_stays (body.Port port) = stays_same (body.Port port)
+killed_stays (body.ChannelEnd p queue) = stays_same (body.ChannelEnd p queue)
+
+-- ---- one of them
+
+module _ {waits : List WaitValue} where
+  pub started_kept : (m n : Map Object) (next room k : ℕ) (d : List ℕ) → IsKept None m next d room waits → n ≡ update m k started → IsKept None n next d room waits
+  started_kept m n next room k d kept is = record {
+    whole = updated_whole started (λ o. (started_stays o.body).ends) (λ m next o. (started_stays o.body).peer m next) (λ o. refl) (λ o. (started_stays o.body).reserved) m n next room k d kept.whole is;
+    listed = updated_listed started (λ o. refl) waits m n k kept.listed is;
+  }
+
+  -- a policy was set, or that was refused
+  pub policy_or_same_kept : {A B : Type 0} (c : Condition) (a : Action) (m n : Map Object) (next room k : ℕ) (d : List ℕ) (v w : Object) (r : Result A B) → IsKept None m next d room waits → OnOk r (w ≡ with_policy_set c a v) → OnErr r (w ≡ v)
+      → Some v ≡ lookup (is_at (nat_cmp k)) m → n ≡ set_value (is_at (nat_cmp k)) m w → IsKept None n next d room waits
+  policy_or_same_kept c a m n next room k d v w r kept is other there set = record {
+    whole = by_result r is other;
+    listed = updated_or_listed (with_policy_set c a) (λ o. refl) waits m n k v w r kept.listed is other there set;
+  }
+    where
+      by_result : {A B : Type 0} (r : Result A B) → OnOk r (w ≡ with_policy_set c a v) → OnErr r (w ≡ v) → IsWhole None n next d room
+      by_result (Ok x) is other = updated_whole (with_policy_set c a) (λ o. (policy_stays c a o.body).ends) (λ m next o. (policy_stays c a o.body).peer m next) (λ o. refl) (λ o. (policy_stays c a o.body).reserved) m n next room k d kept.whole (written m n k (with_policy_set c a) v w there is set)
+      by_result (Err e) is other = roomy_whole m n next room room d d kept.whole (written_back m n k v w there other set) refl (omega arith)
+
+-- ---- all of them
+
+module _ (kills : ℕ → Bool) where
+  -- each object that the test passes is killed
+  abbrev f : ℕ → Object → Object
+  f j o = killed_if (kills j) o
+
+  same_waits : (j : ℕ) (o : Object) → (f j o).signals.waits ≡ o.signals.waits
+  same_waits j o = elim (kills j) as (λ b. (killed_if b o).signals.waits ≡ o.signals.waits) [ true ↦ refl | false ↦ refl ]
+
+  stays : (j : ℕ) (o : Object) → Stays o.body (f j o).body
+  stays j o = elim (kills j) as (λ b. Stays o.body (killed_if b o).body) [ true ↦ killed_stays o.body | false ↦ stays_same o.body ]
+
+  -- what is seen of each object, where the change keeps it
+  seen_each : {X : Type 0} (g : Option Object → X) → ((j : ℕ) (o : Object) → g (Some (f j o)) ≡ g (Some o)) → (m : Map Object) (k : ℕ) → g (get (each f m) k) ≡ g (get m k)
+  seen_each g same m k = ap g (get-each m f k) ∙ by_object (get m k)
+    where
+      by_object : (o : Option Object) → g (option_map (f k) o) ≡ g o
+      by_object None = refl
+      by_object (Some o) = same k o
+
+  waits_each : (m : Map Object) (j : ℕ) → waits_at (each f m) j ≡ waits_at m j
+  unfolding each
+  waits_each [] j = refl
+  waits_each (e ∷ m) j =
+      let same : waits_for j (f e.0 e.1) ≡ waits_for j e.1 = elim (kills e.0) as (λ b. waits_for j (killed_if b e.1) ≡ waits_for j e.1) [ true ↦ refl | false ↦ refl ] in
+      omega (arith, same, sum_by-cons (λ (x : ℕ × Object). waits_for j x.1) (e.0, f e.0 e.1) (each f m), sum_by-cons (λ (x : ℕ × Object). waits_for j x.1) e m, waits_each m j)
+
+  length_each : (m : Map Object) → length (each f m) ≡ length m
+  unfolding each
+  length_each [] = refl
+  length_each (e ∷ m) = ap (λ (n : ℕ). suc n) (length_each m)
+
+  has_each : (m : Map Object) (k : ℕ) → has_key (each f m) k ≡ has_key m k
+  has_each = seen_each (λ o. is_some o) (λ j o. refl)
+
+  end_each : (m : Map Object) (k : ℕ) → is_end_at (each f m) k ≡ is_end_at m k
+  end_each = seen_each is_end_in (λ j o. (stays j o).ends)
+
+  still : (m : Map Object) (next : ℕ) (b : Body) → HasPeer m next b → HasPeer (each f m) next b
+  still m next (body.ChannelEnd p queue) has = (has.0, λ there. end_each m p ∙ has.1 (sym (has_each m p) ∙ there))
+  still m next (body.Job own) has = has
+  still m next (body.Process job life) has = has
+  still m next body.Event has = has
+  still m next (body.Port port) has = has
+
+  each_whole : (m : Map Object) (next room : ℕ) (d : List ℕ) → IsWhole None m next d room → IsWhole None (each f m) next d room
+  each_whole m next room d whole = record {
+    below = λ k there. whole.below k (sym (has_each m k) ∙ there);
+    peers = λ k o at. by_object k o (get m k) refl (sym (get-each m f k) ∙ at);
+    places = places;
+    enough = omega (arith, length_each m, whole.enough);
+    none = whole.none;
+  }
+    where
+      by_object : (k : ℕ) (o : Object) (q : Option Object) → get m k ≡ q → option_map (f k) (get m k) ≡ Some o → HasPeer (each f m) next o.body
+      by_object k o None is read = absurd (none-some o (rw is at read))
+      by_object k o (Some q) is read = subst (λ (x : Object). HasPeer (each f m) next x.body) (same_Some (f k q) o (rw is at read)) (still m next (f k q).body ((stays k q).peer m next (whole.peers k q is)))
+
+      places : HavePlaces (each f m)
+      places j =
+          let reserved : reserved_in (get (each f m) j) ≡ reserved_in (get m j) = seen_each reserved_in (λ i o. (stays i o).reserved) m j in
+          omega (arith, waits_each m j, reserved, whole.places j)
+
+  each_kept : {waits : List WaitValue} (m : Map Object) (next room : ℕ) (d : List ℕ) → IsKept None m next d room waits → IsKept None (each f m) next d room waits
+  each_kept {waits} m next room d kept = record {
+    whole = each_whole m next room d kept.whole;
+    listed = same_listed waits m (each f m) (seen_each waits_in (λ j o. same_waits j o) m) kept.listed;
+  }
+
+-- a kill
+pub killed_kept : {waits : List WaitValue} (m n : Map Object) (next room task : ℕ) (d : List ℕ) → IsKept None m next d room waits → n ≡ all_killed m task → IsKept None n next d room waits
+unfolding all_killed
+killed_kept m n next room task d kept is = rw is (each_kept (is_within m task) m next room d kept)

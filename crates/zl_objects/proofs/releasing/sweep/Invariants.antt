@@ -1,0 +1,13 @@
+use Rattle.std.proofs.Common.{◌≡◌, ◌-◌, ◌^◌, [], vec_capacity}
+use Rattle.zl_objects.proofs.Sweeps.{Sweeps}
+use Rattle.zl_objects.proofs.releasing.sweep.Given as goal
+
+abbrev pub invariant-loop-koid : goal.invariant-loop-koid
+invariant-loop-koid l = record {
+  sweeps : Sweeps l.from l.initial.by_koid.entries l.by_koid.entries;
+  none : l.dying.items ≡ [];
+  capacity : vec_capacity l.dying ≡ vec_capacity l.initial.dying;
+}
+
+abbrev pub decreases-loop-koid : goal.decreases-loop-koid
+decreases-loop-koid l = 2 ^ 64 - l.from

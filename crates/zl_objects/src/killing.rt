@@ -1,0 +1,104 @@
+//! Ways up and through the tree of jobs, and what a kill marks. Nothing here takes memory.
+
+ghost use Rattle.std.specs.List.Sorted.{IsStrictlySortedBy};
+ghost use Rattle.std.specs.Map.{keys_of};
+ghost use Rattle.std.specs.Ordering.{nat_cmp};
+ghost use Rattle.std.specs.Prelude.{◌≡◌, ◌<◌, ℕ, IsTrue};
+ghost use Rattle.zl_rights.specs.Map.{get, has_key, update};
+ghost use Rattle.zl_objects.specs.Jobs.{all_killed, is_below, is_within, killed, killed_if, parent_at};
+ghost use Rattle.zl_objects.specs.Walks.{IsNext};
+
+use crate::object::{Body, Object};
+use std::collections::BTreeMap;
+use std::ops::Bound;
+use zl_jobs::Job;
+use zl_rights::Koid;
+
+impl Object {
+    /// A job is killed, and a process is over, if that is wanted.
+    fn kill_if(&mut self, kills: bool)
+        ensures { self.new ≡ killed_if kills self.old }
+    {
+        if kills {
+            self.kill();
+        }
+    }
+
+    /// A job is killed, and a process is over.
+    fn kill(&mut self)
+        ensures { self.new ≡ killed self.old }
+    {
+        if let Body::Job(job) = &mut self.body {
+            job.kill();
+            return;
+        }
+        self.stop();
+    }
+}
+
+/// The job directly above the job or the process; 0 where there is none.
+#[tactic(auto, using(crate::proofs::ByKoid::by_koid))]
+fn parent_at(by_koid: &BTreeMap<Koid, Object>, koid: Koid) -> Koid
+    ensures { result ≡ parent_at by_koid.now.entries koid }
+{
+    match by_koid.get(&koid) {
+        Some(object) => object.body.parent(),
+        None => 0,
+    }
+}
+
+/// Whether it stands below the job, at any depth.
+pub fn is_below(by_koid: &BTreeMap<Koid, Object>, job: Koid, koid: Koid) -> bool
+    ensures { result ≡ is_below by_koid.now.entries job koid }
+{
+    let mut above = koid;
+    for _ in 0..Job::MOST_DEPTH {
+        above = parent_at(by_koid, above);
+        if above == job {
+            return true;
+        }
+    }
+    false
+}
+
+/// Whether it is the job or stands below it.
+pub fn is_within(by_koid: &BTreeMap<Koid, Object>, job: Koid, koid: Koid) -> bool
+    ensures { result ≡ is_within by_koid.now.entries job koid }
+{
+    koid == job || is_below(by_koid, job, koid)
+}
+
+/// The least koid from this one on, if there is one.
+pub fn next_from(by_koid: &BTreeMap<Koid, Object>, from: Koid) -> Option<Koid>
+    ensures next { IsNext by_koid.now.entries from result }
+    ensures ordered { IsStrictlySortedBy nat_cmp (keys_of by_koid.now.entries) }
+{
+    let (koid, _) = by_koid
+        .range((Bound::Included(from), Bound::Unbounded))
+        .next()?;
+    Some(*koid)
+}
+
+/// The job or the process is killed, and all that stands below it. All koids lie below the end.
+pub fn kill_all(by_koid: &mut BTreeMap<Koid, Object>, task: Koid, end: Koid)
+    requires below { (k : ℕ) → IsTrue (has_key by_koid.old.entries k) → k < end }
+    ensures { by_koid.new.entries ≡ all_killed by_koid.old.entries task }
+{
+    let mut from = 0;
+    while let Some(koid) = next_from(by_koid, from) {
+        let kills = is_within(by_koid, task, koid);
+        kill_if(by_koid, koid, kills);
+        from = koid + 1;
+    }
+}
+
+/// The job or the process is killed, if that is wanted.
+#[tactic(auto, using(crate::proofs::ByKoid::by_koid))]
+fn kill_if(by_koid: &mut BTreeMap<Koid, Object>, koid: Koid, kills: bool)
+    ensures { by_koid.new.entries ≡ update by_koid.old.entries koid (killed_if kills) }
+{
+    let Some(object) = by_koid.get_mut(&koid) else {
+        return;
+    };
+    object.kill_if(kills);
+}

@@ -1,0 +1,329 @@
+-- A process that another starts is started properly, where its program is checked.
+use Rattle.std.proofs.Common.{◌≡◌, ℕ, ◌≤◌, Bool, true, false, not, ◌&&◌, ◌||◌, ◌==◌, List, [], ◌∷◌, ◌++◌, refl, sym, ap, ◌∙◌, subst, Option, Some, None, option_map, Ok, Err, arith}
+use Rattle.std.specs.Prelude.{if◌then◌else◌, slice_get}
+use Rattle.std.specs.List.{AllByRecursion}
+use Rattle.std.specs.Option.{option_to_list}
+use Rattle.std.proofs.lemmas.Bool.Decides.{nat_tests}
+use Rattle.std.proofs.lemmas.Option.{same_Some}
+use Rattle.zl_rights.specs.declared.entry.Entry.{Entry}
+use Rattle.zl_rights.specs.declared.kind.Kind.{Kind}
+use Rattle.zl_rights.specs.declared.policy.Action.{Action}
+use Rattle.zl_rights.specs.declared.policy.Action.TheVariants as action
+use Rattle.zl_rights.specs.declared.policy.Condition.{Condition}
+use Rattle.zl_rights.specs.declared.policy.Condition.TheVariants as condition
+use Rattle.zl_rights.specs.declared.status.Status.{Status}
+use Rattle.zl_rights.specs.declared.status.Status.TheVariants as status
+use Rattle.zl_rights.specs.Common.{bits, within, get, is_process, World, Process, Ready}
+use Rattle.zl_rights.specs.Signals.{state_passes}
+use Rattle.zl_rights.specs.LookUp.{granted}
+use Rattle.zl_rights.specs.Numbers.{same_kind, takes}
+use Rattle.zl_code.specs.declared.boot.Statement.{Statement}
+use Rattle.zl_code.specs.declared.history.CallName.TheVariants as name
+use Rattle.zl_code.specs.declared.history.Outcome.{Outcome}
+use Rattle.zl_code.specs.declared.history.Outcome.TheVariants as outcome
+use Rattle.zl_code.specs.declared.history.TraceItem.{TraceItem}
+use Rattle.zl_code.specs.declared.history.TraceItem.TheVariants as item
+use Rattle.zl_code.specs.declared.image.Start.{Start}
+use Rattle.zl_code.specs.Image.{Image, Library, Program}
+use Rattle.zl_code.specs.First.{first_some}
+use Rattle.zl_code.specs.Tests.{Operand, entry_at, object_at, creates, ends_if_kill, faults, by_look_up, operand, operand_after, seen_after, contains, examined, unless_allowed, action_of, parent_of, by_policy}
+use Rattle.zl_code.specs.Effects.{on_process, process_with, may_get, may_get_all}
+use Rattle.zl_code.specs.Starting.{is_created, started_with, program_in, program_of}
+use Rattle.zl_code.specs.Jobs.{is_only_start, misfits}
+use Rattle.zl_code.specs.Refusals.{refusal, handle_operands, condition_of}
+use Rattle.zl_code.specs.CallTable.{Request, process_start, listed, effect, new_handles, gives_ok}
+use Rattle.zl_code.specs.Request.{Site, site}
+use Rattle.zl_code.specs.Calls.{Calls, CallBy, Choice, Refused, WantsMemory, Values, taken_handles, taken, may_choose, replied, with_effect}
+use Rattle.zl_code.specs.Steps.{AtCall, Acts, Runs, pid_of}
+use Rattle.zl_code.specs.Sound.{IsSound}
+use Rattle.zl_abs.specs.Values.{ANY, kind_below}
+use Rattle.zl_abs.proofs.Order.{both}
+use Rattle.zl_verify.specs.SizedLaws.{IsSizedBoot}
+use Rattle.zl_verify.specs.WakeLaws.{IsRunStep, AreAsDeclared, StartsChild}
+use Rattle.zl_verify.specs.Headline.{IsStarted}
+use Rattle.zl_verify.proofs.Ordinary.{is_good, AreOrdinary, listed_ordinary}
+use Rattle.zl_verify.proofs.Working.{listed_none, test_fails}
+use Rattle.zl_verify.proofs.OwnEffect.{starts_created, no_child, same_policy}
+use Rattle.zl_verify.proofs.Others.{HasSite, site_for, left_other, replied_other, left_by_step}
+use Rattle.zl_verify.proofs.Giving.{getting_all}
+use Rattle.zl_verify.proofs.SizedCalls.{IsSizedRequest, request_sized}
+use Rattle.zl_verify.proofs.SizedRuns.{world_sized}
+use Rattle.zl_verify.proofs.Woken.{sound_before, settled_there, allowed_after}
+use Rattle.zl_verify.proofs.Ended.{awake_still}
+use Rattle.zl_verify.proofs.CheckedRuns.{one_more}
+use Rattle.zl_verify.proofs.BootStarts.{is_booted}
+use Rattle.zl_verify.proofs.Unstarted.{AreUnstarted, inserted_at, changed_at}
+use Rattle.zl_verify.proofs.UnstartedRuns.{lives_new, step_unstarted}
+
+-- ---- a refusal isn't OK
+
+-- it isn't the answer OK
+abbrev IsNotOk : Option Outcome → Type 0
+IsNotOk (Some (outcome.Answered s)) = is_good s ≡ false
+IsNotOk _ = Unit {0}
+
+abbrev AreNotOk : List (Option Outcome) → Type 0
+AreNotOk os = AllByRecursion IsNotOk os
+
+first_not_ok : (os : List (Option Outcome)) → AreNotOk os → IsNotOk (first_some os)
+first_not_ok [] h = tt
+first_not_ok (None ∷ os) h = first_not_ok os h.1
+first_not_ok (Some o ∷ os) h = h.0
+
+fault_not_ok : (a : Action) (s : Status) → is_good s ≡ false → IsNotOk (Some (ends_if_kill a (outcome.Answered s)))
+fault_not_ok action.Kill s e = tt
+fault_not_ok action.Allow s e = e
+fault_not_ok action.Deny s e = e
+
+module _ (w : World) (p : ℕ) where
+  looked_not_ok : (e : Option Entry) (kinds : List Kind) (needed : ℕ) → IsNotOk (by_look_up w p (granted e kinds needed))
+  looked_not_ok None kinds needed = fault_not_ok _ status.BadHandle refl
+  looked_not_ok (Some e) kinds needed = by (takes kinds e.kind) (within needed (bits e.rights))
+    where
+      by : (a b : Bool) → IsNotOk (by_look_up w p (if a then (if b then Ok e else Err status.AccessDenied) else Err status.WrongType))
+      by true true = tt
+      by true false = refl
+      by false b = fault_not_ok _ status.WrongType refl
+
+  operand_not_ok : (seen : List ℕ) (o : Operand) → IsNotOk (operand_after w p seen o)
+  unfolding operand
+  operand_not_ok seen o = by (o.may_be_zero && (o.value == 0)) (o.is_taken && contains seen o.value)
+    where
+      by : (a b : Bool) → IsNotOk (if a then None else (if b then faults w p condition.BadHandle status.BadHandle else operand w p o.kinds o.needed o.value))
+      by true b = tt
+      by false true = fault_not_ok _ status.BadHandle refl
+      by false false = looked_not_ok (entry_at w p o.value) o.kinds o.needed
+
+  examined_not_ok : (os : List Operand) (seen : List ℕ) → IsNotOk (examined w p seen os)
+  unfolding examined
+  examined_not_ok [] seen = tt
+  examined_not_ok (o ∷ os) seen = first_not_ok (operand_after w p seen o ∷ examined w p (seen_after seen o) os ∷ []) (operand_not_ok seen o, (examined_not_ok os (seen_after seen o), tt))
+
+  policy_not_ok : (c : Option Condition) → IsNotOk (by_policy w p c)
+  unfolding creates
+  policy_not_ok None = tt
+  policy_not_ok (Some c) = by (action_of w (parent_of w p) c)
+    where
+      by : (a : Action) → IsNotOk (unless_allowed a)
+      by action.Allow = tt
+      by action.Deny = refl
+      by action.Kill = tt
+
+  all_not_ok : (os : List (Option Outcome)) → AreOrdinary os → AreNotOk os
+  all_not_ok [] h = tt
+  all_not_ok (None ∷ os) h = (tt, all_not_ok os h.1)
+  all_not_ok (Some (outcome.Answered s) ∷ os) h = (h.0.1, all_not_ok os h.1)
+  all_not_ok (Some outcome.Blocked ∷ os) h = absurd h.0
+  all_not_ok (Some (outcome.Ended code) ∷ os) h = absurd h.0
+
+  refusal_not_ok : (lib : Library) (r : Request) → IsNotOk (refusal lib w p r)
+  unfolding refusal
+  refusal_not_ok lib r = first_not_ok (examined w p [] (handle_operands r) ∷ by_policy w p (condition_of r) ∷ listed lib w p r) (examined_not_ok (handle_operands r) [], (policy_not_ok (condition_of r), all_not_ok (listed lib w p r) (listed_ordinary lib w p r)))
+
+-- ---- what it gets
+
+takes_as : (k : Option Kind) (x : Kind) → takes (option_to_list k) x ≡ true → kind_below (Some x) k ≡ true
+takes_as None x e = refl
+takes_as (Some y) x e = by (same_kind x y) e
+  where
+    by : (b : Bool) → (b || false) ≡ true → b ≡ true
+    by true e = refl
+    by false e = cc
+
+-- the handle is the only one that is declared
+record IsOnly (ss : List Start) (o : Option Entry) : Type 0 where
+  entry : Entry
+  there : o ≡ Some entry
+  declared : AreAsDeclared ss (entry ∷ [])
+
+only_one : (ss : List Start) (o : Option Entry) → is_only_start ss o ≡ true → IsOnly ss o
+only_one [] None e = cc
+only_one [] (Some x) e = cc
+only_one (s ∷ []) None e = cc
+only_one (s ∷ r ∷ ss) None e = cc
+only_one (s ∷ r ∷ ss) (Some x) e = cc
+only_one (s ∷ []) (Some x) e =
+    let two = both (takes (option_to_list s.kind) x.kind) (within (bits s.rights) (bits x.rights)) e in
+    record { entry = x; there = refl; declared = ((takes_as s.kind x.kind two.0, two.1), tt) }
+
+fits_declared : (o : Option Program) (i : Image) (e : Option Entry) → o ≡ Some (record { checked = true; image = i }) → misfits o e ≡ false → is_only_start i.starts e ≡ true
+fits_declared None i e is fits = cc
+fits_declared (Some g) i e is fits = by (is_only_start i.starts e) (subst (λ (h : Program). (h.checked && not (is_only_start h.image.starts e)) ≡ false) (same_Some g _ is) fits)
+  where
+    by : (b : Bool) → not b ≡ false → b ≡ true
+    by true k = refl
+    by false k = cc
+
+-- one handle gets one value
+record IsOneValue (x : Process) (e : Entry) (vs : List ℕ) : Type 0 where
+  value : ℕ
+  same : vs ≡ value ∷ []
+  free : may_get_all x (e ∷ []) (value ∷ []) ≡ true
+
+one_value : (x : Process) (e : Entry) (vs : List ℕ) → may_get_all x (e ∷ []) vs ≡ true → IsOneValue x e vs
+one_value x e [] k = cc
+one_value x e (v ∷ []) k = record { value = v; same = refl; free = k }
+one_value x e (v ∷ u ∷ vs) k = absurd (by (may_get x v) k)
+  where
+    by : (b : Bool) → (b && false) ≡ true → ⊥
+    by true e = cc
+    by false e = cc
+
+-- ---- the start
+
+-- In u the process k, which wasn't started in w, is ready with a declared handle and a word.
+record IsReadyChild (lib : Library) (i : Image) (w u : World) (k word : ℕ) : Type 0 where
+  before : Process
+  was : get w.processes k ≡ Some before
+  new : is_created before.state ≡ true
+  entry : Entry
+  value : ℕ
+  there : get u.processes k ≡ Some (process_with value entry (started_with (value ∷ []) word before))
+  free : may_get_all before (entry ∷ []) (value ∷ []) ≡ true
+  declared : AreAsDeclared i.starts (entry ∷ [])
+
+-- the process that isn't started
+found_created : (w : World) (k : ℕ) → is_process w is_created k ≡ true → (x : Process) × (get w.processes k ≡ Some x) × (is_created x.state ≡ true)
+unfolding is_process
+found_created w k e = by (get w.processes k) refl e
+  where
+    by : (o : Option Process) → get w.processes k ≡ o → state_passes is_created o ≡ true → (x : Process) × (get w.processes k ≡ Some x) × (is_created x.state ≡ true)
+    by None is e = cc
+    by (Some x) is e = (x, is, e)
+
+other_way : (a b : ℕ) → (a == b) ≡ false → (b == a) ≡ false
+other_way a b e = grind (arith, nat_tests)
+
+module _ (lib : Library) (w : World) (p : ℕ) (caller : Process) (there : get w.processes p ≡ Some caller) (ready : caller.state ≡ Ready) (process h word : ℕ) (cs ds : List ℕ) (i : Image)
+    (program : program_of lib w (object_at w p process) ≡ Some (record { checked = true; image = i })) where
+  abbrev child : ℕ
+  child = object_at w p process
+
+  abbrev start : Site
+  start = site (process_start process h word) cs ds
+
+  apart : is_process w is_created child ≡ true → (p == child) ≡ false
+  apart created = other_way child p (no_child w child p caller created there (ap is_created ready))
+
+  taken_child : (x : Process) → get w.processes child ≡ Some x → is_process w is_created child ≡ true → get (taken w p start).processes child ≡ Some x
+  taken_child x at created = left_other p child (apart created) (taken_handles (process_start process h word)) w ∙ at
+
+  -- what an answer OK leaves
+  started : refusal lib w p (process_start process h word) ≡ None → (vs : List ℕ) → may_choose w (taken w p start) p (process_start process h word) vs ≡ true → (u : World)
+      → u ≡ replied (with_effect lib w (taken w p start) p (process_start process h word) vs) p start status.Ok [] → IsReadyChild lib i w u child word
+  unfolding listed may_choose effect new_handles
+  started passes vs may u is =
+      let created = starts_created lib w p process h word passes in
+      let (x, at, new) = found_created w child created in
+      let only = only_one i.starts (entry_at w p h) (fits_declared (program_of lib w child) i (entry_at w p h) program (test_fails _ status.InvalidArgs (listed_none lib w p (process_start process h word) passes).1.0)) in
+      let gets : may_get_all x (option_to_list (entry_at w p h)) vs ≡ true = rw (taken_child x at created) at may in
+      let one = one_value x only.entry vs (ap (λ (o : Option Entry). may_get_all x (option_to_list o) vs) (sym only.there) ∙ gets) in
+      record {
+        before = x;
+        was = at;
+        new = new;
+        entry = only.entry;
+        value = one.value;
+        there =
+            ap (λ (v : World). get v.processes child) is
+            ∙ (replied_other p child (apart created) (with_effect lib w (taken w p start) p (process_start process h word) vs) start status.Ok []
+            ∙ (inserted_at (option_to_list (entry_at w p h)) vs (on_process (taken w p start) child (started_with vs word)) child
+            ∙ (ap (option_map (getting_all (option_to_list (entry_at w p h)) vs)) (changed_at (taken w p start) child (started_with vs word) ∙ ap (option_map (started_with vs word)) (taken_child x at created))
+            ∙ (ap (λ (o : Option Entry). Some (getting_all (option_to_list o) vs (started_with vs word x))) only.there ∙ ap (λ us. Some (getting_all (only.entry ∷ []) us (started_with us word x))) one.same))));
+        free = one.free;
+        declared = only.declared;
+      }
+
+  by_choice : (choice : Choice) (r : Option Outcome) → refusal lib w p (process_start process h word) ≡ r → IsNotOk r → (u : World) → CallBy lib w p start choice r (outcome.Answered status.Ok) u → IsReadyChild lib i w u child word
+  unfolding gives_ok
+  by_choice Refused None is ok u c = absurd c
+  by_choice Refused (Some o) is ok u c = let bad : true ≡ false = subst (λ y. IsNotOk (Some y)) (sym c.0) ok in cc
+  by_choice WantsMemory None is ok u c = let bad = c.1 in cc
+  by_choice WantsMemory (Some o) is ok u c = absurd c
+  by_choice (Values vs) None is ok u c = started is vs c.0 u c.2
+  by_choice (Values vs) (Some o) is ok u c = absurd c
+
+  ready_child : (u : World) → Calls lib w p start (outcome.Answered status.Ok) u → IsReadyChild lib i w u child word
+  ready_child u (choice, c) = by_choice choice (refusal lib w p (process_start process h word)) refl (refusal_not_ok w p lib (process_start process h word)) u c
+
+-- ---- the law
+
+boot_unstarted : (lib : Library) (statements : List Statement) (boot : World) → IsSizedBoot lib statements boot → AreUnstarted lib boot
+boot_unstarted lib statements boot b k x at new =
+    let started = is_booted lib statements boot b k x at in
+    let bad : false ≡ true = sym (ap (λ (z : Process). is_created z.state) started.made) ∙ new in
+    cc
+
+module _ (lib : Library) (statements : List Statement) (boot : World) (begins : IsSizedBoot lib statements boot) where
+  run_unstarted : (more items : List TraceItem) (w after : World) → Runs lib boot items w → AreUnstarted lib w → Runs lib w more after → AreUnstarted lib after
+  run_unstarted [] items w after run all e = rw e all
+  run_unstarted (x ∷ more) items w after run all (mid, step, rest) =
+      let b : IsRunStep lib w (pid_of x) x mid = record { statements = statements; boot = boot; items = items; begins = begins; run = run; step = step } in
+      run_unstarted more (items ++ (x ∷ [])) mid after (one_more lib boot items w x mid run step) (step_unstarted lib w (pid_of x) x mid b (sound_before lib w (pid_of x) x mid b) all) rest
+
+module _ (lib : Library) (w : World) (p : ℕ) (x : TraceItem) (w2 : World) (b : IsRunStep lib w p x w2) (i : Image) (k : ℕ) (told : x ≡ item.Call p name.ProcessStart (outcome.Answered status.Ok)) (c : StartsChild lib w p b.step.process k)
+    (program : program_of lib w k ≡ Some (record { checked = true; image = i })) where
+  abbrev own : Process
+  own = b.step.process
+
+  sound : IsSound w
+  sound = sound_before lib w p x w2 b
+
+  unstarted : AreUnstarted lib w
+  unstarted = run_unstarted lib b.statements b.boot b.begins b.items [] b.boot w refl (boot_unstarted lib b.statements b.boot b.begins) b.run
+
+  calls : Calls lib w p (site (process_start c.process c.handle c.word) c.site.consumed c.site.destinations) (outcome.Answered status.Ok) b.step.acted
+  calls =
+      let (o, is, h) = acts in
+      let both : ◌≡◌ {A = TraceItem} (item.Call p name.ProcessStart o) (item.Call p name.ProcessStart (outcome.Answered status.Ok)) = sym is ∙ told in
+      let same : o ≡ outcome.Answered status.Ok = cc in
+      subst (λ r. Calls lib w p (site r c.site.consumed c.site.destinations) (outcome.Answered status.Ok) b.step.acted) c.asks (subst (λ y. Calls lib w p c.site y b.step.acted) same h)
+    where
+      acts : Acts lib w p (AtCall name.ProcessStart c.site) x b.step.acted
+      acts = subst (λ n. Acts lib w p n x b.step.acted) c.next b.step.acts
+
+  child_ready : IsReadyChild lib i w b.step.acted k c.word
+  child_ready =
+      subst (λ j. IsReadyChild lib i w b.step.acted j c.word) c.child
+      (ready_child lib w p own b.step.is_there b.step.is_ready c.process c.handle c.word c.site.consumed c.site.destinations i (ap (program_of lib w) c.child ∙ program) b.step.acted calls)
+
+  word_small : c.word ≤ ANY
+  word_small =
+      let (call, here) = at_site in
+      subst IsSizedRequest c.asks (request_sized own.cpu ((world_sized lib b.statements b.boot w b.items b.begins b.run).cpus p own b.step.is_there) call c.site here)
+    where
+      at_site : HasSite own.cpu (AtCall name.ProcessStart c.site)
+      at_site = subst (HasSite own.cpu) c.next (site_for lib own)
+
+  pub child_starts : IsStarted lib i w2 k
+  child_starts = by child_ready
+    where
+      by : IsReadyChild lib i w b.step.acted k c.word → IsStarted lib i w2 k
+      by r =
+          let y : Process = process_with r.value r.entry (started_with (r.value ∷ []) c.word r.before) in
+          let runs_program : slice_get lib r.before.program ≡ Some (record { checked = true; image = i }) = ap (program_in lib) (sym r.was) ∙ program in
+          let at : get w2.processes k ≡ Some y = subst (λ v. get v.processes k ≡ Some y) (sym b.step.ends_awake) (awake_still k y refl b.step.settled (settled_there b.step.acted b.step.settled b.step.settles k y r.there refl)) in
+          let kept = unstarted k r.before r.was r.new in
+          record {
+            process = y;
+            there = at;
+            ready = refl;
+            checked = true;
+            program = runs_program;
+            proper = record {
+              library = lib;
+              program = r.before.program;
+              checked = true;
+              running = runs_program;
+              handles = r.entry ∷ [];
+              values = r.value ∷ [];
+              word = c.word;
+              made = ap (λ (z : Process). process_with r.value r.entry (started_with (r.value ∷ []) c.word z)) kept.blank;
+              free = subst (λ (z : Process). may_get_all z (r.entry ∷ []) (r.value ∷ []) ≡ true) kept.blank r.free;
+              declared = r.declared;
+              small = word_small;
+              allowed = λ d named.
+                  allowed_after lib w p x w2 b k y at refl d
+                  ∙ (same_policy w b.step.acted k r.before sound r.was (lives_new r.before.state r.new) (left_by_step lib w p x w2 sound b.step).alike d ∙ kept.allowed (record { checked = true; image = i }) runs_program refl d named);
+            };
+          }

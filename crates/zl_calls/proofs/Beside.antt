@@ -1,8 +1,7 @@
 -- Objects that are the same but for waits and the places for their packets: the world sees the same, and the invariant holds.
-use Rattle.zl_calls.proofs.Common.{◌≡◌, ◌<◌, ℕ, Bool, ◌==◌, List, [], ◌∷◌, map, refl, sym, ap, ◌∙◌, subst, Option, Some, None, inl, inr, IsTrue, cases_Bool, eqb-true, false≢true, none-some, same_Some, is_some, if◌then◌else◌, option_map, Map, get, has_key, update, get-update, kind_of, handles_to, Objects, Agrees, object_entry, object_value, body_value, world_value, AreNamed, IsConsistent, IsNamed, World}
+use Rattle.zl_calls.proofs.Common.{◌≡◌, ℕ, Bool, ◌==◌, List, [], ◌∷◌, map, refl, sym, ap, ◌∙◌, subst, Option, Some, None, inl, inr, IsTrue, cases_Bool, eqb-true, false≢true, same_Some, is_some, Map, get, has_key, update, kind_of, handles_to, Objects, Agrees, object_entry, body_value, world_value, AreNamed, IsConsistent, IsNamed, World}
 use Rattle.zl_code.proofs.Common.{each}
 use Rattle.std.specs.List.{find}
-use Rattle.zl_rights.proofs.MapLaws.{get-each}
 use Rattle.zl_rights.specs.declared.entry.Entry.{Entry}
 use Rattle.zl_signals.specs.declared.watch.Watch.{Watch}
 use Rattle.zl_port.specs.Packets.{Port, with_place, without_place}
@@ -10,7 +9,7 @@ use Rattle.zl_objects.specs.declared.object.Body.{Body}
 use Rattle.zl_objects.specs.declared.object.Body.TheVariants as body
 use Rattle.zl_objects.specs.declared.object.Object.{Object}
 use Rattle.zl_objects.specs.declared.wait.Wait.{Wait}
-use Rattle.zl_objects.specs.Listed.{unlisting, watch_of, watching}
+use Rattle.zl_objects.specs.Listed.{watch_of, watching}
 use Rattle.zl_objects.specs.Objects.{queue_of}
 use Rattle.zl_objects.specs.Ports.{at_port, changed_port, unreserved}
 use Rattle.zl_objects.specs.Waits.{AreSameButWaits, at_port_of, bare, unwatched, unwatching, waits_in, watched}

@@ -1,11 +1,8 @@
 -- The list of the blocked processes, as one process changes.
-use Rattle.zl_calls.proofs.Common.{◌≡◌, ◌<◌, ◌≤◌, ◌+◌, ◌^◌, ◌++◌, arith, eq-eqb, length-map, Settles, Request, AtCall, IsStuck, Moves, next_for, close, ℕ, Bool, true, false, not, ◌==◌, List, [], ◌∷◌, length, map, refl, sym, ap, ◌∙◌, subst, if◌then◌else◌, Some, inl, inr, cases_Bool, eqb-true, false≢true, state_passes, Map, get, Library, Objects, process_entry, state_value, world_blocked, world_value, AreBlocked, IsActed}
+use Rattle.zl_calls.proofs.Common.{◌≡◌, ◌<◌, ◌≤◌, ◌+◌, ◌^◌, ◌++◌, arith, eq-eqb, length-map, ℕ, Bool, true, false, not, ◌==◌, List, [], ◌∷◌, length, map, refl, sym, ap, ◌∙◌, subst, if◌then◌else◌, Some, inl, inr, cases_Bool, eqb-true, false≢true, state_passes, Map, get, process_entry, state_value, AreBlocked}
 use Rattle.std.specs.List.{filter}
 use Rattle.std.proofs.lemmas.List.Filters.{length-filter_both}
-use Rattle.zl_code.proofs.Common.{Next, Process as ProcessValue, is_blocked, pid_of, replace}
-use Rattle.zl_rights.specs.World.{Wait}
-use Rattle.zl_rights.specs.declared.status.Status.TheVariants as status
-use Rattle.zl_code.specs.declared.history.Outcome.{Outcome}
+use Rattle.zl_code.proofs.Common.{Process as ProcessValue, is_blocked, pid_of}
 use Rattle.zl_code.specs.declared.history.Outcome.TheVariants as outcome
 use Rattle.zl_code.specs.declared.history.TraceItem.{TraceItem}
 use Rattle.zl_code.specs.declared.history.TraceItem.TheVariants as item

@@ -1,9 +1,8 @@
 -- The statements of a boot on jobs: a job is made in another, and a policy is set.
-use Rattle.zl_calls.proofs.Common.{◌≡◌, ◌+◌, ◌<◌, ◌==◌, ◌&&◌, ◌||◌, ℕ, Bool, true, false, not, List, [], ◌∷◌, map, refl, sym, ap, ◌∙◌, subst, if◌then◌else◌, Option, Some, None, Result, Ok, Err, ⊤, inl, inr, IsTrue, arith, cases_Bool, eqb-true, false≢true, nat_lt, then_some, first_some, is_some, or_right, Map, get, update, has_key, has_key-update, is_sorted-update, is_process, runs, Library, boot_effect, boot_fault, with_object, on_object, handles_to, body_of, Objects, with_new, is_job_at, is_job_in, is_job_body, object_entry, object_value, process_entry, body_value, world_value, is_in_job, Agrees, AreNamed, IsNamed, IsSound, IsMaking, IsCauseOf, Makes, seen, MOST_KOIDS, World}
-use Rattle.zl_code.proofs.Common.{Body as BodyValue, Object as ObjectValue}
+use Rattle.zl_calls.proofs.Common.{◌≡◌, ◌+◌, ◌==◌, ◌||◌, ℕ, Bool, true, false, List, [], ◌∷◌, refl, sym, ap, ◌∙◌, subst, if◌then◌else◌, Option, Some, None, Result, Ok, Err, ⊤, IsTrue, arith, false≢true, then_some, first_some, Map, get, has_key-update, is_sorted-update, is_process, runs, Library, boot_effect, boot_fault, with_object, on_object, handles_to, body_of, Objects, with_new, is_job_at, is_job_in, is_job_body, object_value, body_value, world_value, is_in_job, Agrees, AreNamed, IsSound, IsMaking, IsCauseOf, Makes, seen, World}
+use Rattle.zl_code.proofs.Common.{Object as ObjectValue}
 use Rattle.zl_code.specs.Boot.{is_job, lacks_koids, setting}
-use Rattle.zl_code.specs.Jobs.{has_child, is_conflict, is_deepest as is_deepest_body, job_within as body_within, policy_changed}
-use Rattle.zl_code.specs.Tests.{policy_in}
+use Rattle.zl_code.specs.Jobs.{has_child, job_within as body_within, policy_changed}
 use Rattle.zl_code.specs.declared.boot.BootCause.TheVariants as cause
 use Rattle.zl_code.specs.declared.boot.Statement.TheVariants as statement
 use Rattle.zl_rights.specs.declared.policy.Action.{Action}

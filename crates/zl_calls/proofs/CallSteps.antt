@@ -1,18 +1,12 @@
 -- Any call of a process in the midst of all others: from what was done among them to the relation of steps, up to where processes wake.
-use Rattle.zl_calls.proofs.Common.{◌≡◌, ◌<◌, ℕ, length, slice_get-get_or, Moves, IsStuck, STUCK, Ends, call_in, true, false, ◌==◌, List, map, get_or, set, refl, sym, ap, ◌∙◌, subst, Option, Some, None, IsTrue, none-some, same_Some, position, slice_get, Ready, is_ready, get, has_key, table_of, Library, Site, AtCall, next_for, calls_at, site_of, name_of, refusal, Objects, is_job_at, is_job_in, object_entry, process_entry, process_value, state_value, world_blocked, world_value, body_in, ProcessBody, AreBlocked, IsConsistent, World, arith, nat_tests}
-use Rattle.zl_code.proofs.Common.{Next, Process as ProcessValue, Object as ObjectValue}
-use Rattle.zl_code.specs.CallTable.{Request}
-use Rattle.zl_code.specs.Refusals.{refusal as policed_refusal}
+use Rattle.zl_calls.proofs.Common.{◌≡◌, ◌<◌, ℕ, length, slice_get-get_or, Moves, IsStuck, STUCK, Ends, call_in, true, ◌==◌, List, get_or, set, refl, sym, ap, ◌∙◌, subst, Some, None, same_Some, position, slice_get, is_ready, Library, Site, AtCall, next_for, calls_at, name_of, Objects, process_value, state_value, world_blocked, world_value, AreBlocked, IsConsistent}
 use Rattle.zl_code.specs.Sound.{IsSound as IsSoundWorld}
 use Rattle.zl_code.specs.declared.history.CallName.{CallName}
 use Rattle.zl_code.specs.declared.history.Outcome.{Outcome}
 use Rattle.zl_code.specs.declared.history.TraceItem.TheVariants as item
-use Rattle.zl_calls.specs.Policed.{Policed, verdict_on}
-use Rattle.zl_calls.specs.Reaching.{CallActs, CalledAmong, IsAlone, Reaches, acts, policed, reaches}
+use Rattle.zl_calls.specs.Reaching.{CallActs, CalledAmong, acts, policed, reaches}
 use Rattle.zl_calls.specs.calls.Task.{Lab, lab}
 use Rattle.zl_calls.specs.declared.process.Process.{Process}
-use Rattle.zl_calls.proofs.Answered.{IsWrite}
-use Rattle.zl_calls.proofs.Labs.{IsFree}
 use Rattle.zl_calls.proofs.Performing.{HasActed, HasLeft, alone_so, moves_so, stops_so, write_of}
 use Rattle.zl_calls.proofs.Positions.{first_at}
 use Rattle.zl_calls.proofs.ReachSteps.{reaches_so}

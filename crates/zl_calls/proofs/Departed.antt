@@ -1,5 +1,5 @@
 -- Processes that were never started go with their objects: what settling leaves of a world, and that the invariant stays.
-use Rattle.zl_calls.proofs.Common.{◌≡◌, ◌+◌, ◌<◌, ◌^◌, ◌==◌, ℕ, count_by, sum_by, sum_by-cons, queued_to, IsTable, true, false, List, [], ◌∷◌, map, refl, sym, ap, ◌∙◌, subst, Option, Some, None, IsTrue, eq-eqb, is_some, none-some, same_Some, cond, if◌then◌else◌, option_map, nat_cmp, is_sorted, Map, get, has_key, where_key, each, lives, Koids, handles_to, process_settled, Objects, Agrees, AreBlocked, IsConsistent, object_entry, process_entry, process_value, state_value, world_value, without_others, state_without, state_passes, is_process, Bool, World}
+use Rattle.zl_calls.proofs.Common.{◌≡◌, ◌+◌, ◌<◌, ◌^◌, ◌==◌, ℕ, count_by, sum_by, sum_by-cons, queued_to, IsTable, true, false, List, [], ◌∷◌, map, refl, sym, ap, ◌∙◌, subst, Option, Some, None, IsTrue, eq-eqb, is_some, none-some, same_Some, cond, if◌then◌else◌, option_map, nat_cmp, is_sorted, Map, get, has_key, where_key, each, lives, Koids, handles_to, process_settled, Objects, AreBlocked, IsConsistent, object_entry, process_entry, state_value, world_value, without_others, state_without, state_passes, is_process, Bool, World}
 use Rattle.zl_code.proofs.Common.{Process as ProcessValue, Object as ObjectValue, State as StateValue, Created, is_blocked}
 use Rattle.zl_code.proofs.MapKept.{in_order-each}
 use Rattle.zl_rights.proofs.MapLaws.{get-each}
@@ -9,8 +9,6 @@ use Rattle.zl_calls.specs.declared.process.State.{State}
 use Rattle.zl_calls.specs.declared.process.State.TheVariants as state
 use Rattle.zl_calls.specs.declared.process.Process.{Process}
 use Rattle.zl_calls.specs.Leaving.{left_beside, left_state}
-use Rattle.zl_objects.specs.declared.object.Object.{Object}
-use Rattle.zl_objects.specs.declared.object.Body.{Body}
 use Rattle.zl_objects.specs.Seen.{with_all}
 use Rattle.zl_objects.proofs.Law.{has_seen}
 use Rattle.zl_calls.proofs.SameBodies.{still_agrees}

@@ -1,5 +1,5 @@
 -- Waits end one after another: the objects stay the same but for waits, and of the list just what isn't to end is left.
-use Rattle.zl_calls.proofs.Common.{◌≡◌, ◌<◌, ◌+◌, ◌*◌, ◌-◌, ℕ, Bool, true, false, not, ◌&&◌, ◌||◌, ◌==◌, or_right, and_parts, eq-eqb, eqb-true, List, length, map, refl, sym, ap, ◌∙◌, subst, Option, Some, None, is_some, option_map, slice_get, slice_get-get_or, get_or, arith, Map, get, has_key, list_any, Objects, kind_at, kind_in, object_entry, process_entry, process_value, world_value, world_blocked, IsConsistent, IsPlaceOf, World}
+use Rattle.zl_calls.proofs.Common.{◌≡◌, ◌<◌, ◌+◌, ◌*◌, ◌-◌, ℕ, Bool, true, false, not, ◌&&◌, ◌||◌, ◌==◌, or_right, and_parts, eq-eqb, eqb-true, List, length, map, refl, sym, ap, ◌∙◌, subst, Option, Some, None, is_some, option_map, slice_get, slice_get-get_or, get_or, arith, Map, get, has_key, list_any, Objects, kind_at, kind_in, object_entry, process_entry, process_value, world_value, IsConsistent, IsPlaceOf, World}
 use Rattle.std.specs.List.{filter}
 use Rattle.std.proofs.lemmas.Option.{slice_get_within}
 use Rattle.zl_rights.specs.Settle.{has_handle, is_made_by_handle}
@@ -10,7 +10,7 @@ use Rattle.zl_objects.specs.Listed.{is_keyed_at, unlisting}
 use Rattle.zl_objects.specs.Waits.{unwatching}
 use Rattle.zl_objects.proofs.Law.{has_seen}
 use Rattle.zl_calls.specs.declared.process.Process.{Process}
-use Rattle.zl_calls.specs.Registered.{AreBeside, EndsUnheld, EndsWaits, is_left, world_left}
+use Rattle.zl_calls.specs.Registered.{AreBeside, EndsUnheld, EndsWaits, is_left}
 use Rattle.zl_calls.proofs.Beside.{beside_lab, beside_same, beside_then, beside_world, unwatching_beside}
 use Rattle.zl_calls.proofs.Sifting.{IsSifting, any_there, none_there, one_less, sifting_ends, sifting_starts, sifting_stays, sifting_takes}
 

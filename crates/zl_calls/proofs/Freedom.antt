@@ -1,5 +1,5 @@
 -- Where the policy of a process's job has no verdict on its call, no policy has a say at all.
-use Rattle.zl_calls.proofs.Common.{◌≡◌, ◌<◌, ℕ, true, false, List, [], ◌∷◌, map, refl, sym, ap, ◌∙◌, Option, Some, None, IsTrue, arith, false≢true, none-some, same_Some, subst, first_some, option_map, option_or, is_ready, lives, Library, Site, AtCall, next_for, handle_operands, listed, refusal, table_of, get, Objects, body_in, body_value, is_job_at, is_job_body, is_job_in, object_entry, object_value, process_entry, process_value, state_value, world_blocked, IsConsistent, World}
+use Rattle.zl_calls.proofs.Common.{◌≡◌, ℕ, true, false, List, [], ◌∷◌, map, refl, sym, ap, ◌∙◌, Option, Some, None, arith, false≢true, same_Some, subst, first_some, option_map, option_or, is_ready, lives, Library, Site, AtCall, next_for, handle_operands, listed, refusal, table_of, get, Objects, body_in, body_value, is_job_at, is_job_body, is_job_in, object_entry, object_value, process_entry, process_value, state_value, world_blocked, IsConsistent, World}
 use Rattle.zl_code.proofs.Common.{Body as BodyValue, JobBody, Next, Process as ProcessValue}
 use Rattle.std.specs.Prelude.{Bool}
 use Rattle.zl_code.specs.CallTable.{Request}

@@ -1,5 +1,5 @@
 -- Processes that were made and not started have no handles; and each process stands where its koid is.
-use Rattle.zl_calls.proofs.Common.{◌≡◌, ◌<◌, ℕ, zero, suc, true, false, ◌==◌, List, [], ◌∷◌, map, refl, sym, ap, ◌∙◌, subst, Option, Some, None, inl, inr, IsTrue, arith, eq-eqb, eqb-true, cases_Bool, false≢true, none-some, same_Some, nat_cmp, nat_tests, is_sorted, slice_get, sorted_parts, Map, get, runs, Objects, process_entry, process_value, state_value, world_blocked}
+use Rattle.zl_calls.proofs.Common.{◌≡◌, ◌<◌, ℕ, zero, suc, true, false, ◌==◌, List, [], ◌∷◌, map, refl, subst, Some, inl, inr, IsTrue, arith, eq-eqb, eqb-true, cases_Bool, false≢true, none-some, same_Some, nat_cmp, nat_tests, is_sorted, slice_get, sorted_parts, Map, get, runs, Objects, process_entry, process_value, state_value, world_blocked}
 use Rattle.std.specs.FinMap.Entries.{below_all}
 use Rattle.zl_code.specs.Sound.{IsSound as IsSoundWorld}
 use Rattle.zl_code.specs.Starting.{is_created}

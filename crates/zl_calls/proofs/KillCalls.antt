@@ -1,8 +1,8 @@
 -- The call task_kill, from what it did among all processes to the relation of steps, up to where processes wake.
-use Rattle.zl_calls.proofs.Common.{◌≡◌, ◌<◌, ◌^◌, ℕ, ℤ, zero, suc, Bool, true, false, not, ◌&&◌, ◌||◌, ◌==◌, List, [], ◌∷◌, map, refl, sym, ap, ◌∙◌, subst, Option, Some, None, Result, Ok, Err, inl, inr, ◌⊎◌, IsTrue, arith, option_map, Map, get, each, update, lives, state_passes, none-some, same_Some, slice_get, get_or, position, eq-eqb, false≢true, is_sorted, nat_cmp, object_entry, process_entry, process_value, state_value, Objects, World, world_value, world_blocked, Library, Site, AtCall, next_for, cpu_answered, first_some, replied, taken, grows, AreBlocked, IsConsistent, Releases, AreKeptBut, Ready, is_ready, if◌then◌else◌, cases_Bool, eqb-true, ⊤, refusal, site, slice_set, handle_operands, row_of, examined, operand, listed, IsNamed, ◌+◌, table_of, may_choose, handles_to, sum_by, count_by, get-update, is_sorted-update, Settles, list_any, is_some, has_key, new_handles, taken_handles, remove_all, insert_all, effect, gives_ok, ended, on_process, Values}
+use Rattle.zl_calls.proofs.Common.{◌≡◌, ◌<◌, ◌^◌, ℕ, ℤ, zero, suc, Bool, true, false, not, ◌&&◌, ◌==◌, List, [], ◌∷◌, map, refl, sym, ap, ◌∙◌, subst, Option, Some, None, Result, Ok, Err, inl, inr, ◌⊎◌, IsTrue, arith, option_map, Map, get, each, update, lives, state_passes, none-some, same_Some, slice_get, eq-eqb, false≢true, is_sorted, nat_cmp, object_entry, process_entry, process_value, state_value, Objects, World, world_value, world_blocked, Library, Site, AtCall, next_for, cpu_answered, first_some, replied, taken, AreBlocked, IsConsistent, Releases, Ready, if◌then◌else◌, cases_Bool, eqb-true, refusal, site, slice_set, handle_operands, row_of, examined, operand, listed, IsNamed, ◌+◌, table_of, may_choose, sum_by, count_by, get-update, is_sorted-update, new_handles, taken_handles, remove_all, insert_all, effect, gives_ok, ended, on_process, Values}
 use Rattle.std.specs.List.{filter}
 use Rattle.std.specs.Result.{result_err}
-use Rattle.zl_rights.specs.LookUp.{granted, looked_up}
+use Rattle.zl_rights.specs.LookUp.{looked_up}
 use Rattle.zl_rights.specs.Numbers.{DESTROY, KILLED}
 use Rattle.zl_rights.specs.declared.entry.Entry.{Entry}
 use Rattle.zl_rights.specs.declared.kind.Kind.TheVariants as kind
@@ -26,8 +26,7 @@ use Rattle.zl_code.specs.declared.history.Outcome.TheVariants as outcome
 use Rattle.zl_objects.specs.Jobs.{all_killed, is_within, killing}
 use Rattle.zl_objects.specs.Release.{all_koids}
 use Rattle.zl_objects.proofs.Released.{releases_then}
-use Rattle.zl_calls.specs.Making.{IsSound}
-use Rattle.zl_calls.specs.Registered.{KeepsListed, ListsBut}
+use Rattle.zl_calls.specs.Registered.{ListsBut}
 use Rattle.zl_calls.specs.declared.process.Process.{Process}
 use Rattle.zl_calls.specs.declared.process.State.{State}
 use Rattle.zl_calls.specs.declared.process.State.TheVariants as state
@@ -41,7 +40,6 @@ use Rattle.zl_calls.proofs.LeftWaits.{left_by}
 use Rattle.zl_calls.proofs.Performing.{HasLeft}
 use Rattle.zl_calls.proofs.KillSound.{all_noted, tables_from, AllTables, AreAllGone, gone_of, killed_sound, killed_with, numbered, numbered_all, numbered_naming, numbered_sorted, in_tables, naming, named_killed}
 use Rattle.zl_calls.proofs.KillWorlds.{are_idle, blocked_left, objects_killed, processes_killed, same_within}
-use Rattle.zl_calls.proofs.Plain.{Calls as PlainCalls}
 use Rattle.zl_calls.proofs.Refused.{answers}
 use Rattle.zl_calls.proofs.Settled.{IsSettled, settled}
 use Rattle.zl_calls.proofs.StartCalls.{writes_at}

@@ -2,7 +2,7 @@
 use Rattle.zl_rights.proofs.Common.{◌≡◌, ◌<◌, ◌≤◌, ◌+◌, ℕ, Bool, true, false, ◌&&◌, List, [], ◌∷◌, ◌++◌, length, map, take, drop, refl, sym, ap, ◌∙◌, subst, arith, zero, suc, get_or, IsTrue, nat_cmp, below_all, is_sorted, set, slice_get, state_passes, Option, Some, None, Result, Ok, filter, has_key, is_some, option_map, Map, get, each, append-nil, take_all, length-map, none-some, same_Some}
 use Rattle.std.specs.Ordering.{is_lt}
 use Rattle.zl_objects.specs.Objects.{Objects}
-use Rattle.zl_calls.specs.World.{process_entry, state_value}
+use Rattle.zl_calls.specs.World.{process_entry}
 use Rattle.zl_calls.specs.declared.process.Process.{Process}
 use Rattle.zl_calls.specs.calls.Task.{ClosesAllEnded, ClosesEnded, IsCallerStill, TaskKillDoes, ended_if, ended_within, is_over, lab, lives_on, none_left, one_more}
 use Rattle.zl_calls.proofs.Keeping.{drop_here, none_behind}

@@ -1,5 +1,5 @@
 -- A kill: the handles of all who end count still and are in no table, and the invariant holds but for what keeps the objects.
-use Rattle.zl_calls.proofs.Common.{◌≡◌, ℕ, zero, suc, ◌+◌, ◌<◌, ◌≤◌, Bool, true, false, not, ◌&&◌, ◌==◌, List, [], ◌∷◌, ◌++◌, map, refl, sym, ap, ◌∙◌, subst, cond, Option, Some, None, inl, inr, IsTrue, arith, option_map, Map, get, has_key, each, without, lives, runs, none-some, same_Some, eq-eqb, ne_eqb, false≢true, below_all, is_sorted, nat_cmp, is_some, object_entry, object_value, body_value, process_entry, process_value, state_value, Objects, World, world_value, count_by, sum_by, sum_by-cons, queued_to, handles_to, is_process, state_passes, kind_of, is_job_at, is_job_in, is_in_job, Agrees, AreNamed, IsNamed, IsConsistent, IsTable, Releases, AreKeptBut, All, All-nil, if◌then◌else◌, ⊤, list_any, append-nil, cases_Bool, eqb-true, and_from, nat_tests, or_left, or_right, ◌||◌}
+use Rattle.zl_calls.proofs.Common.{◌≡◌, ℕ, suc, ◌+◌, ◌<◌, Bool, true, false, not, ◌==◌, List, [], ◌∷◌, ◌++◌, map, refl, sym, ap, ◌∙◌, subst, cond, Option, Some, None, inl, inr, IsTrue, arith, option_map, Map, get, has_key, each, lives, runs, none-some, same_Some, eq-eqb, ne_eqb, false≢true, below_all, is_sorted, nat_cmp, is_some, object_entry, body_value, process_entry, process_value, Objects, world_value, count_by, sum_by, sum_by-cons, queued_to, handles_to, is_process, state_passes, kind_of, is_job_at, is_job_in, is_in_job, Agrees, AreNamed, IsNamed, IsConsistent, IsTable, Releases, AreKeptBut, if◌then◌else◌, ⊤, list_any, cases_Bool, eqb-true, and_from, nat_tests, or_left, or_right, ◌||◌}
 use Rattle.std.proofs.lemmas.List.Sums.{sum_by-append}
 use Rattle.zl_calls.specs.Making.{IsSound}
 use Rattle.zl_code.proofs.Common.{Process as ProcessValue, State as StateValue, Created, Ready, Blocked, Ended, Gone, get-each, Cpu}
@@ -13,15 +13,12 @@ use Rattle.zl_objects.specs.declared.object.Body.{Body}
 use Rattle.zl_objects.specs.declared.object.Body.TheVariants as body
 use Rattle.zl_objects.specs.declared.object.Object.{Object}
 use Rattle.zl_objects.specs.declared.object.Life.{Life}
-use Rattle.zl_objects.specs.declared.object.Life.TheVariants as life
-use Rattle.zl_objects.specs.Jobs.{all_killed, is_within, killed, killed_body, killed_if, killing}
-use Rattle.zl_objects.specs.Objects.{is_alive, is_job_body, queue_of, stopped_body}
+use Rattle.zl_objects.specs.Jobs.{all_killed, is_within, killed_body, killed_if, killing}
+use Rattle.zl_objects.specs.Objects.{is_alive, is_job_body, queue_of}
 use Rattle.zl_objects.specs.Release.{all_koids}
-use Rattle.zl_objects.specs.Seen.{is_above}
 use Rattle.zl_objects.proofs.Bodies.{same_in_job}
 use Rattle.zl_objects.proofs.Released.{releases_then}
 use Rattle.zl_calls.specs.declared.process.Process.{Process}
-use Rattle.zl_calls.specs.declared.process.State.TheVariants as state
 use Rattle.zl_calls.specs.calls.Task.{ClosesAllEnded, ClosesEnded, ended_if, ended_within, lives_on, is_over, none_left, one_more}
 use Rattle.zl_calls.proofs.SameBodies.{still_named}
 use Rattle.zl_calls.proofs.Settled.{AreGone, drained, unchanged}

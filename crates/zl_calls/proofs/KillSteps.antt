@@ -1,5 +1,5 @@
 -- The call task_kill as a step: refused, done, or with the end of its caller.
-use Rattle.zl_calls.proofs.Common.{◌≡◌, ℕ, ℤ, true, false, ◌==◌, List, [], ◌∷◌, refl, sym, ap, ◌∙◌, subst, get_or, slice_get, slice_set, set, Option, Some, None, Result, Ok, Err, position, is_ready, Library, Site, site, AtCall, next_for, Objects, process_value, state_value, world_blocked, world_value, AreBlocked, IsConsistent, IsRefusedBy, cpu_answered, row_of, handle_operands, remove_all, taken_handles, gives_refused, refusal, table_of, status_of, ⊤, Ready, slice_get-get_or}
+use Rattle.zl_calls.proofs.Common.{◌≡◌, ℕ, ℤ, true, false, ◌==◌, List, [], refl, sym, ap, ◌∙◌, subst, get_or, slice_get, slice_set, set, Some, Result, Ok, Err, position, is_ready, Library, Site, site, AtCall, next_for, Objects, process_value, state_value, world_blocked, world_value, AreBlocked, IsConsistent, IsRefusedBy, cpu_answered, row_of, handle_operands, remove_all, taken_handles, gives_refused, refusal, status_of, ⊤, Ready, slice_get-get_or}
 use Rattle.zl_rights.specs.declared.status.Status.{Status}
 use Rattle.zl_rights.specs.declared.status.Status.TheVariants as status
 use Rattle.zl_code.proofs.Common.{is_blocked}

@@ -1,5 +1,5 @@
 -- What a kill makes of the world of a lab: the definitions see the same of its processes, objects and list of the blocked.
-use Rattle.zl_calls.proofs.Common.{◌≡◌, ℕ, zero, suc, Bool, true, false, not, ◌&&◌, ◌||◌, ◌==◌, List, [], ◌∷◌, map, refl, sym, ap, ◌∙◌, subst, Option, Some, None, inl, inr, IsTrue, arith, cases_Bool, option_map, Map, get, each, lives, runs, length, ◌<◌, state_passes, eqb-true, below_all, AreBlocked, none-some, same_Some, eq-eqb, ne_eqb, false≢true, object_entry, object_value, body_value, process_entry, process_value, state_value, Objects, World, world_blocked, is_sorted, nat_cmp, if◌then◌else◌, ⊤}
+use Rattle.zl_calls.proofs.Common.{◌≡◌, ℕ, zero, suc, Bool, true, false, not, ◌&&◌, ◌||◌, ◌==◌, List, [], ◌∷◌, map, refl, sym, ap, ◌∙◌, subst, Option, Some, None, inl, inr, IsTrue, arith, cases_Bool, option_map, Map, get, each, lives, runs, length, ◌<◌, state_passes, eqb-true, below_all, AreBlocked, none-some, eq-eqb, ne_eqb, false≢true, object_entry, object_value, body_value, process_entry, process_value, state_value, Objects, world_blocked, is_sorted, nat_cmp, if◌then◌else◌, ⊤}
 use Rattle.zl_code.proofs.Common.{Process as ProcessValue, Object as ObjectValue, State as StateValue, Created, Ready, Blocked, Ended, Gone, is_blocked, get-each}
 use Rattle.std.specs.List.{filter}
 use Rattle.zl_rights.specs.Numbers.{KILLED}
@@ -13,7 +13,6 @@ use Rattle.zl_objects.specs.declared.object.Object.{Object}
 use Rattle.zl_objects.specs.Jobs.{all_killed, is_below_by, is_within, killed_body, killed_if, parent_at, parent_of}
 use Rattle.zl_objects.proofs.Law.{get_seen}
 use Rattle.zl_calls.specs.declared.process.Process.{Process}
-use Rattle.zl_calls.specs.declared.process.State.TheVariants as state
 use Rattle.zl_calls.specs.calls.Task.{ClosesAllEnded, ClosesEnded, ended_if, ended_within, lives_on, is_over, none_left, one_more}
 
 -- ---- who stands below

@@ -1,5 +1,5 @@
 -- What a process does beside registered waits and blocked processes: those waits are left whose handle, object and port are.
-use Rattle.zl_calls.proofs.Common.{◌≡◌, ℕ, suc, Bool, true, false, ◌&&◌, List, [], ◌∷◌, map, refl, sym, ap, ◌∙◌, subst, Option, Some, None, inl, inr, IsTrue, arith, cases_Bool, false≢true, none-some, same_Some, is_some, if◌then◌else◌, All, and_from, and_parts, entry_at, get, has_key, state_passes, AtCall, Library, Ready, Settles, Site, next_for, Objects, process_entry, object_entry, world_blocked, world_value, IsActed, AreBlocked}
+use Rattle.zl_calls.proofs.Common.{◌≡◌, ℕ, suc, Bool, true, false, ◌&&◌, List, [], ◌∷◌, map, refl, sym, ap, ◌∙◌, subst, Option, Some, None, inl, inr, IsTrue, arith, cases_Bool, false≢true, none-some, All, and_from, and_parts, entry_at, get, has_key, state_passes, AtCall, Library, Ready, Settles, Site, next_for, Objects, process_entry, object_entry, world_blocked, world_value, IsActed, AreBlocked}
 use Rattle.std.specs.List.{filter}
 use Rattle.std.specs.Prelude.{slice_index_or}
 use Rattle.std.proofs.lemmas.List.Elements.{filter_passes}
@@ -14,7 +14,7 @@ use Rattle.zl_code.specs.declared.history.Outcome.{Outcome}
 use Rattle.zl_code.specs.declared.history.TraceItem.{TraceItem}
 use Rattle.zl_code.specs.declared.history.TraceItem.TheVariants as item
 use Rattle.zl_code.proofs.SoundRuns.{settled_sound}
-use Rattle.zl_code.proofs.StepsBeside.{ActsAndSettles, blocked_by, next_looks, tells_blocking, waits_by}
+use Rattle.zl_code.proofs.StepsBeside.{ActsAndSettles, next_looks, tells_blocking, waits_by}
 use Rattle.zl_code.proofs.StepsWaiting.{settles_waiting, step_waiting, is_left as is_left_at_port}
 use Rattle.zl_code.proofs.Waiters.{with_waiters}
 use Rattle.zl_objects.proofs.Law.{has_seen}

@@ -1,5 +1,5 @@
 -- A list of which one item after another becomes what a function makes of it.
-use Rattle.zl_calls.proofs.Common.{◌≡◌, ◌+◌, ◌<◌, ◌≤◌, ℕ, zero, suc, List, [], ◌∷◌, ◌++◌, map, length, take, refl, ap, ◌∙◌, sym, subst, arith, append-nil}
+use Rattle.zl_calls.proofs.Common.{◌≡◌, ◌+◌, ◌<◌, ℕ, zero, suc, List, [], ◌∷◌, ◌++◌, map, length, take, refl, ap, ◌∙◌, sym, arith}
 use Rattle.std.specs.Prelude.{drop, slice_index_or, slice_set}
 
 -- the items before the place are made, and making those behind it makes all

@@ -1,5 +1,5 @@
 -- Calls on which no policy has a say: their answers follow from the caller's table and from the listed answers.
-use Rattle.std.specs.Prelude.{ℕ, ◌≡◌, List, [], ◌∷◌, Option, Result}
+use Rattle.std.specs.Prelude.{ℕ, List, [], ◌∷◌, Option, Result}
 use Rattle.zl_code.proofs.Common.{World}
 use Rattle.zl_code.proofs.Common.{examined, handle_operands, listed}
 use Rattle.zl_code.specs.CallTable.{Request}

@@ -1,12 +1,12 @@
 -- A call that reaches other processes: from what it did among them to a step, up to where processes wake.
-use Rattle.zl_calls.proofs.Common.{◌≡◌, ℕ, ℤ, true, ◌==◌, List, get_or, refl, sym, ap, ◌∙◌, subst, Option, Some, None, Result, Ok, position, is_ready, Library, Request, Site, site, AtCall, next_for, Objects, process_value, state_value, world_blocked, world_value, AreBlocked, IsConsistent}
+use Rattle.zl_calls.proofs.Common.{◌≡◌, ℕ, ℤ, true, ◌==◌, List, get_or, refl, sym, ap, ◌∙◌, subst, Some, None, position, is_ready, Library, Request, Site, site, AtCall, next_for, Objects, process_value, state_value, world_blocked, world_value, AreBlocked, IsConsistent}
 use Rattle.zl_code.specs.CallTable.{process_create, process_start, task_kill}
 use Rattle.zl_code.specs.Sound.{IsSound as IsSoundWorld}
 use Rattle.zl_code.specs.declared.history.CallName.{CallName}
 use Rattle.zl_code.specs.declared.history.Outcome.{Outcome}
 use Rattle.zl_code.specs.declared.history.TraceItem.TheVariants as item
 use Rattle.zl_calls.specs.Policed.{verdict_on}
-use Rattle.zl_calls.specs.Reaching.{EndsCaller, IsAnsweredIn, Reaches, creates, kills, kills_itself, starts}
+use Rattle.zl_calls.specs.Reaching.{IsAnsweredIn, Reaches, creates, kills, kills_itself, starts}
 use Rattle.zl_calls.specs.calls.Answer.{no_value, one_value, told_by}
 use Rattle.zl_calls.specs.calls.Task.{Lab, ProcessCreateDoes, ProcessStartDoes, TaskKillDoes, lab}
 use Rattle.zl_calls.specs.declared.process.Process.{Process}

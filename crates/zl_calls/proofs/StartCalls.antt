@@ -1,6 +1,6 @@
 -- The call process_start, from all processes and the objects to the relation of calls.
-use Rattle.zl_calls.proofs.Common.{◌≡◌, ◌≢◌, ◌<◌, ℕ, zero, suc, Bool, true, false, not, ◌==◌, ◌&&◌, List, [], ◌∷◌, map, refl, sym, ap, ◌∙◌, subst, Option, Some, None, Result, Ok, Err, inl, inr, ◌⊎◌, IsTrue, arith, cases_Bool, eqb-true, eq-eqb, ne_eqb, is_some, option_map, then_some, option_or, if◌then◌else◌, first_some, answer_if, and_from, same_Some, none-some, false≢true, nat_cmp, is_sorted, Map, get, put, has_key, update, without, slice_get, slice_set, is_process, state_passes, Library, Site, site, refusal, handle_operands, row_of, examined, operand, listed, may_choose, may_get, new_handles, insert_all, remove_all, taken_handles, effect, gives_ok, replied, taken, table_of, on_process, process_with, process_without, cpu_answered, Values, Calls, Ready, get-update, sorted_parts, Handles, Inserts, Objects, process_entry, process_value, object_entry, object_value, body_value, state_value, world_value, World}
-use Rattle.zl_code.proofs.Common.{Process as ProcessValue, Object as ObjectValue}
+use Rattle.zl_calls.proofs.Common.{◌≡◌, ◌<◌, ℕ, zero, suc, Bool, true, false, not, ◌==◌, List, [], ◌∷◌, map, refl, sym, ap, ◌∙◌, subst, Option, Some, None, Result, Ok, Err, inl, inr, IsTrue, arith, cases_Bool, eqb-true, eq-eqb, ne_eqb, option_map, then_some, option_or, if◌then◌else◌, first_some, answer_if, and_from, same_Some, none-some, nat_cmp, is_sorted, Map, get, has_key, update, without, slice_get, slice_set, is_process, state_passes, Library, Site, site, refusal, handle_operands, row_of, examined, operand, listed, may_choose, may_get, new_handles, insert_all, remove_all, taken_handles, effect, gives_ok, replied, taken, table_of, on_process, process_with, process_without, cpu_answered, Values, Calls, Ready, get-update, sorted_parts, Inserts, Objects, process_entry, process_value, object_entry, object_value, body_value, state_value, world_value, World}
+use Rattle.zl_code.proofs.Common.{Process as ProcessValue}
 use Rattle.zl_table.proofs.MapEdits.{below_parts}
 use Rattle.zl_rights.proofs.Common.{below_all}
 use Rattle.zl_rights.specs.LookUp.{granted, looked_up}

@@ -1,7 +1,6 @@
 -- The process that a call starts: how it is found by its koid, and what becomes of all processes.
-use Rattle.zl_rights.proofs.Common.{◌≡◌, ◌≢◌, ◌<◌, ◌+◌, ℕ, Bool, true, false, not, ◌==◌, List, [], ◌∷◌, length, Option, Some, None, Ok, Err, refl, sym, ap, ◌∙◌, subst, arith, zero, suc, false≢true, same_Some, none-some, position, find, if◌then◌else◌, slice_get, slice_set, slice_get-get_or, nat_tests, eqb-true, get_or, set, then_some}
+use Rattle.zl_rights.proofs.Common.{◌≡◌, ◌≢◌, ◌<◌, ℕ, Bool, true, false, ◌==◌, List, [], ◌∷◌, length, Option, Some, None, Ok, Err, refl, sym, ap, ◌∙◌, subst, arith, zero, suc, false≢true, same_Some, none-some, position, find, slice_get, slice_set, slice_get-get_or, nat_tests, eqb-true, get_or}
 use Rattle.std.specs.List.{position_or_len}
-use Rattle.std.specs.Option.{option_or}
 use Rattle.std.proofs.lemmas.List.{length-set}
 use Rattle.std.proofs.lemmas.List.Folds.{find_at}
 use Rattle.std.proofs.lemmas.List.Quantifiers.{position-Some}

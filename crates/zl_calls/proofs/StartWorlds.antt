@@ -3,7 +3,6 @@ use Rattle.zl_calls.proofs.Common.{◌≡◌, ℕ, ◌==◌, true, List, [], ◌
 use Rattle.zl_code.proofs.StepsBeside.{next_looks}
 use Rattle.zl_code.specs.CallTable.{process_start}
 use Rattle.zl_code.specs.Sound.{IsSound as IsSoundWorld}
-use Rattle.zl_code.specs.Starting.{is_created}
 use Rattle.zl_code.specs.declared.history.CallName.{CallName}
 use Rattle.zl_code.specs.declared.history.Outcome.{Outcome}
 use Rattle.zl_code.specs.declared.history.Outcome.TheVariants as outcome

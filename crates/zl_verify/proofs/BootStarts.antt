@@ -1,19 +1,16 @@
 -- In a boot world each process is as a statement started it.
-use Rattle.std.proofs.Common.{◌≡◌, ℕ, ◌+◌, ◌≤◌, ◌⊎◌, Bool, true, false, ◌==◌, List, [], ◌∷◌, refl, sym, ap, ◌∙◌, IsTrue, Some, None, inl, inr}
-use Rattle.std.specs.Prelude.{if◌then◌else◌, slice_get, unwrap_or}
+use Rattle.std.proofs.Common.{◌≡◌, ℕ, ◌≤◌, Bool, List, [], ◌∷◌, refl, ap, IsTrue, Some, None}
+use Rattle.std.specs.Prelude.{slice_get}
 use Rattle.std.specs.List.{AllByRecursion}
-use Rattle.std.proofs.lemmas.Bool.{cases_Bool}
 use Rattle.std.proofs.lemmas.Option.{none-some}
-use Rattle.zl_rights.specs.Common.{condition_number, get, where_key, Koids, Settles, process_settled, without_others, World, Process, Body, EventBody, PortBody, ChannelEnd, JobBody, ProcessBody}
-use Rattle.zl_rights.specs.declared.policy.Action.TheVariants as action
-use Rattle.zl_rights.proofs.MapLaws.{get-put, get-where_key-in, get-where_key-out}
+use Rattle.zl_rights.specs.Common.{get, Koids, Settles, process_settled, without_others, World, Process}
 use Rattle.zl_code.specs.declared.boot.Statement.{Statement}
 use Rattle.zl_code.specs.declared.boot.Statement.TheVariants as statement
 use Rattle.zl_rights.specs.declared.policy.Condition.{Condition}
 use Rattle.zl_code.specs.Image.{Image, Library, is_among}
 use Rattle.zl_code.specs.Effects.{with_object, on_object}
 use Rattle.zl_code.specs.Boot.{Boots, may_boot, boot_effect, handles_given, origin, started_process}
-use Rattle.zl_code.specs.Tests.{body_in, body_of, policy_in, parent_of, unless_allowed, creates}
+use Rattle.zl_code.specs.Tests.{creates}
 use Rattle.zl_code.proofs.MapKept.{each_put}
 use Rattle.zl_abs.specs.Values.{ANY}
 use Rattle.zl_verify.specs.SizedLaws.{word_of, IsSizedBoot}

@@ -21,7 +21,7 @@ use Rattle.zl_rights.specs.declared.policy.Action.{Action}
 use Rattle.zl_rights.specs.declared.policy.Condition.{Condition}
 use Rattle.zl_rights.specs.declared.status.Status.{Status}
 use Rattle.zl_rights.specs.declared.status.Status.TheVariants as status
-use Rattle.zl_table.specs.Table.{Handles, Inserts}
+use Rattle.zl_table.specs.Table.{Inserts}
 use Rattle.zl_objects.specs.Jobs.{action_of, is_dead, is_within, job_at, killing}
 use Rattle.zl_objects.specs.Objects.{Objects, starting, with_new}
 use Rattle.zl_objects.specs.Release.{Releases, all_koids}

@@ -1,4 +1,4 @@
-use Rattle.zl_calls.proofs.Common.{◌≡◌, ◌<◌, ℕ, length, arith}
+use Rattle.zl_calls.proofs.Common.{◌≡◌, ◌<◌, length, arith}
 use Rattle.zl_calls.specs.Leaving.{left_beside}
 use Rattle.zl_calls.proofs.Mapping.{all_mapped, none_mapped, one_mapped}
 use Rattle.zl_calls.proofs.leaving.leave.Goals as goal

@@ -1,11 +1,9 @@
-use Rattle.zl_calls.proofs.Common.{sym, ◌∙◌, ◌<◌, length, process_value, ℕ}
-use Rattle.zl_calls.specs.declared.process.Process.{Process}
+use Rattle.zl_calls.proofs.Common.{sym, ◌∙◌}
 use Rattle.zl_calls.specs.calls.Task.{lab}
 use Rattle.zl_calls.proofs.BlockedLists.{no_more}
 use Rattle.zl_calls.proofs.CallSteps.{called_so, moves_from, stops_from, caller_ready, within}
 use Rattle.zl_calls.proofs.Calling.{is_there}
 use Rattle.zl_calls.proofs.Idle.{are_bare}
-use Rattle.zl_calls.proofs.Performing.{HasLeft, HasActed}
 use Rattle.zl_calls.proofs.stepping.act_for.Goals as goal
 
 pub call_next-requires-clause-bare : goal.call_next-requires-clause-bare

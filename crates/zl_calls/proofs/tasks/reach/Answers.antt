@@ -1,4 +1,4 @@
-use Rattle.zl_calls.proofs.Common.{arith, ◌≡◌, ◌<◌, ◌^◌, length, Some, slice_get, row_of, call_parts}
+use Rattle.zl_calls.proofs.Common.{arith, ◌≡◌, Some, slice_get, row_of, call_parts}
 use Rattle.zl_code.specs.Request.{site_of}
 use Rattle.zl_calls.specs.declared.process.Process.{Process}
 use Rattle.zl_calls.specs.calls.Task.{IsCallerStill, lab}

@@ -1,4 +1,3 @@
-use Rattle.zl_calls.proofs.Common.{ap, is_some, ◌∙◌}
 use Rattle.zl_calls.proofs.Ending.{has_at}
 use Rattle.zl_calls.proofs.waits.has_handle.Goals as goal
 

@@ -1,4 +1,4 @@
-use Rattle.zl_calls.proofs.Common.{[], Drained}
+use Rattle.zl_calls.proofs.Common.{[]}
 use Rattle.zl_calls.proofs.KeptLists.{listed_gone, listed_same, listed_then}
 use Rattle.zl_calls.proofs.Tables.{drained_is_shorter, drained_closes, all_closed}
 use Rattle.zl_calls.proofs.calls.process.close_all.Goals as goal

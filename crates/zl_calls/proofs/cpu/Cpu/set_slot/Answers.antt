@@ -1,5 +1,3 @@
-use Rattle.zl_calls.proofs.KillSound.{gone_of, numbered_sorted, killed_sound}
-use Rattle.zl_calls.proofs.KillWorlds.{processes_killed, objects_killed, blocked_left, are_idle}
 use Rattle.zl_calls.proofs.Common.{ℕ, List, ap, slice_set}
 use Rattle.std.specs.Vec.{with_item}
 use Rattle.zl_calls.proofs.Slots.{slot_written}

@@ -1,5 +1,5 @@
 use Rattle.zl_calls.proofs.Common.{arith}
-use Rattle.zl_calls.proofs.BootBlocked.{booted_boots, booted_sound, none_blocked}
+use Rattle.zl_calls.proofs.BootBlocked.{booted_sound, none_blocked}
 use Rattle.zl_calls.proofs.world.World.boot.Goals as goal
 
 pub invariant_of-result : goal.invariant_of-result

@@ -1,8 +1,9 @@
 -- The headline of an image with a typing and a step bound, from the laws of runs.
-use Rattle.std.proofs.Common.{◌≡◌, ℕ, zero, suc, List, [], ◌∷◌, refl, subst, Option, Some, IsTrue}
+use Rattle.std.proofs.Common.{◌≡◌, ℕ, zero, suc, true, List, [], ◌∷◌, refl, subst, Option, Some, IsTrue}
 use Rattle.std.specs.Prelude.{slice_get}
 use Rattle.std.specs.List.{AllByRecursion}
 use Rattle.std.proofs.lemmas.Option.{none-some, same_Some}
+use Rattle.zl_rights.specs.Common.{World}
 use Rattle.zl_code.specs.declared.history.Outcome.TheVariants as outcome
 use Rattle.zl_code.specs.declared.history.TraceItem.{TraceItem}
 use Rattle.zl_code.specs.declared.history.TraceItem.TheVariants as item
@@ -10,7 +11,7 @@ use Rattle.zl_code.specs.Image.{Image, Library, Program}
 use Rattle.zl_code.specs.Spells.{is_in_range}
 use Rattle.zl_abs.specs.States.{State}
 use Rattle.zl_abs.specs.Typing.{IsTyping}
-use Rattle.zl_verify.specs.Headline.{EndsItself, HasNoFault, IsNeverRefused, IsNotStuck}
+use Rattle.zl_verify.specs.Headline.{EndsItself, HasNoFault, IsNeverRefused, IsNotStuck, IsStarted}
 use Rattle.zl_verify.specs.RunLaws.{IsFineItem, IsUnderWay}
 use Rattle.zl_verify.specs.Steps.{IsStepBound}
 use Rattle.zl_verify.proofs.CheckedRuns.{budget_kept, never_refused}
@@ -48,17 +49,25 @@ module _ (p : ℕ) where
   not_stuck (item.Run pid count) fine = tt
   not_stuck (item.Stuck pid) fine = fine
 
+-- an image of the library is in its ranges
+pub in_range : (lib : Library) (i : Image) (w : World) (p : ℕ) → AllByRecursion (λ x. IsTrue (is_in_range x.image)) lib → IsStarted lib i w p → is_in_range i ≡ true
+in_range lib i w p images started = program_in lib started.process.program _ images started.program
+
+-- who was properly started is under way
+pub started_under_way : (lib : Library) (i : Image) (t : ℕ → Option State) → is_in_range i ≡ true → IsTyping i t → (w : World) (p : ℕ) → IsStarted lib i w p → IsUnderWay lib i t w p
+started_under_way lib i t range typing w p started = record {
+  process = started.process;
+  there = started.there;
+  running = rw started.ready refl;
+  checked = started.checked;
+  program = started.program;
+  conforms = starts_conforming i t range typing w p started.process started.proper;
+}
+
 pub headline : (i : Image) (t : ℕ → Option State) (steps : ℕ → Option ℕ) → IsTyping i t → IsStepBound i t steps → IsNeverRefused i
 headline i t steps typing bound lib statements boot w after items more p begins run started rest =
-    let range : IsTrue (is_in_range i) = program_in lib started.process.program _ begins.images started.program in
-    let under : IsUnderWay lib i t w p = record {
-      process = started.process;
-      there = started.there;
-      running = rw started.ready refl;
-      checked = started.checked;
-      program = started.program;
-      conforms = starts_conforming i t range typing w p started.process started.proper;
-    } in
+    let range : is_in_range i ≡ true = in_range lib i w p begins.images started in
+    let under : IsUnderWay lib i t w p = started_under_way lib i t range typing w p started in
     let fine : AllByRecursion (IsFineItem p) more = never_refused lib i t range typing statements boot begins p items more w after run under rest in
     record {
       no_fault = all_so (IsFineItem p) (HasNoFault p) (no_fault p) more fine;

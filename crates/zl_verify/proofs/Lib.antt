@@ -59,5 +59,7 @@ pub mod Unstarted
 pub mod UnstartedRuns
 pub mod ChildStarts
 mod Headline
+mod NoLeak
 mod RowsConforms
+mod RowsNoLeak
 mod RowsRuns

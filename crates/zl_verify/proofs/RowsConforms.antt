@@ -53,22 +53,22 @@ starts = refl
 
 -- ---- registers of zeros
 
-zeros_small : (n r : ℕ) → slice_index (replicate n 0) r ≤ ANY
+pub zeros_small : (n r : ℕ) → slice_index (replicate n 0) r ≤ ANY
 zeros_small zero r = omega arith
 zeros_small (suc n) zero = omega arith
 zeros_small (suc n) (suc r) = zeros_small n r
 
-zeros_described : (f : Table) (xs : List ℕ) (n r : ℕ) → Describes f xs (value_at (replicate n (Word 0)) r) (slice_index (replicate n 0) r)
+pub zeros_described : (f : Table) (xs : List ℕ) (n r : ℕ) → Describes f xs (value_at (replicate n (Word 0)) r) (slice_index (replicate n 0) r)
 zeros_described f xs zero r = omega arith
 zeros_described f xs (suc n) zero = omega arith
 zeros_described f xs (suc n) (suc r) = zeros_described f xs n r
 
-zeros_own : (v n : ℕ) → owners v (replicate n (Word 0)) (replicate n 0) ≡ 0
+pub zeros_own : (v n : ℕ) → owners v (replicate n (Word 0)) (replicate n 0) ≡ 0
 unfolding owners owns
 zeros_own v zero = refl
 zeros_own v (suc n) = let k = zeros_own v n in omega arith
 
-not_0 : (v : ℕ) → one_if (is_it v 0) ≡ 0
+pub not_0 : (v : ℕ) → one_if (is_it v 0) ≡ 0
 not_0 v = by (0 == v)
   where
     by : (b : Bool) → one_if (b && nat_lt 0 0) ≡ 0

@@ -44,9 +44,13 @@ pub record IsStarted (lib : Library) (i : Image) (w : World) (p : ℕ) : Type 0 
   pub program : slice_get lib process.program ≡ Some (record { checked = checked; image = i })
   pub proper : IsProperStart i w p process
 
--- In every run from a boot world, whatever it and others do from its start on.
-abbrev pub IsNeverRefused : Image → Type 0
-IsNeverRefused i =
+-- In every run from a boot world, whatever it and others do: P is true of a process that was properly started from this image, of any items from its start on, and of the world that they lead to.
+abbrev pub HoldsFromItsStart : Image → (ℕ → List TraceItem → World → Type 0) → Type 0
+HoldsFromItsStart i P =
     (lib : Library) (statements : List Statement) (boot w after : World) (items more : List TraceItem) (p : ℕ)
     → IsSizedBoot lib statements boot → Runs lib boot items w → IsStarted lib i w p
-    → Runs lib w more after → GoesWell i p more
+    → Runs lib w more after → P p more after
+
+-- All items from its start on go well.
+abbrev pub IsNeverRefused : Image → Type 0
+IsNeverRefused i = HoldsFromItsStart i (λ p items w. GoesWell i p items)

@@ -16,3 +16,4 @@ pub mod SizedLaws
 pub mod WakeLaws
 pub mod RunLaws
 pub mod Headline
+pub mod NoLeak

@@ -8,6 +8,7 @@ ghost use Rattle.zl_verify.specs.Blocks.{states_of};
 ghost use Rattle.zl_verify.specs.Steps.{IsStepBound};
 ghost use Rattle.zl_verify.specs.Checks.{IsLeastTyping, IsRefused};
 ghost use Rattle.zl_verify.specs.Headline.{IsNeverRefused};
+ghost use Rattle.zl_verify.specs.NoLeak.{NeverLeaks};
 
 use crate::ahead::bound_ahead;
 use crate::refusal::{Refusal, RefusalCause};
@@ -62,9 +63,14 @@ impl Checked {
     /// wait or its end, and behind each wait. It ends by its own `process_exit` or `task_kill`, or
     /// where another kills it, and from then on it does nothing more.
     ///
-    /// It does nothing: its clause is what an accepted image is good for. Own profile.
+    /// And no handle of it leaks: in every world, as long as it lives, its table has a handle at
+    /// just the values other than 0 that stand in its slot arrays and in those registers that are
+    /// known as handles at its instruction, and each of these values stands in one place.
+    ///
+    /// It does nothing: its clauses are what an accepted image is good for. Own profile.
     pub fn sound(&self)
-        ensures { IsNeverRefused self.now.image }
+        ensures never_refused { IsNeverRefused self.now.image }
+        ensures no_leak { NeverLeaks self.now.image (at self.now.states) }
     {
         // Its clauses are the type's invariant, on which all rests.
         self.image();

@@ -59,13 +59,13 @@ pub enum Cause {
     Check,
     /// No object of this koid and kind, or no program of this number.
     Unknown,
-    /// Handles that a process can't be given. Not yet: no statement lists handles.
+    /// Handles that a process can't be given: too many, or a right that its kind doesn't have.
     BadHandleList,
-    /// The job's policy doesn't allow what a program needs. Not yet: no statement sets a policy.
+    /// The job's policy doesn't allow what a program needs. Not yet: no program is checked.
     NeedDenied,
-    /// The policy of a job that has children. Not yet: no statement sets a policy.
+    /// The policy of a job that has children.
     BadState,
-    /// A condition that is set to another action already. Not yet: no statement sets a policy.
+    /// A condition that is set to another action already.
     Conflict,
     /// Too many of something, or too long an input.
     Limit,

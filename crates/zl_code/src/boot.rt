@@ -116,11 +116,10 @@ pub struct BootFault {
 /// Why a statement can't be done. Own profile.
 #[derive(Clone, Copy)]
 pub enum BootCause {
-    /// A process can't start with these handles: there are eight or more, or one has a right that a
-    /// new object of its kind doesn't give. Not yet: that the program was checked for others.
+    /// A process can't start with these handles: there are eight or more, one has a right that a new
+    /// object of its kind doesn't give, or the program was checked and declares others.
     BadHandleList,
-    /// The program was checked, and the policy of the job forbids it to make what it needs. Not
-    /// yet: a boot doesn't look at needs.
+    /// The program was checked, and the policy of the job forbids it to make what it needs.
     NeedDenied,
     /// Too many processes, too many levels of jobs, too few koids left for what the statement makes,
     /// or too high a limit of the trace.

@@ -40,6 +40,7 @@ pub enum Statement {
     Channel,
     /// A process of the job, running the program of that number from 0. It is started with the first
     /// of its handles in register 0, the word in register 1 and the other handles from register 2 on.
+    /// A checked program wants just the handles that it declares, and a job that allows its needs.
     Process {
         job: Koid,
         program: u64,

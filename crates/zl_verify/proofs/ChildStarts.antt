@@ -51,7 +51,7 @@ use Rattle.zl_verify.proofs.SizedRuns.{world_sized}
 use Rattle.zl_verify.proofs.Woken.{sound_before, settled_there, allowed_after}
 use Rattle.zl_verify.proofs.Ended.{awake_still}
 use Rattle.zl_verify.proofs.CheckedRuns.{one_more}
-use Rattle.zl_verify.proofs.BootStarts.{is_booted}
+use Rattle.zl_verify.proofs.BootStarts.{is_booted, one_declared}
 use Rattle.zl_verify.proofs.Unstarted.{AreUnstarted, inserted_at, changed_at}
 use Rattle.zl_verify.proofs.UnstartedRuns.{lives_new, step_unstarted}
 
@@ -122,14 +122,6 @@ module _ (w : World) (p : ℕ) where
 
 -- ---- what it gets
 
-takes_as : (k : Option Kind) (x : Kind) → takes (option_to_list k) x ≡ true → kind_below (Some x) k ≡ true
-takes_as None x e = refl
-takes_as (Some y) x e = by (same_kind x y) e
-  where
-    by : (b : Bool) → (b || false) ≡ true → b ≡ true
-    by true e = refl
-    by false e = cc
-
 -- the handle is the only one that is declared
 record IsOnly (ss : List Start) (o : Option Entry) : Type 0 where
   entry : Entry
@@ -142,9 +134,7 @@ only_one [] (Some x) e = cc
 only_one (s ∷ []) None e = cc
 only_one (s ∷ r ∷ ss) None e = cc
 only_one (s ∷ r ∷ ss) (Some x) e = cc
-only_one (s ∷ []) (Some x) e =
-    let two = both (takes (option_to_list s.kind) x.kind) (within (bits s.rights) (bits x.rights)) e in
-    record { entry = x; there = refl; declared = ((takes_as s.kind x.kind two.0, two.1), tt) }
+only_one (s ∷ []) (Some x) e = record { entry = x; there = refl; declared = (one_declared s x e, tt) }
 
 fits_declared : (o : Option Program) (i : Image) (e : Option Entry) → o ≡ Some (record { checked = true; image = i }) → misfits o e ≡ false → is_only_start i.starts e ≡ true
 fits_declared None i e is fits = cc

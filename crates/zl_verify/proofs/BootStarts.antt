@@ -1,5 +1,5 @@
 -- In a boot world each process is as a statement started it, and properly where its program is checked.
-use Rattle.std.proofs.Common.{◌≡◌, ℕ, ◌+◌, ◌≤◌, ◌<◌, ◌⊎◌, Bool, true, false, not, ◌||◌, ◌==◌, List, [], ◌∷◌, refl, sym, ap, ◌∙◌, subst, arith, IsTrue, Option, Some, None, option_map, inl, inr}
+use Rattle.std.proofs.Common.{◌≡◌, ℕ, ◌+◌, ◌≤◌, ◌⊎◌, Bool, true, false, not, ◌||◌, ◌==◌, List, [], ◌∷◌, refl, sym, ap, ◌∙◌, subst, arith, IsTrue, Option, Some, None, option_map, inl, inr}
 use Rattle.std.specs.Prelude.{if◌then◌else◌, slice_get}
 use Rattle.std.specs.List.{AllByRecursion}
 use Rattle.std.specs.Option.{option_to_list}
@@ -8,7 +8,7 @@ use Rattle.std.proofs.lemmas.Option.{none-some, same_Some}
 use Rattle.zl_rights.specs.declared.entry.Entry.{Entry}
 use Rattle.zl_rights.specs.declared.kind.Kind.{Kind}
 use Rattle.zl_rights.specs.declared.policy.Condition.{Condition}
-use Rattle.zl_rights.specs.Common.{bits, within, get, lives, Settles, process_settled, without_others, World, Process, Ready, Body, EventBody, PortBody, ChannelEnd, ProcessBody}
+use Rattle.zl_rights.specs.Common.{bits, within, get, lives, Settles, process_settled, without_others, World, Process, Body, EventBody, PortBody, ChannelEnd, ProcessBody}
 use Rattle.zl_rights.specs.Numbers.{same_kind, takes}
 use Rattle.zl_rights.specs.Signals.{has_child_job, has_child_process}
 use Rattle.zl_rights.proofs.MapLaws.{get-put, get-each}

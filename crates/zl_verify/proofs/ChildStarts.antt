@@ -1,5 +1,5 @@
 -- A process that another starts is started properly, where its program is checked.
-use Rattle.std.proofs.Common.{◌≡◌, ℕ, ◌≤◌, Bool, true, false, not, ◌&&◌, ◌||◌, ◌==◌, List, [], ◌∷◌, ◌++◌, refl, sym, ap, ◌∙◌, subst, Option, Some, None, option_map, Ok, Err, arith}
+use Rattle.std.proofs.Common.{◌≡◌, ℕ, ◌≤◌, Bool, true, false, not, ◌&&◌, ◌==◌, List, [], ◌∷◌, ◌++◌, refl, sym, ap, ◌∙◌, subst, Option, Some, None, option_map, Ok, Err, arith}
 use Rattle.std.specs.Prelude.{if◌then◌else◌, slice_get}
 use Rattle.std.specs.List.{AllByRecursion}
 use Rattle.std.specs.Option.{option_to_list}
@@ -16,7 +16,7 @@ use Rattle.zl_rights.specs.declared.status.Status.TheVariants as status
 use Rattle.zl_rights.specs.Common.{bits, within, get, is_process, World, Process, Ready}
 use Rattle.zl_rights.specs.Signals.{state_passes}
 use Rattle.zl_rights.specs.LookUp.{granted}
-use Rattle.zl_rights.specs.Numbers.{same_kind, takes}
+use Rattle.zl_rights.specs.Numbers.{takes}
 use Rattle.zl_code.specs.declared.boot.Statement.{Statement}
 use Rattle.zl_code.specs.declared.history.CallName.TheVariants as name
 use Rattle.zl_code.specs.declared.history.Outcome.{Outcome}
@@ -36,8 +36,7 @@ use Rattle.zl_code.specs.Request.{Site, site}
 use Rattle.zl_code.specs.Calls.{Calls, CallBy, Choice, Refused, WantsMemory, Values, taken_handles, taken, may_choose, replied, with_effect}
 use Rattle.zl_code.specs.Steps.{AtCall, Acts, Runs, pid_of}
 use Rattle.zl_code.specs.Sound.{IsSound}
-use Rattle.zl_abs.specs.Values.{ANY, kind_below}
-use Rattle.zl_abs.proofs.Order.{both}
+use Rattle.zl_abs.specs.Values.{ANY}
 use Rattle.zl_verify.specs.SizedLaws.{IsSizedBoot}
 use Rattle.zl_verify.specs.WakeLaws.{IsRunStep, AreAsDeclared, StartsChild}
 use Rattle.zl_verify.specs.Headline.{IsStarted}

@@ -1,38 +1,27 @@
 -- What each call says where it isn't refused: its new handles have room, and it is made of these changes.
-use Rattle.zl_code.proofs.Common.{Created, State, state_passes, is_process, nat_tests, All-nil, All-cons, get-update, process_without, ◌==◌, JobBody, ProcessBody, created_process, with_process, get-put, ne_eqb, ◌<◌, All, Body, Bool, ChannelEnd, EventBody, HandlesAreNamed, HandlesAreSound, IsSound, IsTrue, Library, List, Map, None, Object, Option, PortBody, Process, Ready, Request, SIGNAL, Some, World, [], and_from, and_parts, answer_if, ap, arith, bits, by_look_up, cases_Bool, chan_create, chan_read_etc, chan_write, copy_of, default_rights_of, dup, effect, entry_at, eq-eqb, event_create, examined, false, first_some, get, handle_operands, handles_in, handles_to, has_key, has_koids, has_room, inl, inr, insert_all, is_some, kind_of, queue_of, leb-true, length, listed, may_choose, may_get, may_get_all, nat_le, new_handles, none-some, not, object_at, on_object, operand, raisable, refl, refusal, remove_all, replace, rights_of, row_of, runs, same_Some, signal, subst, sym, taken_handles, true, with_effect, with_object, within, without, ℕ, ◌+◌, ◌&&◌, ◌^◌, ◌||◌, ◌∙◌, ◌∷◌, ◌≡◌, ◌≤◌, ⊤, not-false, or_parts, Packet, settable_of, by_policy, new_entry, object_changed, gets_all, true≢false, false≢true, body_in, body_of, HasPeer, IsSoundWait, is_port_there, is_empty, slice_index_or, eqb-true, on_process, ◌==◌, drop, filter, is_end_if_there, takes, ◌++◌, if◌then◌else◌, Ok, Err}
+use Rattle.zl_code.proofs.Common.{◌==◌, ◌<◌, All, Body, ChannelEnd, EventBody, IsSound, IsTrue, Library, List, Map, None, Object, PortBody, Process, Ready, Request, Some, World, [], and_from, ap, arith, cases_Bool, chan_create, chan_read_etc, chan_write, copy_of, dup, effect, entry_at, eq-eqb, event_create, examined, false, first_some, get, handle_operands, handles_to, has_koids, has_room, inl, inr, insert_all, is_some, kind_of, queue_of, leb-true, length, listed, may_choose, may_get, may_get_all, nat_le, new_handles, not, object_at, on_object, operand, refl, refusal, remove_all, replace, row_of, runs, same_Some, signal, subst, sym, taken_handles, true, with_effect, with_object, without, ℕ, ◌+◌, ◌^◌, ◌∙◌, ◌∷◌, ◌≡◌, ◌≤◌, not-false, or_parts, new_entry, object_changed, gets_all, true≢false, false≢true, body_of, HasPeer, is_port_there, is_empty, eqb-true, on_process, ◌==◌, drop, filter, takes, ◌++◌}
 use Rattle.zl_rights.specs.declared.kind.Kind.TheVariants as kind
 use Rattle.zl_rights.specs.declared.entry.Entry.{Entry}
-use Rattle.zl_rights.specs.declared.status.Status.{Status}
 use Rattle.zl_rights.specs.declared.status.Status.TheVariants as status
-use Rattle.zl_rights.specs.LookUp.{granted}
-use Rattle.zl_rights.proofs.Narrowed.{narrowed_within}
-use Rattle.zl_code.specs.declared.history.Outcome.{Outcome}
-use Rattle.zl_rights.specs.declared.kind.Kind.{Kind}
-use Rattle.zl_rights.specs.Numbers.{DESTROY, TRANSFER, MANAGE_PROCESS, SIGNAL_PEER, USER_SIGNALS, WAIT, WRITE}
+use Rattle.zl_rights.specs.Numbers.{WAIT, WRITE}
 use Rattle.zl_rights.specs.Packets.{is_from, user_packet}
 use Rattle.zl_code.specs.CallTable.{choosing, receiver_of, signal_peer, wait_async, port_create, port_queue, port_wait, port_poll, port_cancel, process_create, process_start, task_kill, job_create, job_set_policy}
-use Rattle.zl_code.specs.Jobs.{depth_in, is_dead, is_deepest, job_within, policy_changed, with_killed}
-use Rattle.zl_code.specs.Starting.{cpu_given, is_created, started_with}
-use Rattle.zl_code.specs.Sound.{IsSoundJob, LivesAt, StandsBelow}
+use Rattle.zl_code.specs.Jobs.{is_dead, job_within, policy_changed, with_killed}
+use Rattle.zl_code.specs.Sound.{StandsBelow}
 use Rattle.zl_rights.specs.Policies.{setting_of}
-use Rattle.zl_rights.specs.declared.policy.Action.{Action}
-use Rattle.std.specs.Option.{option_to_list}
-use Rattle.zl_code.proofs.CanStart.{started_may_get}
-use Rattle.zl_code.proofs.Killing.{childless, job_of}
+use Rattle.zl_code.proofs.Killing.{childless}
 use Rattle.zl_code.specs.Waiting.{source_at, wait_of, registered, without_keyed, is_by_handle}
-use Rattle.zl_rights.specs.World.{Wait}
 use Rattle.std.proofs.lemmas.Bool.{not-true}
 use Rattle.std.proofs.lemmas.List.Elements.{All-filter, filter_passes}
 use Rattle.zl_code.specs.Effects.{message_read, storing, without_waits}
 use Rattle.zl_code.specs.Local.{overwritten}
-use Rattle.zl_code.specs.Tests.{operand_of, koid_in, entries_at, first_bytes, first_handles, peer_at, peer_in, queue_at}
+use Rattle.zl_code.specs.Tests.{operand_of, koid_in, entries_at, first_bytes, first_handles, peer_at, queue_at}
 use Rattle.zl_code.proofs.MapKept.{changed}
-use Rattle.zl_code.proofs.Changes.{AreUnmade, process_is_made, computes, message_comes, message_goes, signals_change, Changes, stays, changes, join, one, object_changes, object_is_made, policy_changes, process_starts, ends_are_made, packets_are_changed, process_changes, wait_begins, keyed_end, waits_end}
-use Rattle.zl_code.specs.Refusals.{condition_of}
-use Rattle.zl_code.proofs.Entering.{IsFine, HaveRoom, MayTake, IsLeft, left_behind, all_enter, get_without, gone_without, copy_is_fine, one_copy, entry_is_fine, length_without, new_is_fine, removed_last}
+use Rattle.zl_code.proofs.Changes.{AreUnmade, computes, message_comes, message_goes, signals_change, Changes, stays, changes, join, one, object_changes, object_is_made, policy_changes, ends_are_made, packets_are_changed, process_changes, wait_begins, keyed_end, waits_end}
+use Rattle.zl_code.proofs.Entering.{IsFine, HaveRoom, MayTake, IsLeft, all_enter, get_without, gone_without, copy_is_fine, one_copy, entry_is_fine, length_without, new_is_fine, removed_last}
 use Rattle.zl_code.proofs.Messages.{may_be_sent, received_are_fine, two_entries, both_are_fine}
 use Rattle.zl_code.proofs.Kills.{all_are_killed}
-use Rattle.zl_code.proofs.Passing.{AreNone, IsGranted, are_none, first_is_none, first_none, has_end, has_right, is_granted, is_live, listed_none, may_signal, may_signal_peer, named_object, no_port, room_and, room_or, test_fails, unmade}
+use Rattle.zl_code.proofs.Passing.{IsGranted, first_is_none, first_none, is_granted, is_live, listed_none, may_signal, may_signal_peer, named_object, room_and, room_or, test_fails, unmade}
 use Rattle.zl_code.proofs.TaskLaws.{process_made, job_stands, process_begins, child_apart, task_is_some}
 
 -- ---- the calls

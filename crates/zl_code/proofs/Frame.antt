@@ -1,5 +1,5 @@
 -- The step of a process leaves the others alone unless it starts, wakes, kills or drops them, keeps what their tables name, and changes no policy of theirs.
-use Rattle.zl_code.proofs.Common.{HasItsObject, and_from, or_left, or_right, not, IsTrue, lives, runs, refusal, may_choose, may_get, may_get_all, update, and_parts, has_child_job, has_child_process, eq-eqb, true≢false, false≢true, ◌++◌, body_in, JobBody, ProcessBody, is_process, entry_at, object_at, handle_operands, row_of, new_handles, ◌⊎◌, ne_eqb, created_process, ◌≡◌, ◌<◌, ◌≤◌, arith, inl, inr, ℕ, Bool, true, false, ◌==◌, List, [], ◌∷◌, refl, ap, sym, subst, ◌∙◌, Option, Some, None, if◌then◌else◌, option_map, cases_Bool, eqb-true, is_some, none-some, same_Some, meets, fold, Map, get, World, Process, State, Created, Ready, Blocked, Gone, Ended, Object, Body, PortBody, process_settled, state_without, Settles, without_others, wakes, fired, answered, active, packet_values, with_body, woken_if_there, woken_from, woken_at_port, woken_by, woken_by_first, Awaited, SignalOf, PacketAt, Packet, Library, Site, Request, Choice, Refused, WantsMemory, Values, CallBy, after_refusal, after_ok, ok_outcome, taken, taken_handles, with_effect, effect, replied, on_process, on_object, with_object, insert_all, remove_all, process_with, process_without, process_ended, ended, Next, Moves, AtCall, IsStuck, Acts, Step, next_for, HasGivenKoids, IsSound, get-update, get-put, get-each, get-where_key-in, get-where_key-out, where_key, ChannelEnd}
+use Rattle.zl_code.proofs.Common.{HasItsObject, and_from, or_left, or_right, not, IsTrue, lives, runs, refusal, may_choose, may_get, may_get_all, update, and_parts, has_child_job, has_child_process, eq-eqb, true≢false, false≢true, body_in, JobBody, ProcessBody, is_process, entry_at, object_at, handle_operands, row_of, new_handles, ◌⊎◌, ne_eqb, created_process, ◌≡◌, ◌<◌, ◌≤◌, arith, inl, inr, ℕ, Bool, true, false, ◌==◌, List, [], ◌∷◌, refl, ap, sym, subst, ◌∙◌, Option, Some, None, if◌then◌else◌, option_map, cases_Bool, eqb-true, is_some, none-some, same_Some, meets, fold, get, World, Process, State, Created, Ready, Blocked, Gone, Ended, Object, Body, PortBody, process_settled, state_without, Settles, without_others, wakes, fired, answered, active, packet_values, with_body, woken_if_there, woken_from, woken_at_port, woken_by, woken_by_first, Awaited, SignalOf, PacketAt, Packet, Library, Site, Request, Choice, Refused, WantsMemory, Values, CallBy, after_refusal, after_ok, ok_outcome, taken, taken_handles, with_effect, effect, replied, on_process, on_object, with_object, insert_all, remove_all, process_with, process_without, process_ended, ended, Next, Moves, AtCall, IsStuck, Acts, Step, next_for, IsSound, get-update, get-put, get-each, get-where_key-in, get-where_key-out, where_key, ChannelEnd}
 use Rattle.zl_rights.specs.declared.entry.Entry.{Entry}
 use Rattle.zl_rights.specs.Wakes.{made_ready, woken}
 use Rattle.zl_rights.specs.declared.status.Status.TheVariants as status
@@ -9,7 +9,7 @@ use Rattle.zl_code.specs.declared.history.TraceItem.{TraceItem}
 use Rattle.zl_code.specs.CallTable.{awaited_by, close, entering_at, process_create, process_start, receiver_of, stored_by, task_kill}
 use Rattle.zl_code.specs.Starting.{started_with}
 use Rattle.zl_code.specs.Jobs.{body_killed, has_child, is_within, process_killed, with_killed}
-use Rattle.zl_code.specs.Sound.{LivesAt, IsBelow, StandsBelow}
+use Rattle.zl_code.specs.Sound.{LivesAt, StandsBelow}
 use Rattle.zl_code.specs.Tests.{parent_in}
 use Rattle.zl_rights.specs.Numbers.{KILLED}
 use Rattle.zl_rights.specs.Signals.{is_job_below, is_process_of}

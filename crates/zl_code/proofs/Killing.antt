@@ -1,12 +1,12 @@
 -- What stands below a killed job is killed with it: nothing that lives is left below it.
-use Rattle.zl_code.proofs.Common.{nat_tests, is_some, ne_eqb, eq-eqb, get-put, with_object, body_of, put, ◌≡◌, ◌<◌, ◌≤◌, ◌+◌, arith, inl, inr, ℕ, zero, suc, Bool, true, false, ◌==◌, ◌&&◌, ◌||◌, [], refl, ap, sym, ◌∙◌, subst, IsTrue, Option, Some, None, option_map, if◌then◌else◌, cases_Bool, eqb-true, or_left, or_right, none-some, same_Some, true≢false, false≢true, Map, get, each, World, Process, State, Created, Ready, Blocked, Ended, Gone, Object, Body, JobBody, ProcessBody, lives, body_in, IsSound, get-each}
+use Rattle.zl_code.proofs.Common.{nat_tests, is_some, ne_eqb, get-put, with_object, body_of, ◌≡◌, ◌<◌, ◌≤◌, ◌+◌, arith, inl, inr, ℕ, zero, suc, Bool, true, false, ◌==◌, ◌&&◌, ◌||◌, [], refl, ap, sym, ◌∙◌, subst, IsTrue, Option, Some, None, option_map, if◌then◌else◌, cases_Bool, eqb-true, or_left, or_right, none-some, same_Some, true≢false, false≢true, Map, get, World, Process, State, Created, Ready, Blocked, Ended, Gone, Object, Body, JobBody, ProcessBody, lives, body_in, IsSound, get-each}
 use Rattle.std.proofs.lemmas.Bool.{or_cases}
 use Rattle.zl_rights.specs.Numbers.{KILLED}
 use Rattle.zl_rights.specs.Signals.{is_job_below, is_process_of}
 use Rattle.zl_rights.specs.declared.policy.Action.{Action}
 use Rattle.zl_code.specs.Tests.{parent_in}
 use Rattle.zl_code.specs.Jobs.{depth_in, is_dead, is_deepest, job_within, is_under_by, is_within, body_killed, object_killed, process_killed, with_killed}
-use Rattle.zl_code.specs.Sound.{LivesAt, HasItsObject, IsBelow, IsSoundJob, StandsBelow}
+use Rattle.zl_code.specs.Sound.{LivesAt, IsSoundJob, StandsBelow}
 use Rattle.zl_code.proofs.Changes.{IsChildless}
 
 -- ---- the way up

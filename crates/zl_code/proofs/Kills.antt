@@ -1,16 +1,8 @@
 -- A kill is one change: of processes, of jobs and of the list of the blocked.
-use Rattle.zl_code.proofs.Common.{◌≡◌, ◌<◌, ◌≤◌, inl, inr, arith, ℕ, suc, Bool, true, false, not, ◌==◌, List, [], ◌∷◌, length, refl, ap, sym, subst, ◌∙◌, IsTrue, Option, Some, None, eq-eqb, if◌then◌else◌, ℤ, option_map, cases_Bool, eqb-true, within, Map, get, put, update, has_key, without, World, Cpu, answered, Process, State, Created, Ready, Blocked, Ended, Object, Body, ChannelEnd, EventBody, PortBody, JobBody, ProcessBody, is_process, state_passes, lives, runs, Settles, queue_of, fired, on_process, process_with, process_without, ended, with_object, may_get, in_order, has_default_rights, names_its_object, HandlesAreSound, HandlesAreNamed, raisable, IsSound, Packet, Message, All, list_all, get-put, get-update, on_object, process_ended, object_changed, with_process, is_blocked, HasItsObject, packets_for, made_ready, with_body, body_with_packets, filter, Awaited, HasPeer, body_of, entry_at, is_port_there, ◌++◌, ◌+◌, ne_eqb, length-append, append-nil, same_Some, true≢false, get-each}
-use Rattle.std.proofs.lemmas.List.Elements.{filter-append}
-use Rattle.zl_rights.specs.declared.entry.Entry.{Entry}
-use Rattle.zl_code.specs.Effects.{message_sent, message_read, without_waits, waiting}
-use Rattle.zl_code.specs.Waiting.{is_by_handle, registered, without_keyed, body_packed, repacked}
-use Rattle.zl_rights.specs.World.{Wait}
+use Rattle.zl_code.proofs.Common.{◌≡◌, inl, inr, arith, ℕ, suc, Bool, true, false, not, ◌==◌, List, [], ◌∷◌, length, refl, ap, sym, ◌∙◌, Option, Some, None, if◌then◌else◌, option_map, cases_Bool, eqb-true, get, World, Process, State, Created, Ready, Blocked, Ended, Object, is_process, state_passes, lives, IsSound, is_blocked, filter, true≢false, get-each}
 use Rattle.zl_rights.specs.Numbers.{KILLED}
-use Rattle.zl_rights.specs.Policies.{Setting}
-use Rattle.zl_rights.specs.Signals.{is_job_below, is_process_of}
-use Rattle.zl_code.specs.Jobs.{has_child, is_within, object_killed, policy_changed, process_killed, with_killed}
-use Rattle.zl_code.specs.Sound.{StandsBelow}
-use Rattle.zl_code.proofs.MapKept.{in_order-put, in_order-update, in_order-each, Changed, same, changed, new, EachChanged, unchanged, changed_put, changed_update, changed_each}
+use Rattle.zl_code.specs.Jobs.{is_within, object_killed, process_killed, with_killed}
+use Rattle.zl_code.proofs.MapKept.{in_order-each, Changed, same, changed, changed_each}
 use Rattle.zl_code.proofs.Changes.{IsChildless, ProcessChange, ends, IsNewProcess, ObjectChange, dies, IsNewObject, KeepsBlocked, awake, still, Change, alike, times}
 
 -- ---- a list of koids

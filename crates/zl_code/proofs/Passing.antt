@@ -1,5 +1,5 @@
 -- What is known of a call that isn't refused: that none of its causes is there, and what its look-ups granted.
-use Rattle.zl_code.proofs.Common.{Created, State, state_passes, is_process, nat_tests, All-nil, All-cons, get-update, process_without, ◌==◌, JobBody, ProcessBody, created_process, with_process, get-put, ne_eqb, ◌<◌, All, Body, Bool, ChannelEnd, EventBody, HandlesAreNamed, HandlesAreSound, IsSound, IsTrue, Library, List, Map, None, Object, Option, PortBody, Process, Ready, Request, SIGNAL, Some, World, [], and_from, and_parts, answer_if, ap, arith, bits, by_look_up, cases_Bool, chan_create, chan_read_etc, chan_write, copy_of, default_rights_of, dup, effect, entry_at, eq-eqb, event_create, examined, false, first_some, get, handle_operands, handles_in, handles_to, has_key, has_koids, has_room, inl, inr, insert_all, is_some, kind_of, queue_of, leb-true, length, listed, may_choose, may_get, may_get_all, nat_le, new_handles, none-some, not, object_at, on_object, operand, raisable, refl, refusal, remove_all, replace, rights_of, row_of, runs, same_Some, signal, subst, sym, taken_handles, true, with_effect, with_object, within, without, ℕ, ◌+◌, ◌&&◌, ◌^◌, ◌||◌, ◌∙◌, ◌∷◌, ◌≡◌, ◌≤◌, ⊤, not-false, or_parts, Packet, settable_of, by_policy, new_entry, object_changed, gets_all, true≢false, false≢true, body_in, body_of, HasPeer, IsSoundWait, is_port_there, is_empty, slice_index_or, eqb-true, on_process, ◌==◌, drop, filter, is_end_if_there, takes, ◌++◌, if◌then◌else◌, Ok, Err}
+use Rattle.zl_code.proofs.Common.{◌==◌, Body, Bool, ChannelEnd, HandlesAreNamed, HandlesAreSound, IsSound, IsTrue, Library, List, None, Object, Option, PortBody, Process, Request, SIGNAL, Some, World, [], and_parts, answer_if, ap, bits, by_look_up, cases_Bool, default_rights_of, entry_at, examined, false, first_some, get, handle_operands, handles_in, has_key, has_room, inl, inr, is_some, kind_of, listed, none-some, not, object_at, operand, raisable, refl, refusal, replace, rights_of, row_of, same_Some, signal, subst, sym, true, within, ℕ, ◌&&◌, ◌||◌, ◌∙◌, ◌∷◌, ◌≡◌, ⊤, not-false, or_parts, Packet, settable_of, by_policy, true≢false, false≢true, body_in, body_of, HasPeer, IsSoundWait, slice_index_or, eqb-true, ◌==◌, is_end_if_there, takes, if◌then◌else◌, Ok, Err}
 use Rattle.zl_code.proofs.Changes.{AreUnmade}
 use Rattle.zl_rights.specs.declared.kind.Kind.TheVariants as kind
 use Rattle.zl_rights.specs.declared.entry.Entry.{Entry}
@@ -9,25 +9,13 @@ use Rattle.zl_rights.specs.LookUp.{granted}
 use Rattle.zl_rights.proofs.Narrowed.{narrowed_within}
 use Rattle.zl_code.specs.declared.history.Outcome.{Outcome}
 use Rattle.zl_rights.specs.declared.kind.Kind.{Kind}
-use Rattle.zl_rights.specs.Numbers.{DESTROY, TRANSFER, MANAGE_PROCESS, SIGNAL_PEER, USER_SIGNALS, WAIT, WRITE}
-use Rattle.zl_rights.specs.Packets.{is_from, user_packet}
-use Rattle.zl_code.specs.CallTable.{choosing, receiver_of, signal_peer, wait_async, port_create, port_queue, port_wait, port_poll, port_cancel, process_create, process_start, task_kill, job_create, job_set_policy}
-use Rattle.zl_code.specs.Jobs.{depth_in, is_dead, is_deepest, job_within, policy_changed, with_killed}
-use Rattle.zl_code.specs.Starting.{cpu_given, is_created, started_with}
-use Rattle.zl_code.specs.Sound.{IsSoundJob, LivesAt, StandsBelow}
-use Rattle.zl_rights.specs.Policies.{setting_of}
-use Rattle.zl_rights.specs.declared.policy.Action.{Action}
-use Rattle.std.specs.Option.{option_to_list}
-use Rattle.zl_code.specs.Waiting.{source_at, wait_of, registered, without_keyed, is_by_handle}
+use Rattle.zl_rights.specs.Numbers.{SIGNAL_PEER, USER_SIGNALS}
+use Rattle.zl_code.specs.CallTable.{signal_peer}
+use Rattle.zl_code.specs.Waiting.{is_by_handle}
 use Rattle.zl_rights.specs.World.{Wait}
-use Rattle.std.proofs.lemmas.Bool.{not-true}
-use Rattle.std.proofs.lemmas.List.Elements.{All-filter, filter_passes}
-use Rattle.zl_code.specs.Effects.{message_read, storing, without_waits}
-use Rattle.zl_code.specs.Local.{overwritten}
-use Rattle.zl_code.specs.Tests.{operand_of, koid_in, entries_at, first_bytes, first_handles, peer_at, peer_in, queue_at}
-use Rattle.zl_code.proofs.MapKept.{changed}
+use Rattle.zl_code.specs.Tests.{peer_at, peer_in}
 use Rattle.zl_code.specs.Refusals.{condition_of}
-use Rattle.zl_code.proofs.Entering.{IsFine, HaveRoom, MayTake, IsLeft, left_behind, all_enter, get_without, gone_without, copy_is_fine, one_copy, entry_is_fine, length_without, new_is_fine, removed_last}
+use Rattle.zl_code.proofs.Entering.{entry_is_fine}
 
 -- ---- what holds where a call isn't refused
 

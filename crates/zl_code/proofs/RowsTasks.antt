@@ -1,12 +1,9 @@
 -- Each cause and effect of the calls that start, kill and set policies, by computation in small worlds.
-use Rattle.zl_code.proofs.Common.{◌≡◌, ℕ, ◌^◌, Bool, true, false, [], ◌∷◌, List, refl, replicate, Some, None, negsuc, get, Program, World, Map, Body, Process, State, Created, Ready, Ended, Gone, Blocked, JobBody, ProcessBody, EventBody, body_of, refusal, Request, Library, Choice, Refused, WantsMemory, Values, Awaited, SignalOf}
+use Rattle.zl_code.proofs.Common.{◌≡◌, ℕ, Bool, true, false, [], ◌∷◌, List, refl, replicate, Some, None, negsuc, Program, World, Map, Body, Process, State, Created, Ready, Ended, Blocked, JobBody, ProcessBody, EventBody, body_of, refusal, Request, Library, Choice, Refused, WantsMemory, Values, SignalOf}
 use Rattle.zl_rights.specs.Numbers.{DESTROY, SET_POLICY, TRANSFER, WRITE, default_rights_of, condition_number, mode_number, action_number}
-use Rattle.zl_rights.specs.declared.kind.Kind.{Kind}
 use Rattle.zl_rights.specs.declared.kind.Kind.TheVariants as kind
 use Rattle.zl_rights.specs.declared.status.Status.TheVariants as status
-use Rattle.zl_rights.specs.declared.policy.Action.{Action}
 use Rattle.zl_rights.specs.declared.policy.Action.TheVariants as action
-use Rattle.zl_rights.specs.declared.policy.Condition.{Condition}
 use Rattle.zl_rights.specs.declared.policy.Condition.TheVariants as condition
 use Rattle.zl_rights.specs.declared.policy.Mode.TheVariants as mode
 use Rattle.zl_rights.specs.declared.entry.Entry.{Entry}

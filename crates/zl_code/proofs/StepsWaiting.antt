@@ -1,5 +1,5 @@
 -- A step beside registered waits: it is the same, and those waits are left whose handle and port are.
-use Rattle.zl_code.proofs.Common.{◌≡◌, ℕ, Bool, true, false, ◌&&◌, ◌++◌, List, [], ◌∷◌, refl, ap, sym, subst, ◌∙◌, Option, Some, None, is_some, option_map, and_parts, cases_Bool, inl, inr, filter, get, each, where_key, has_key, World, Process, Ready, Koids, Settles, IsLargestHeld, without_others, process_settled, is_held, is_made_by_handle, same_Some, Library, Site, AtCall, next_for, refusal, get-each, get-where_key-in, get-where_key-out}
+use Rattle.zl_code.proofs.Common.{◌≡◌, ℕ, Bool, false, ◌&&◌, ◌++◌, List, [], ◌∷◌, refl, ap, sym, subst, ◌∙◌, Option, Some, None, option_map, and_parts, cases_Bool, inl, inr, filter, get, where_key, has_key, World, Process, Ready, Koids, Settles, IsLargestHeld, without_others, process_settled, is_held, is_made_by_handle, same_Some, Library, Site, AtCall, next_for, refusal, get-each, get-where_key-in, get-where_key-out}
 use Rattle.zl_rights.specs.World.{Awaited, Wait}
 use Rattle.zl_rights.specs.Settle.{has_handle}
 use Rattle.zl_code.specs.declared.history.CallName.{CallName}

@@ -1,11 +1,7 @@
 -- Jobs and processes keep their places in the tree of jobs: what lives stands below what lives.
-use Rattle.zl_code.proofs.Common.{All, HandlesAreNamed, HandlesAreSound, ◌≡◌, ◌<◌, ◌≤◌, inl, inr, arith, nat_tests, ℕ, suc, Bool, true, false, not, ◌&&◌, ◌||◌, ◌==◌, [], ◌∷◌, list_all, subst, PortBody, length, refl, ap, sym, ◌∙◌, IsTrue, Option, Some, None, eq-eqb, if◌then◌else◌, is_some, nat_lt, bit_and, option_map, cases_Bool, eqb-true, and_parts, and_from, or_left, or_right, false≢true, none-some, same_Some, within, Map, get, put, without, where_key, each, has_key, World, Process, State, Created, Ready, Blocked, Gone, Object, Body, ChannelEnd, JobBody, ProcessBody, Message, is_process, state_passes, lives, runs, process_settled, Koids, Settles, without_others, is_held, in_table, in_queue, has_living_child, body_in, may_get, is_job_body, HasGivenKoids, raisable, IsSound, min, max, get-put, get-each, get-where_key-in, get-where_key-out, may_get_after, is_value, IsSoundTable, is_blocked, HasItsObject, HasPeer, is_end_if_there, bit_xor, state_without, IsLargestHeld, filter, true≢false}
-use Rattle.std.specs.Int.{bit_at}
-use Rattle.std.proofs.lemmas.Nat.Bits.{same_from_bits, bit_at_and, bit_at_or, bit_at-zero}
-use Rattle.zl_rights.specs.declared.entry.Entry.{Entry}
-use Rattle.zl_rights.specs.Numbers.{changed as signals_changed}
-use Rattle.zl_code.proofs.MapKept.{in_order-put, each_where_key, EachChanged, same, changed, new, changed_each, each_changed}
-use Rattle.zl_code.proofs.Changes.{IsWait, MayEnter, IsChildless, ProcessChange, handle_enters, handle_leaves, computes, ends, wakes, starts, blocks, ObjectChange, signals_change, packets_change, message_comes, message_goes, policy_changes, dies, still, awake, asleep, Change}
+use Rattle.zl_code.proofs.Common.{◌≡◌, ◌<◌, inl, inr, arith, nat_tests, ℕ, Bool, true, false, [], ◌∷◌, list_all, PortBody, refl, ap, sym, ◌∙◌, IsTrue, Option, Some, None, eq-eqb, if◌then◌else◌, is_some, cases_Bool, and_parts, and_from, false≢true, none-some, same_Some, Map, get, put, has_key, World, Process, State, Ready, Blocked, Object, Body, ChannelEnd, JobBody, ProcessBody, lives, runs, body_in, HasGivenKoids, IsSound, HasItsObject, true≢false}
+use Rattle.zl_code.proofs.MapKept.{in_order-put, same, changed, new}
+use Rattle.zl_code.proofs.Changes.{IsChildless, ProcessChange, handle_enters, handle_leaves, computes, ends, wakes, starts, blocks, ObjectChange, signals_change, packets_change, message_comes, message_goes, policy_changes, dies, Change}
 use Rattle.zl_rights.specs.Policies.{Setting, condition_numbered, policy_set, with_unset}
 use Rattle.zl_rights.specs.Signals.{is_job_below, is_process_of}
 use Rattle.zl_rights.specs.declared.policy.Action.{Action}
@@ -14,11 +10,6 @@ use Rattle.zl_rights.specs.declared.policy.Condition.TheVariants as condition
 use Rattle.zl_code.specs.Effects.{body_with_message, body_after_read}
 use Rattle.zl_code.specs.Jobs.{body_killed, body_with_policy, policy_after}
 use Rattle.zl_code.specs.Sound.{LivesAt, IsBelow, StandsBelow, is_policy}
-use Rattle.zl_code.proofs.Entering.{length_filter, length_put}
-use Rattle.zl_code.proofs.HandlesKept.{sound_change, sound_settled}
-use Rattle.zl_code.proofs.NamesKept.{named_change, named_settled, held_is_kept, list_any-get}
-use Rattle.zl_code.proofs.NotReused.{given_change, given_settled}
-use Rattle.zl_code.proofs.WaitsKept.{AreLive, are_waits, sound_waits, waits_kept, waits_settled}
 
 -- ---- a living process has its object
 

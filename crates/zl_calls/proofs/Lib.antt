@@ -5,8 +5,6 @@ pub mod Numbered
 pub mod Creating
 pub mod Departed
 pub mod Mapping
-pub mod Slots
-pub mod Listing
 pub mod Tables
 pub mod Taking
 pub mod Entered

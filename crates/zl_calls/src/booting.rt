@@ -14,13 +14,12 @@ ghost use Rattle.zl_calls.specs.Makes.{Makes, seen, IsCauseOf, IsReached};
 ghost use Rattle.zl_calls.specs.Gives.{allowed, rights_if, IsBare, Gives};
 
 use crate::calls::job::has_children;
-use crate::cpu::Cpu;
 use crate::leaving::leave;
 use crate::process::{Process, State};
-use crate::program::Library;
 use bitflags::Flags;
 use std::alloc::{AllocError, Global};
 use zl_code::{Boot, BootCause, BootFault, Grant, Grants, Image, Statement};
+use zl_interp::{Cpu, Library};
 use zl_objects::{Body, Life, Objects};
 use zl_rights::{Action, Condition, Entry, Kind, Koid, Mode, Rights};
 use zl_table::Table;

@@ -10,16 +10,16 @@ ghost use Rattle.zl_rights.specs.Numbers.{MANAGE_PROCESS};
 ghost use Rattle.zl_table.specs.Table.{Inserts};
 ghost use Rattle.zl_objects.specs.Jobs.{action_of, job_at};
 ghost use Rattle.zl_objects.specs.Objects.{has_koids, with_new};
-ghost use Rattle.zl_calls.specs.Program.{program_value};
+ghost use Rattle.zl_interp.specs.Common.{program_value};
 ghost use Rattle.zl_calls.specs.Registered.{KeepsListed};
 ghost use Rattle.zl_calls.specs.calls.Process.{Drained, Ends};
 ghost use Rattle.zl_calls.specs.calls.Task.{create_refusal, needs_more};
 
 use crate::calls::{insert, look_up};
 use crate::process::Process;
-use crate::program::{Library, Program};
 use std::alloc::Global;
 use zl_code::{Image, Start};
+use zl_interp::{Library, Program};
 use zl_objects::{Body, Life, Objects};
 use zl_rights::{Action, Condition, Entry, HValue, Kind, Koid, Rights, Status};
 use zl_table::Table;

@@ -1,11 +1,10 @@
 pub mod Common
 pub mod Plain
+pub mod Needs
 pub mod Numbered
 pub mod Creating
 pub mod Departed
 pub mod Mapping
-pub mod Slots
-pub mod Listing
 pub mod Tables
 pub mod Taking
 pub mod Entered

@@ -1,7 +1,8 @@
 //! The processes and objects that the statements of a boot make.
 
-ghost use Rattle.std.specs.Prelude.{ℕ, ◌+◌, ◌≡◌, ◌≢◌, ◌≤◌, ◌<◌, nat_lt, false, [], length, is_some, Some, slice_get, IfOk, OnOk, IfErr, IsTrue};
+ghost use Rattle.std.specs.Prelude.{ℕ, ◌+◌, ◌≡◌, ◌≢◌, ◌≤◌, ◌<◌, nat_lt, [], length, is_some, Some, slice_get, IfOk, OnOk, IfErr, IsTrue};
 ghost use Rattle.std.specs.List.{list_all};
+ghost use Rattle.std.specs.Option.{option_map};
 ghost use Rattle.std.specs.Result.{result_err};
 ghost use Rattle.zl_rights.specs.Numbers.{within, default_rights_of};
 ghost use Rattle.zl_rights.specs.Settle.{Settles};
@@ -13,13 +14,12 @@ ghost use Rattle.zl_calls.specs.Makes.{Makes, seen, IsCauseOf, IsReached};
 ghost use Rattle.zl_calls.specs.Gives.{allowed, rights_if, IsBare, Gives};
 
 use crate::calls::job::has_children;
-use crate::cpu::Cpu;
 use crate::leaving::leave;
 use crate::process::{Process, State};
-use crate::program::Library;
 use bitflags::Flags;
 use std::alloc::{AllocError, Global};
 use zl_code::{Boot, BootCause, BootFault, Grant, Grants, Image, Statement};
+use zl_interp::{Cpu, Library};
 use zl_objects::{Body, Life, Objects};
 use zl_rights::{Action, Condition, Entry, Kind, Koid, Mode, Rights};
 use zl_table::Table;
@@ -276,8 +276,8 @@ impl Made {
         program: u64,
         handles: &[Grant],
     ) -> Result<&'a Image, BootCause>
-        ensures image { IfOk result (λ image. slice_get library.now program
-            ≡ Some (record { checked = false; image = image.now })) }
+        ensures image { IfOk result (λ image. option_map (λ g. g.image)
+            (slice_get library.now program) ≡ Some image.now) }
         ensures fault { (word : ℕ) → boot_fault library.now (seen self.now)
             (Statement.Process job program word handles.now) ≡ result_err result }
     {

@@ -11,15 +11,14 @@ ghost use Rattle.zl_calls.specs.Steps.{Performs, StepsTo, TakesStep, local_item,
 
 use crate::blocking::add_blocked;
 use crate::booting::{Made, booted};
-use crate::cpu::Cpu;
 use crate::process::Process;
-use crate::program::Library;
 use crate::stepping::{act_for, next_name, place_of};
 use crate::waits::{end_unheld, fire_waits};
 use crate::waking::wake;
 use std::alloc::Global;
 use std::marker::Model;
 use zl_code::{Boot, BootCause, BootFault, CallName, Image, Outcome, ProcState, TraceItem};
+use zl_interp::{Cpu, Library};
 use zl_objects::Objects;
 use zl_rights::{Pid, Status};
 

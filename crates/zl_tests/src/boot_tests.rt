@@ -3,8 +3,9 @@
 use std::alloc::{AllocError, Global};
 use std::test::*;
 use zl_asm::assemble_bytes;
-use zl_calls::{Library, Program, World};
+use zl_calls::World;
 use zl_code::{Boot, BootCause, BootFault, CallName, Grant, Grants, Outcome, Statement, TraceItem};
+use zl_interp::{Library, Program};
 use zl_rights::{Koid, Pid, Status};
 
 /// The root job's koid, and those of the first and the second process.

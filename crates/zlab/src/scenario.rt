@@ -20,8 +20,8 @@ mod words;
 use crate::fault::{EngineFault, LineFault};
 use reader::Reader;
 use std::alloc::Global;
-use zl_calls::Library;
 use zl_code::Boot;
+use zl_interp::Library;
 use zl_rights::Pid;
 
 /// What an input asks for.

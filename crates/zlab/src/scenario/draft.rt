@@ -7,8 +7,8 @@ ghost use Rattle.zlab.specs.Reading.{IsScenario};
 use crate::scenario::Scenario;
 use std::alloc::{AllocError, Global};
 use std::marker::Model;
-use zl_calls::{Library, Program};
 use zl_code::{Boot, Image, Statement};
+use zl_interp::{Library, Program};
 use zl_rights::Pid;
 
 /// The limit of the trace where a scenario names none.

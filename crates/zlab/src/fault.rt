@@ -55,17 +55,17 @@ pub enum Cause {
     Syntax,
     /// The bytes of a program are no image, or its text denotes none.
     Program,
-    /// A checked program that is refused. Not yet: no program is marked as checked.
+    /// A checked program that the verifier refuses.
     Check,
     /// No object of this koid and kind, or no program of this number.
     Unknown,
-    /// Handles that a process can't be given. Not yet: no statement lists handles.
+    /// Handles that a process can't be given.
     BadHandleList,
-    /// The job's policy doesn't allow what a program needs. Not yet: no statement sets a policy.
+    /// The job's policy doesn't allow what a checked program needs.
     NeedDenied,
-    /// The policy of a job that has children. Not yet: no statement sets a policy.
+    /// The policy of a job that has children.
     BadState,
-    /// A condition that is set to another action already. Not yet: no statement sets a policy.
+    /// A condition that is set to another action already.
     Conflict,
     /// Too many of something, or too long an input.
     Limit,

@@ -9,8 +9,9 @@ ghost use Rattle.zl_sched.specs.System.{HasBooted, IsLegal, Turns, Walks};
 
 use std::alloc::Global;
 use std::marker::Model;
-use zl_calls::{Library, World};
+use zl_calls::World;
 use zl_code::{Boot, BootFault, ProcState, TraceItem};
+use zl_interp::Library;
 use zl_rights::Pid;
 
 /// How a step ends. All but `Ran` change nothing.

@@ -2,8 +2,8 @@
 use Rattle.std.specs.Prelude.{ℕ, ◌≡◌, Bool, true, IsTrue, List, [], ◌∷◌, map, Option, None, is_some, Result, Ok, Err}
 use Rattle.std.specs.List.{list_all}
 use Rattle.zl_code.specs.Common.{Image, Library, Program as Value, Spells, spelling, is_in_range, first_fault}
-use Rattle.zl_calls.specs.Program.{program_value}
-use Rattle.zl_calls.specs.declared.program.Program.{Program}
+use Rattle.zl_interp.specs.Program.{program_value}
+use Rattle.zl_interp.specs.declared.program.Program.{Program}
 use Rattle.zlab.specs.declared.fault.Cause.{Cause}
 use Rattle.zlab.specs.declared.fault.Cause.TheVariants as cause
 use Rattle.zlab.specs.declared.scenario.Reading.{Reading as MadeReading}

@@ -11,8 +11,8 @@ use crate::scenario::fault::Fault;
 use crate::scenario::part::Part;
 use crate::scenario::words::is;
 use std::alloc::Global;
-use zl_calls::Program;
 use zl_code::Image;
+use zl_interp::Program;
 use zl_verify::{RefusalCause, check};
 
 /// The most programs of a scenario.

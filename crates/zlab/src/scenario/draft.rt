@@ -1,6 +1,6 @@
 //! What the lines of a scenario have said so far.
 ghost use Rattle.std.specs.Prelude.{◌≡◌, IsTrue, length, OnOk};
-ghost use Rattle.zl_calls.specs.Program.{program_value};
+ghost use Rattle.zl_interp.specs.Program.{program_value};
 ghost use Rattle.zl_code.specs.Spells.{spelling};
 ghost use Rattle.zlab.specs.Accepted.{AcceptsImage};
 ghost use Rattle.zlab.specs.Scenario.{start, with_program, with_statement, with_turns};

@@ -1,5 +1,5 @@
 use Rattle.zlab.proofs.Common.{◌∙◌, ap, arith, spelling, Program, with_program}
-use Rattle.zl_calls.specs.Program.{program_value}
+use Rattle.zl_interp.specs.Program.{program_value}
 use Rattle.zlab.proofs.Programs.{ranges_by, said_more, passed}
 use Rattle.zlab.proofs.scenario.block.read_program.Goals as goal
 

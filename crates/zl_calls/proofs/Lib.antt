@@ -1,5 +1,6 @@
 pub mod Common
 pub mod Plain
+pub mod Needs
 pub mod Numbered
 pub mod Creating
 pub mod Departed

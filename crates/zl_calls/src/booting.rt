@@ -1,7 +1,8 @@
 //! The processes and objects that the statements of a boot make.
 
-ghost use Rattle.std.specs.Prelude.{ℕ, ◌+◌, ◌≡◌, ◌≢◌, ◌≤◌, ◌<◌, nat_lt, false, [], length, is_some, Some, slice_get, IfOk, OnOk, IfErr, IsTrue};
+ghost use Rattle.std.specs.Prelude.{ℕ, ◌+◌, ◌≡◌, ◌≢◌, ◌≤◌, ◌<◌, nat_lt, [], length, is_some, Some, slice_get, IfOk, OnOk, IfErr, IsTrue};
 ghost use Rattle.std.specs.List.{list_all};
+ghost use Rattle.std.specs.Option.{option_map};
 ghost use Rattle.std.specs.Result.{result_err};
 ghost use Rattle.zl_rights.specs.Numbers.{within, default_rights_of};
 ghost use Rattle.zl_rights.specs.Settle.{Settles};
@@ -276,8 +277,8 @@ impl Made {
         program: u64,
         handles: &[Grant],
     ) -> Result<&'a Image, BootCause>
-        ensures image { IfOk result (λ image. slice_get library.now program
-            ≡ Some (record { checked = false; image = image.now })) }
+        ensures image { IfOk result (λ image. option_map (λ g. g.image)
+            (slice_get library.now program) ≡ Some image.now) }
         ensures fault { (word : ℕ) → boot_fault library.now (seen self.now)
             (Statement.Process job program word handles.now) ≡ result_err result }
     {

@@ -1,9 +1,10 @@
 //! The world of a running lab: boot, system calls and local instructions.
 //!
-//! It stands on `zl_table`, for the handles of a process, on `zl_objects`, for the objects, and on
-//! `zl_code`, for images and the definitions. It promises that `World::boot` makes a boot world of
-//! its statements or names their first fault, and that `World::perform` and `World::local` are steps
-//! of the written relation. Methods follow the source that their type names, where they name none.
+//! It stands on `zl_table`, for the handles of a process, on `zl_objects`, for the objects, on
+//! `zl_verify`, for checked programs, and on `zl_code`, for images and the definitions. It promises
+//! that `World::boot` makes a boot world of its statements or names their first fault, and that
+//! `World::perform` and `World::local` are steps of the written relation. Methods follow the source
+//! that their type names, where they name none.
 #![tactic(auto)]
 
 mod blocking;

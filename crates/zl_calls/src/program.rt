@@ -4,6 +4,7 @@ ghost use Rattle.zl_calls.specs.Program.{program_value};
 use std::alloc::{AllocFailed, Global};
 use std::marker::Model;
 use zl_code::Image;
+use zl_verify::Checked;
 
 /// A program as a library lists it.
 ///
@@ -12,6 +13,8 @@ use zl_code::Image;
 pub enum Program {
     /// A program that was not checked; its processes may be refused and may be stuck.
     Raw(Image),
+    /// A program that the verifier accepted; its processes start only with what it declares.
+    Checked(Checked),
 }
 
 impl Program {
@@ -21,6 +24,7 @@ impl Program {
     {
         match self {
             Program::Raw(image) => image,
+            Program::Checked(accepted) => accepted.image(),
         }
     }
 
@@ -30,6 +34,7 @@ impl Program {
     {
         match self {
             Program::Raw(_) => false,
+            Program::Checked(_) => true,
         }
     }
 }

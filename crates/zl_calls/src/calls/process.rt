@@ -90,8 +90,11 @@ fn lacks_need(objects: &Objects, job: Koid, program: &Program) -> bool
     ensures { result ≡ needs_more
         (action_of (job_at objects.now.objects job)) (Some (program_value program.now)) }
 {
+    let image = program.image();
+    // Its clauses are the image's invariant, by which needs are among the four.
+    image.len();
     program.is_checked()
-        && NEEDS.iter().any(|need| program.image().needs(*need) && !allows(objects, job, *need))
+        && NEEDS.iter().any(|need| image.needs(*need) && !allows(objects, job, *need))
 }
 
 /// Whether the policy of the job allows what the condition stands for.

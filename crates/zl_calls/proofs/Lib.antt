@@ -82,6 +82,7 @@ pub mod CallSteps
 pub mod Calling
 pub mod StepItems
 pub mod BootGiving
+pub mod BootDeclared
 pub mod BootFaults
 pub mod BootMaking
 pub mod BootObjects

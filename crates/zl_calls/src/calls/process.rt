@@ -86,7 +86,7 @@ pub fn find_job<'a>(
 }
 
 /// Whether the program was checked, and declares a need that the policy of the job doesn't allow.
-fn lacks_need(objects: &Objects, job: Koid, program: &Program) -> bool
+pub fn lacks_need(objects: &Objects, job: Koid, program: &Program) -> bool
     ensures { result ≡ needs_more
         (action_of (job_at objects.now.objects job)) (Some (program_value program.now)) }
 {
@@ -159,7 +159,7 @@ fn is_only_start(starts: &[Start], entry: &Entry) -> bool
 }
 
 /// Whether the handle is of the declared kind, with the declared rights at least.
-fn is_declared(start: &Start, entry: &Entry) -> bool
+pub fn is_declared(start: &Start, entry: &Entry) -> bool
     ensures { result ≡ is_declared start.now entry.now }
 {
     let is_of_kind = match start.kind {

@@ -10,7 +10,7 @@ ghost use Rattle.zl_code.specs.Boot.{IsBoot, FirstFault, MOST_ITEMS, MOST_GRANTS
 ghost use Rattle.zl_code.specs.Jobs.{is_only_start};
 ghost use Rattle.zl_calls.specs.Consistent.{IsConsistent};
 ghost use Rattle.zl_objects.specs.Objects.{kind_at, root_alone};
-ghost use Rattle.zl_calls.specs.Program.{program_value};
+ghost use Rattle.zl_interp.specs.Program.{program_value};
 ghost use Rattle.zl_calls.specs.Making.{IsMaking, IsUnwatched};
 ghost use Rattle.zl_calls.specs.Makes.{Makes, seen, IsCauseOf, IsReached};
 ghost use Rattle.zl_calls.specs.Gives.{allowed, rights_if, IsBare, Gives};

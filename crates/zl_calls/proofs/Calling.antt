@@ -1,6 +1,5 @@
 -- A call in the midst of all processes, step by step: its policy, then what reaches others, then what it does by itself.
-use Rattle.zl_calls.proofs.Common.{◌≡◌, ◌<◌, ℕ, true, false, zero, suc, List, [], ◌∷◌, length, get_or, set, refl, sym, ap, ◌∙◌, subst, Option, Some, None, IfSome, IfNone, IsSome, false≢true, same_Some, slice_get, slice_get-get_or, call_in, calls_at, name_of, site_of, Library, Site, Objects, Acted}
-use Rattle.zl_code.specs.declared.history.CallName.{CallName}
+use Rattle.zl_calls.proofs.Common.{◌≡◌, ◌<◌, ℕ, true, false, zero, suc, List, [], ◌∷◌, length, get_or, set, refl, sym, ap, ◌∙◌, subst, Option, Some, None, IfSome, IfNone, IsSome, false≢true, same_Some, slice_get, slice_get-get_or, name_of, site_of, Library, Site, Objects, Acted}
 use Rattle.zl_code.specs.declared.history.Outcome.{Outcome}
 use Rattle.zl_code.specs.declared.instr.CallInstr.{CallInstr}
 use Rattle.zl_calls.specs.Policed.{Policed, verdict_on}

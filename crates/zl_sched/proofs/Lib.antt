@@ -1,6 +1,10 @@
+pub mod Alone
 pub mod Common
+pub mod Counted
+pub mod Following
+pub mod Fresh
+pub mod Legal
+pub mod Queued
 pub mod ReadyProcess
 pub mod TurnTold
 pub mod Walking
-pub mod Following
-pub mod Legal

@@ -10,6 +10,7 @@
 #![tactic(auto)]
 
 pub mod laws;
+mod ready;
 mod system;
 
 pub use system::{End, Stepped, System};

@@ -1,16 +1,19 @@
 //! A world with its trace, booted from statements and stepped along a schedule.
-ghost use Rattle.std.specs.Prelude.{◌≡◌, ◌≢◌, IfOk, IfErr, replicate, if◌then◌else◌};
+ghost use Rattle.std.specs.Prelude.{◌≡◌, ◌≢◌, ◌≤◌, ◌↔◌, IfOk, IfErr, OnOk, IsTrue, length, replicate, vec_capacity, if◌then◌else◌};
 ghost use Rattle.zl_code.specs.declared.boot.BootCause.TheVariants.{NoMemory};
 ghost use Rattle.zl_code.specs.Boot.{FirstFault};
 ghost use Rattle.zl_calls.specs.Makes.{IsReached};
 ghost use Rattle.zl_calls.specs.World.{is_ready_in};
 ghost use Rattle.zl_sched.specs.Follows.{turns_of};
+ghost use Rattle.zl_sched.specs.Queueing.{is_run};
+ghost use Rattle.zl_sched.specs.Ready.{AreReady, IsIdle};
 ghost use Rattle.zl_sched.specs.System.{HasBooted, IsLegal, Turns, Walks};
 
-use std::alloc::Global;
+use crate::ready::{is_ready, join, move_last, requeue};
+use std::alloc::{AllocError, Global};
 use std::marker::Model;
 use zl_calls::{Library, World};
-use zl_code::{Boot, BootFault, ProcState, TraceItem};
+use zl_code::{Boot, BootCause, BootFault, TraceItem};
 use zl_rights::Pid;
 
 /// How a step ends. All but `Ran` change nothing.
@@ -49,10 +52,12 @@ pub struct System {
     world: World,
     items: Vec<TraceItem>,
     boot: Boot,
+    // The ready processes, the longest ready first. Each step makes room for all that there are.
+    ready: Vec<Pid>,
 }
 
 impl Model for System {
-    ghost use Rattle.zl_sched.specs.System.{System as SystemValue, IsLegal};
+    ghost use Rattle.zl_sched.specs.System.{System as SystemValue, IsWhole};
 
     ghost Value = { SystemValue };
 
@@ -61,13 +66,15 @@ impl Model for System {
       items = s.items.items;
       statements = s.boot.statements.items;
       limit = s.boot.limit;
+      ready = s.ready.items;
     } };
 
-    ghost invariant = { λ s. IsLegal (record {
+    ghost invariant = { λ s. IsWhole (record {
       lab = s.world;
       items = s.items.items;
       statements = s.boot.statements.items;
       limit = s.boot.limit;
+      ready = s.ready.items;
     }) };
 }
 
@@ -90,7 +97,20 @@ impl System {
         // Room for the whole trace, so that it isn't moved as it grows. Where that is refused, each step
         // asks for its own.
         let _ = items.reserve(boot.limit as usize);
-        Ok(System { world, items, boot })
+        let mut ready = Vec::new(alloc);
+        if make_room(&mut ready, &world).is_err() {
+            return Err(BootFault {
+                statement: 0,
+                cause: BootCause::NoMemory,
+            });
+        }
+        join(&mut ready, &world, 0);
+        Ok(System {
+            world,
+            items,
+            boot,
+            ready,
+        })
     }
 
     /// The world as it stands.
@@ -98,6 +118,13 @@ impl System {
         ensures { result.now ≡ self.now.lab }
     {
         &self.world
+    }
+
+    /// Whether no process is ready.
+    pub fn idle(&self) -> bool
+        ensures { IsTrue result ↔ IsIdle self.now.lab.world }
+    {
+        self.ready.is_empty()
     }
 
     /// The world alone; the trace is gone.
@@ -126,13 +153,19 @@ impl System {
         if self.items.len() as u64 >= self.boot.limit {
             return self.refused(pid, Stepped::Limit);
         }
-        if self.items.reserve(1).is_err() {
+        if self.items.reserve(1).is_err() || make_room(&mut self.ready, &self.world).is_err() {
             return self.refused(pid, Stepped::NoMemory);
         }
+        let blocked = self.world.blocked_count();
         let Some(item) = self.world.step(pid) else {
             return Stepped::NotReady;
         };
         self.items.push(item).unwrap();
+        if is_local(&item) && self.world.blocked_count() == blocked {
+            move_last(&mut self.ready, pid);
+        } else {
+            requeue(&mut self.ready, &self.world, pid);
+        }
         Stepped::Ran
     }
 
@@ -180,8 +213,17 @@ impl System {
     }
 }
 
-fn is_ready(world: &World, pid: Pid) -> bool
-    ensures { result ≡ is_ready_in world.now pid }
+/// Room in the list for each process that there is.
+fn make_room(ready: &mut Vec<Pid>, world: &World) -> Result<(), AllocError>
+    ensures room { OnOk result (length world.now.world.processes ≤ vec_capacity ready.new) }
+    ensures items { ready.new.items ≡ ready.old.items }
 {
-    matches!(world.state_of(pid), ProcState::Ready)
+    ready.reserve(world.process_count())
+}
+
+/// The item is that of a local instruction.
+fn is_local(item: &TraceItem) -> bool
+    ensures { result ≡ is_run item.now }
+{
+    matches!(item, TraceItem::Run { .. })
 }

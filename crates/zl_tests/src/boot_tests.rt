@@ -195,9 +195,7 @@ fn checked_library(alloc: Global) -> Result<Library, Fail> {
     let image = assemble_bytes(alloc, NEEDS_EVENTS.as_bytes())
         .ok()
         .ok_or("the text is a program")?;
-    let checked = check(alloc, image)
-        .ok()
-        .ok_or("the program is accepted")?;
+    let checked = check(alloc, image).ok().ok_or("the program is accepted")?;
     let mut library = Library::new(alloc);
     if library.push(Program::Checked(checked)).is_err() {
         return Err(Fail::from("memory was refused"));
@@ -229,11 +227,13 @@ fn checked_fault(
     given: &[Grant],
 ) -> Result<Option<BootCause>, Fail> {
     let boot = checked_boot(alloc, action, given)?;
-    match World::boot(alloc, checked_library(alloc)?, &boot) {
-        Ok(_) => Ok(None),
-        Err(BootFault { statement: 2, cause }) => Ok(Some(cause)),
-        Err(_) => Err(Fail::from("another statement is refused")),
+    let Some(fault) = World::boot(alloc, checked_library(alloc)?, &boot).err() else {
+        return Ok(None);
+    };
+    if fault.statement != 2 {
+        return Err(Fail::from("another statement is refused"));
     }
+    Ok(Some(fault.cause))
 }
 
 #[test]

@@ -94,7 +94,9 @@ pub fn lacks_need(objects: &Objects, job: Koid, program: &Program) -> bool
     // Its clauses are the image's invariant, by which needs are among the four.
     image.len();
     program.is_checked()
-        && NEEDS.iter().any(|need| image.needs(*need) && !allows(objects, job, *need))
+        && NEEDS
+            .iter()
+            .any(|need| image.needs(*need) && !allows(objects, job, *need))
 }
 
 /// Whether the policy of the job allows what the condition stands for.

@@ -18,9 +18,8 @@ mod schedule;
 mod statements;
 mod words;
 
-pub use body::{Body, Form};
-
 use crate::fault::{EngineFault, LineFault};
+pub use body::{Body, Form};
 use reader::Reader;
 use std::alloc::Global;
 use zl_code::Boot;

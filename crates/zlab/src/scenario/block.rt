@@ -57,12 +57,7 @@ fn is_end(words: &[&[u8]]) -> bool
 
 /// Adds the program that the whole block gives.
 #[tactic(auto, unfolding(crate::specs::Scenario::program_said))]
-fn read_program(
-    draft: &mut Draft,
-    alloc: Global,
-    body: &Body,
-    checked: bool,
-) -> Result<(), Fault>
+fn read_program(draft: &mut Draft, alloc: Global, body: &Body, checked: bool) -> Result<(), Fault>
     ensures answer { Judges result (λ _. draft.new)
         (program_said draft.old checked (bytes_said body.now))
         (listed checked (bytes_said body.now)) }

@@ -14,8 +14,8 @@ returns-in-Err-Refused-clause-ok c =
     let told = rw c.in-Err-Refused.field-0-is at (c.in-Err-Refused.ensures {u = tt}).answer in
     let kept = rw c.in-Err-Refused.field-0-is at (c.in-Err-Refused.ensures {u = tt}).unchanged in
     let reads = at_fault _ (lines_of c.args.text.now) c.args.self.now c.loop-index.self (length c.loop-index.yielded) c.in-Some.index c.in-Some.line.now _ c.loop-index.invariant
-        (lines_so_far (λ l. l.now) (lines_of c.args.text.now) c.loop-index.yielded front) at
-        (λ rest. line_faulty (c.in-Some.index + 1) c.loop-index.self c.in-Some.line.now rest c.in-Err-Refused.cause told.0 told.1) in
+    (lines_so_far (λ l. l.now) (lines_of c.args.text.now) c.loop-index.yielded front) at
+    (λ rest. line_faulty (c.in-Some.index + 1) c.loop-index.self c.in-Some.line.now rest c.in-Err-Refused.cause told.0 told.1) in
     rw (kept, c.told_line-told.ensures, c.in-Err-Refused.cause-is) reads
 
 pub returns-in-Err-Unaccepted-clause-ok : goal.returns-in-Err-Unaccepted-clause-ok
@@ -27,8 +27,8 @@ returns-in-Err-Unaccepted-clause-ok c =
     let told = rw c.in-Err-Unaccepted.field-0-is at (c.in-Err-Unaccepted.ensures {u = tt}).answer in
     let kept = rw c.in-Err-Unaccepted.field-0-is at (c.in-Err-Unaccepted.ensures {u = tt}).unchanged in
     let reads = at_fault _ (lines_of c.args.text.now) c.args.self.now c.loop-index.self (length c.loop-index.yielded) c.in-Some.index c.in-Some.line.now _ c.loop-index.invariant
-        (lines_so_far (λ l. l.now) (lines_of c.args.text.now) c.loop-index.yielded front) at
-        (λ rest. program_refused (c.in-Some.index + 1) c.loop-index.self c.in-Some.line.now rest told) in
+    (lines_so_far (λ l. l.now) (lines_of c.args.text.now) c.loop-index.yielded front) at
+    (λ rest. program_refused (c.in-Some.index + 1) c.loop-index.self c.in-Some.line.now rest told) in
     rw (kept, c.told_line-told.ensures) reads
 
 pub loop-index-preserved : goal.loop-index-preserved

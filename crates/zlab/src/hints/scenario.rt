@@ -156,6 +156,7 @@ fn push_process(
     match cause {
         "Unknown" => push_unknown(hint, job, program, handles, above),
         "BadHandleList" => push_wrong_handles(hint, handles, above),
+        "NeedDenied" => hint.push_str("the job doesn't allow what the checked program needs"),
         "Limit" if above.count(Kind::Process) < MOST_PROCESSES => push_no_koid(hint, above),
         "Limit" => hint.push_str("a scenario starts at most 64 processes"),
         _ => {

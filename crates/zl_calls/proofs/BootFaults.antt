@@ -1,6 +1,8 @@
 -- Which fault a statement of a boot has, from what the code tests.
 use Rattle.zl_calls.proofs.Common.{◌+◌, ◌≡◌, ◌<◌, ◌≤◌, ◌&&◌, ◌||◌, ◌⊎◌, ℕ, Bool, true, false, not, List, [], ◌∷◌, ◌++◌, length, map, refl, sym, ap, ◌∙◌, false≢true, Option, Some, None, inl, inr, IsTrue, arith, or_left, or_right, and_parts, is_some, slice_get, nat_lt, nat_le, option_map, nat_tests, then_some, first_some, Map, get, has_key, Library, Program, body_in, boot_fault, has_default_rights, within, default_rights_of, rights_of, kind_of, ◌^◌, bit_and, cases_Bool, eqb-true, list_all, Objects, body_value, object_entry, object_value, world_value, kind_in, kind_at, allowed, if_default, rights_if, World, and_le_l, rights_given, is_job, all_known, may_start_with, handle_given, handles_given, MOST_PROCESSES, MOST_KOIDS, MOST_GRANTS}
 use Rattle.zl_code.proofs.Common.{Object as ObjectValue, is_job_body}
+use Rattle.zl_code.specs.Boot.{are_misfits}
+use Rattle.zl_code.specs.Jobs.{lacks_need}
 use Rattle.std.specs.Option.{option_to_list}
 use Rattle.std.proofs.lemmas.Option.{slice_get_past}
 use Rattle.zl_rights.specs.declared.entry.Entry.{Entry}
@@ -121,10 +123,15 @@ module _ (lib : Library) (w : World) (job program word : ℕ) (gs : List Grant) 
   abbrev full : Bool
   full = nat_le MOST_PROCESSES (length w.processes) || lacks
 
-  by_tests : (known may filled : Bool) → (is_job w job && (is_some (slice_get lib program) && all_known w.objects gs)) ≡ known → may_start_with gs (handles_given w.objects gs) ≡ may → full ≡ filled
-      → fault ≡ first_some (then_some (not known) cause.Unknown ∷ then_some (not may) cause.BadHandleList ∷ then_some filled cause.Limit ∷ [])
+  -- the handles that the statement gives
+  abbrev es : List Entry
+  es = handles_given w.objects gs
+
+  by_tests : (known may misfit denied filled : Bool) → (is_job w job && (is_some (slice_get lib program) && all_known w.objects gs)) ≡ known → may_start_with gs es ≡ may
+      → are_misfits (slice_get lib program) es ≡ misfit → lacks_need w job (slice_get lib program) ≡ denied → full ≡ filled
+      → fault ≡ first_some (then_some (not known) cause.Unknown ∷ then_some (not may) cause.BadHandleList ∷ then_some misfit cause.BadHandleList ∷ then_some denied cause.NeedDenied ∷ then_some filled cause.Limit ∷ [])
   unfolding boot_fault
-  by_tests known may filled a b c = rw (a, b, c) refl
+  by_tests known may misfit denied filled a b c d e = rw (a, b, c, d, e) refl
 
   no_and : (a b : Bool) → (a ≡ false) ⊎ (b ≡ false) → (a && b) ≡ false
   no_and true b (inl h) = absurd (false≢true (sym h))
@@ -132,7 +139,7 @@ module _ (lib : Library) (w : World) (job program word : ℕ) (gs : List Grant) 
   no_and false b h = refl
 
   unknown : (is_job w job && (is_some (slice_get lib program) && all_known w.objects gs)) ≡ false → fault ≡ Some cause.Unknown
-  unknown a = by_tests false _ _ a refl refl
+  unknown a = by_tests false _ _ _ _ a refl refl refl refl
 
   pub fault_no_program : length lib ≤ program → fault ≡ Some cause.Unknown
   fault_no_program past = unknown (no_and (is_job w job) _ (inr (rw (slice_get_past lib program past) refl)))
@@ -148,27 +155,35 @@ module _ (lib : Library) (w : World) (job program word : ℕ) (gs : List Grant) 
     abbrev may : Bool
     may = list_all (λ x. is_some (allowed w.objects x)) gs
 
-    starts : may_start_with gs (handles_given w.objects gs) ≡ (nat_le (length gs) MOST_GRANTS && may)
+    starts : may_start_with gs es ≡ (nat_le (length gs) MOST_GRANTS && may)
     starts = ap (λ b. nat_le (length gs) MOST_GRANTS && b) (rights_are w.objects gs known)
 
     pub fault_handles : (MOST_GRANTS < length gs) ⊎ (may ≡ false) → fault ≡ Some cause.BadHandleList
-    fault_handles bad = by_tests true false _ all_there (starts ∙ no_and _ may (either bad)) refl
+    fault_handles bad = by_tests true false _ _ _ all_there (starts ∙ no_and _ may (either bad)) refl refl refl
       where
         either : (MOST_GRANTS < length gs) ⊎ (may ≡ false) → (nat_le (length gs) MOST_GRANTS ≡ false) ⊎ (may ≡ false)
         either (inl many) = inl (grind (arith, nat_tests, many))
         either (inr h) = inr h
 
     module _ (few : length gs ≤ MOST_GRANTS) (all_may : may ≡ true) where
-      fine : may_start_with gs (handles_given w.objects gs) ≡ true
+      fine : may_start_with gs es ≡ true
       fine = let little : nat_le (length gs) MOST_GRANTS ≡ true = grind (arith, nat_tests, few) in starts ∙ rw (little, all_may) refl
 
-      pub fault_limit : (MOST_PROCESSES ≤ length w.processes) ⊎ (lacks ≡ true) → fault ≡ Some cause.Limit
-      fault_limit past = by_tests true true true all_there fine (elim past as (λ _. full ≡ true) [
-        | inl many ↦ or_left (nat_le MOST_PROCESSES (length w.processes)) lacks (grind (arith, nat_tests, many))
-        | inr given ↦ or_right (nat_le MOST_PROCESSES (length w.processes)) lacks given
-      ])
+      pub fault_misfits : are_misfits (Some g) es ≡ true → fault ≡ Some cause.BadHandleList
+      fault_misfits misfit = by_tests true true true _ _ all_there fine (rw there misfit) refl refl
 
-      pub no_fault : length w.processes < MOST_PROCESSES → lacks ≡ false → fault ≡ None
-      no_fault place left =
-          let room : nat_le MOST_PROCESSES (length w.processes) ≡ false = grind (arith, nat_tests, place) in
-          by_tests true true false all_there fine (rw (room, left) refl)
+      module _ (fit : are_misfits (Some g) es ≡ false) where
+        pub fault_needs : lacks_need w job (Some g) ≡ true → fault ≡ Some cause.NeedDenied
+        fault_needs denied = by_tests true true false true _ all_there fine (rw there fit) (rw there denied) refl
+
+        module _ (needs : lacks_need w job (Some g) ≡ false) where
+          pub fault_limit : (MOST_PROCESSES ≤ length w.processes) ⊎ (lacks ≡ true) → fault ≡ Some cause.Limit
+          fault_limit past = by_tests true true false false true all_there fine (rw there fit) (rw there needs) (elim past as (λ _. full ≡ true) [
+            | inl many ↦ or_left (nat_le MOST_PROCESSES (length w.processes)) lacks (grind (arith, nat_tests, many))
+            | inr given ↦ or_right (nat_le MOST_PROCESSES (length w.processes)) lacks given
+          ])
+
+          pub no_fault : length w.processes < MOST_PROCESSES → lacks ≡ false → fault ≡ None
+          no_fault place left =
+              let room : nat_le MOST_PROCESSES (length w.processes) ≡ false = grind (arith, nat_tests, place) in
+              by_tests true true false false false all_there fine (rw there fit) (rw there needs) (rw (room, left) refl)

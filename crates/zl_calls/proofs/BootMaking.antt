@@ -1,5 +1,5 @@
 -- One process more, with its handles: what was made goes on being what the definitions make.
-use Rattle.zl_calls.proofs.Common.{cases_Bool, eqb-true, eq-eqb, false≢true, or_right, ◌==◌, if◌then◌else◌, ◌≡◌, ◌<◌, ◌≤◌, ◌+◌, ◌⊎◌, ℕ, zero, suc, Bool, true, false, List, [], ◌∷◌, ◌++◌, map, refl, sym, ap, ◌∙◌, subst, Option, Some, None, Result, Ok, Err, OnOk, ⊤, inl, inr, IsTrue, arith, length, is_some, slice_get, slice_set, list_any, sum_by, count_by, sum_by-cons, map-append, none-some, same_Some, Map, get, put, ProcessBody, is_process, runs, handles_to, Image, Library, with_object, boot_fault, boot_effect, process_with, body_in, get-put, may_get_all, IsTable, sorted_put, put_key, Objects, new_object, with_new, is_job_at, is_job_in, process_entry, process_value, state_value, object_entry, object_value, world_value, IsNamed, Agrees, AreNamed, All, All-nil, lives, is_in_job, IsSound, IsMaking, root_alone, Makes, seen, IsBare, process_given, Gives, World, length-append, started_process, process_with_all, handles_given, with_process, started_cpu}
+use Rattle.zl_calls.proofs.Common.{cases_Bool, eqb-true, eq-eqb, false≢true, or_right, ◌==◌, if◌then◌else◌, ◌≡◌, ◌<◌, ◌≤◌, ◌+◌, ◌⊎◌, ℕ, zero, suc, Bool, true, false, List, [], ◌∷◌, ◌++◌, map, refl, sym, ap, ◌∙◌, subst, Option, Some, None, Result, Ok, Err, OnOk, ⊤, inl, inr, IsTrue, arith, length, is_some, slice_get, slice_set, list_any, sum_by, count_by, sum_by-cons, map-append, none-some, same_Some, Map, get, put, ProcessBody, is_process, runs, handles_to, Image, Library, Program, option_map, with_object, boot_fault, boot_effect, process_with, body_in, get-put, may_get_all, IsTable, sorted_put, put_key, Objects, new_object, with_new, is_job_at, is_job_in, process_entry, process_value, state_value, object_entry, object_value, world_value, IsNamed, Agrees, AreNamed, All, All-nil, lives, is_in_job, IsSound, IsMaking, root_alone, Makes, seen, IsBare, process_given, Gives, World, length-append, started_process, process_with_all, handles_given, with_process, started_cpu}
 use Rattle.zl_code.proofs.Common.{Process as ProcessValue, State as StateValue, is_job_body}
 use Rattle.std.specs.Result.{is_err}
 use Rattle.std.proofs.lemmas.List.Sums.{count_by-le-length, sum_by-append}
@@ -270,7 +270,12 @@ pub record IsBegun (p : Process) (r : Objects) (program word : ℕ) (image : Ima
   pub ready : p.state ≡ state.Ready
   pub bare : IsBare p
 
-begun_value : (lib : Library) (p : Process) (r : Objects) (program word : ℕ) (image : Image) → IsBegun p r program word image → slice_get lib program ≡ Some (record { checked = false; image = image }) → process_value p ≡ started_with [] word (created_process lib program)
+-- the Cpu of a process goes by the image alone
+blank_by : (o : Option Program) (image : Image) → option_map (λ g. g.image) o ≡ Some image → blank_cpu o ≡ blank_cpu (Some (record { checked = false; image = image }))
+blank_by None image there = absurd (none-some image there)
+blank_by (Some g) image there = ap (λ (i : Image). blank_cpu (Some (record { checked = false; image = i }))) (same_Some g.image image there)
+
+begun_value : (lib : Library) (p : Process) (r : Objects) (program word : ℕ) (image : Image) → IsBegun p r program word image → option_map (λ g. g.image) (slice_get lib program) ≡ Some image → process_value p ≡ started_with [] word (created_process lib program)
 begun_value lib p r program word image begun there = λ i. record {
   program = begun.program_is i;
   cpu = cpu_is i;
@@ -280,10 +285,10 @@ begun_value lib p r program word image begun there = λ i. record {
 }
   where
     cpu_is : p.cpu ≡ cpu_given [] word (blank_cpu (slice_get lib program))
-    cpu_is = begun.cpu ∙ rw there refl
+    cpu_is = begun.cpu ∙ ap (cpu_given [] word) (sym (blank_by (slice_get lib program) image there))
 
 pub makes : (lib : Library) (before mid after : Made) (job program word : ℕ) (gs : List Grant) (image : Image) (p p2 : Process)
-    → slice_get lib program ≡ Some (record { checked = false; image = image }) → boot_fault lib (seen before) (statement.Process job program word gs) ≡ None
+    → option_map (λ g. g.image) (slice_get lib program) ≡ Some image → boot_fault lib (seen before) (statement.Process job program word gs) ≡ None
     → IsBegun p before.objects program word image → Gives gs before p mid p2
     → after.processes.items ≡ mid.processes.items ++ p2 ∷ [] → after.objects ≡ with_new mid.objects (body.Process job life.Running) 0
     → Makes lib (statement.Process job program word gs) before after

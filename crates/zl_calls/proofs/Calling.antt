@@ -1,6 +1,5 @@
 -- A call in the midst of all processes, step by step: its policy, then what reaches others, then what it does by itself.
-use Rattle.zl_calls.proofs.Common.{◌≡◌, ◌<◌, ℕ, true, false, zero, suc, List, [], ◌∷◌, length, get_or, set, refl, sym, ap, ◌∙◌, subst, Option, Some, None, IfSome, IfNone, IsSome, false≢true, same_Some, slice_get, slice_get-get_or, call_in, calls_at, name_of, site_of, Library, Site, Objects, Acted}
-use Rattle.zl_code.specs.declared.history.CallName.{CallName}
+use Rattle.zl_calls.proofs.Common.{◌≡◌, ◌<◌, ℕ, true, false, zero, suc, List, [], ◌∷◌, length, get_or, set, refl, sym, ap, ◌∙◌, subst, Option, Some, None, IfSome, IfNone, IsSome, false≢true, same_Some, slice_get, slice_get-get_or, name_of, site_of, Library, Site, Objects, Acted}
 use Rattle.zl_code.specs.declared.history.Outcome.{Outcome}
 use Rattle.zl_code.specs.declared.instr.CallInstr.{CallInstr}
 use Rattle.zl_calls.specs.Policed.{Policed, verdict_on}
@@ -74,11 +73,11 @@ module _ (lib : Library) (ps : List Process) (r : Objects) (b : List ℕ) (place
         by_site (Some s) there reaching other = false≢true (sym other ∙ reaching)
 
   -- the call that stands next is done so
-  pub called_among : (call : CallInstr) (name : CallName) (o : Outcome) (l2 : Lab) → CallsNext lib p call → call_in (calls_at (name_of call) (site_of call p.cpu)) ≡ Some name
+  pub called_among : (call : CallInstr) (o : Outcome) (l2 : Lab) → CallsNext lib p call
       → ((caller : Process) → slice_get ps place ≡ Some caller → IsReachedBy (site_of call caller.cpu) (λ s. CallActs lib place caller s (lab ps r b) o l2))
-      → (caller : Process) → slice_get ps place ≡ Some caller → CalledAmong lib place caller (lab ps r b) name o l2
-  called_among call name o l2 next named done = of_caller (λ q. CalledAmong lib place q (lab ps r b) name o l2) (by_site (site_of call p.cpu) refl named (done p is_there))
+      → (caller : Process) → slice_get ps place ≡ Some caller → CalledAmong lib place caller (lab ps r b) (name_of call) o l2
+  called_among call o l2 next done = of_caller (λ q. CalledAmong lib place q (lab ps r b) (name_of call) o l2) (by_site (site_of call p.cpu) refl (done p is_there))
     where
-      by_site : (at : Option Site) → site_of call p.cpu ≡ at → call_in (calls_at (name_of call) at) ≡ Some name → IsReachedBy at (λ s. CallActs lib place p s (lab ps r b) o l2) → CalledAmong lib place p (lab ps r b) name o l2
-      by_site None is named done = absurd done
-      by_site (Some s) is named done = record { call = call; next = next; named = sym (same_Some (name_of call) name named); site = s; at_site = is; acts = done }
+      by_site : (at : Option Site) → site_of call p.cpu ≡ at → IsReachedBy at (λ s. CallActs lib place p s (lab ps r b) o l2) → CalledAmong lib place p (lab ps r b) (name_of call) o l2
+      by_site None is done = absurd done
+      by_site (Some s) is done = record { call = call; next = next; named = refl; site = s; at_site = is; acts = done }

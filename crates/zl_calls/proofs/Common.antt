@@ -10,7 +10,7 @@ pub use Rattle.zl_objects.specs.Objects.{Objects, changing, has_place, held_once
 unfoldable pub use Rattle.zl_objects.specs.Objects.{has_living_child}
 pub use Rattle.zl_objects.specs.Release.{AreKeptBut, Cascades, Releases, koids_of, none_left}
 pub use Rattle.zl_objects.specs.Seen.{Agrees, IsExact, body_value, is_in_job, object_entry, object_value}
-pub use Rattle.zl_calls.specs.World.{IsPlaceOf, call_for, call_in, is_ready_in, process_entry, process_value, state_value, world_blocked, world_value}
+pub use Rattle.zl_calls.specs.World.{IsPlaceOf, call_for, is_ready_in, process_entry, process_value, state_value, world_blocked, world_value}
 pub use Rattle.zl_calls.specs.Acting.{DoesNext, IsActed}
 pub use Rattle.zl_calls.specs.Blocked.{AreBlocked, IsWhole}
 pub use Rattle.zl_calls.specs.calls.Answer.{reaches, Action, Does, IsAnswered, IsRefusedBy, Replies, answers, exits, has_room_in, no_value, one_value, status_of, told_by, values_of}
@@ -27,8 +27,7 @@ pub use Rattle.std.proofs.lemmas.Nat.{and_le_l, and_le_r}
 pub use Rattle.zl_calls.specs.Acted.{Acted, Acts, action_of}
 pub use Rattle.zl_calls.proofs.Plain.{Calls, by_look_up, faults, operand_of}
 unfoldable pub use Rattle.zl_calls.proofs.Plain.{refusal}
-pub use Rattle.zl_calls.specs.Cpu.{handle_register, register_set, set_in, slot_in, slot_set, started_cpu}
-pub use Rattle.zl_calls.specs.Program.{program_value}
+pub use Rattle.zl_interp.specs.Common.{StandsNext, call_in, handle_register, program_value, register_set, started_cpu}
 pub use Rattle.zl_calls.specs.Steps.{Performs, StepsTo, TakesStep, takes_memory}
 pub use Rattle.zl_calls.specs.calls.Process.{Drained, Ends}
 pub use Rattle.zl_code.proofs.Common.{World}

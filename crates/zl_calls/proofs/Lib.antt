@@ -1,11 +1,10 @@
 pub mod Common
 pub mod Plain
+pub mod Needs
 pub mod Numbered
 pub mod Creating
 pub mod Departed
 pub mod Mapping
-pub mod Slots
-pub mod Listing
 pub mod Tables
 pub mod Taking
 pub mod Entered
@@ -83,6 +82,7 @@ pub mod CallSteps
 pub mod Calling
 pub mod StepItems
 pub mod BootGiving
+pub mod BootDeclared
 pub mod BootFaults
 pub mod BootMaking
 pub mod BootObjects

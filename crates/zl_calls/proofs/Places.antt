@@ -1,12 +1,11 @@
 -- Where a process stands in the list, and what stands next for it.
-use Rattle.zl_calls.proofs.Common.{◌≡◌, ◌<◌, ℕ, List, length, map, get_or, Option, Some, None, refl, sym, slice_get, IfSome, IfNone, none-some, IsTrue, false≢true, get, Cpu, is_process, is_ready, Library, Program, local_effect, Site, site_of, name_of, IsStuck, calls_at, next_for, process_entry, call_in, World}
+use Rattle.zl_calls.proofs.Common.{◌≡◌, ◌<◌, ◌∙◌, ℕ, List, length, map, get_or, Option, Some, None, refl, sym, ap, slice_get, IfSome, IfNone, IsSome, IsTrue, false≢true, get, Cpu, Image, is_process, is_ready, Library, Program, Site, site_of, name_of, Moves, calls_at, next_for, process_entry, StandsNext, call_in, World}
+use Rattle.std.specs.Prelude.{OnSome}
 use Rattle.zl_code.proofs.Common.{Process as ProcessValue}
 use Rattle.std.proofs.lemmas.Option.{slice_get-map, slice_get_read}
-use Rattle.zl_code.specs.declared.instr.Instr.{Instr}
-use Rattle.zl_code.specs.declared.instr.Instr.TheVariants as instr
-use Rattle.zl_code.specs.declared.history.CallName.{CallName}
-use Rattle.zl_code.specs.Image.{instr_at, call_at, call_in as call_found, local_at, local_in as local_found}
-use Rattle.zl_code.specs.Steps.{moves, next_at, next_of}
+use Rattle.zl_code.specs.declared.instr.CallInstr.{CallInstr}
+use Rattle.zl_code.specs.Steps.{next_at}
+use Rattle.zl_interp.specs.Common.{IsStuckOrCalls}
 use Rattle.zl_calls.specs.declared.process.Process.{Process}
 
 -- ---- reads of the list
@@ -16,55 +15,37 @@ pid_at ps n p lt is = simp slice_get-map (rw (slice_get_read ps (length ps) n p 
 
 -- ---- what stands next
 
-moves_name_none : (o : Option Cpu) → call_in (moves o) ≡ None
-moves_name_none None = refl
-moves_name_none (Some c) = refl
+-- the process runs the program g
+module _ (lib : Library) (p : ProcessValue) (g : Program) (runs : slice_get lib p.program ≡ Some g) where
+  -- a call that stands next in it stands next for the process
+  pub calls_next : (o : Option CallInstr) → IfSome o (StandsNext g.image p.cpu) → IfSome o (λ x. next_for lib p ≡ calls_at (name_of x) (site_of x p.cpu))
+  calls_next None stands = tt
+  calls_next (Some x) stands = rw runs (stands.next ∙ ap (calls_at (name_of x)) (sym stands.at_site))
 
-none_by_instr : (i : Option Instr) (c : Cpu) → IfNone (call_found i) (call_in (next_of i c) ≡ None)
-none_by_instr None c = refl
-none_by_instr (Some (instr.Local x)) c = moves_name_none (local_effect x c)
-none_by_instr (Some (instr.Call x)) c = tt
-none_by_instr (Some (instr.Unknown bytes)) c = refl
+  pub no_call_next : {A : Type 0} (o : Option A) → IfNone o (call_in (next_at g.image p.cpu) ≡ None) → IfNone o (call_in (next_for lib p) ≡ None)
+  no_call_next None none = rw runs none
+  no_call_next (Some x) none = tt
 
--- where no call stands in the code, none stands next
-pub no_call_next : (lib : Library) (p : ProcessValue) (g : Program) → slice_get lib p.program ≡ Some g → IfNone (call_at g.image p.cpu.counter) (call_in (next_for lib p) ≡ None)
-unfolding next_at
-no_call_next lib p g h = rw h (none_by_instr (instr_at g.image p.cpu.counter) p.cpu)
+  pub moves_at : {A : Type 0} (o : Option A) (c : Cpu) → OnSome o (next_at g.image p.cpu ≡ Moves c) → OnSome o (next_for lib p ≡ Moves c)
+  moves_at None c moves = tt
+  moves_at (Some x) c moves = rw runs moves
 
-site_by_instr : (i : Option Instr) (c : Cpu) → IfSome (call_found i) (λ x. next_of i c ≡ calls_at (name_of x) (site_of x c))
-site_by_instr None c = tt
-site_by_instr (Some (instr.Local y)) c = tt
-site_by_instr (Some (instr.Call y)) c = refl
-site_by_instr (Some (instr.Unknown bytes)) c = tt
+  pub stuck_at : {A : Type 0} (o : Option A) → IfNone o (IsStuckOrCalls (next_at g.image p.cpu)) → IfNone o (IsStuckOrCalls (next_for lib p))
+  stuck_at None stuck = rw runs stuck
+  stuck_at (Some x) stuck = tt
 
--- a call that stands in the code stands next, if it is built
-pub calls_next : (lib : Library) (p : ProcessValue) (g : Program) → slice_get lib p.program ≡ Some g → IfSome (call_at g.image p.cpu.counter) (λ x. next_for lib p ≡ calls_at (name_of x) (site_of x p.cpu))
-unfolding next_at
-calls_next lib p g h = rw h (site_by_instr (instr_at g.image p.cpu.counter) p.cpu)
+-- what is read of a call that stands next
+pub has_site : (i : Image) (c : Cpu) (o : Option CallInstr) → IfSome o (StandsNext i c) → IfSome o (λ x. IsSome (site_of x c))
+has_site i c None stands = tt
+has_site i c (Some x) stands = rw stands.at_site refl
 
-local_by_instr : (i : Option Instr) (c : Cpu) → IfSome (local_found i) (λ x. next_of i c ≡ moves (local_effect x c))
-local_by_instr None c = tt
-local_by_instr (Some (instr.Local x)) c = refl
-local_by_instr (Some (instr.Call x)) c = tt
-local_by_instr (Some (instr.Unknown bytes)) c = tt
-
-pub moves_at : (lib : Library) (p : ProcessValue) (g : Program) → slice_get lib p.program ≡ Some g → IfSome (local_at g.image p.cpu.counter) (λ x. next_for lib p ≡ moves (local_effect x p.cpu))
-unfolding next_at
-moves_at lib p g h = rw h (local_by_instr (instr_at g.image p.cpu.counter) p.cpu)
-
-stuck_by_instr : (i : Option Instr) (c : Cpu) → IfNone (local_found i) (call_in (next_of i c) ≡ None → next_of i c ≡ IsStuck)
-stuck_by_instr None c = λ no_call. refl
-stuck_by_instr (Some (instr.Local x)) c = tt
-stuck_by_instr (Some (instr.Call x)) c = λ no_call. by_site (name_of x) (site_of x c) no_call
+-- a call that has a site and stands next is told by its name
+pub named_next : (lib : Library) (p : ProcessValue) (x : CallInstr) → next_for lib p ≡ calls_at (name_of x) (site_of x p.cpu) → IsSome (site_of x p.cpu) → Some (name_of x) ≡ call_in (next_for lib p)
+named_next lib p x next there = by (site_of x p.cpu) there ∙ ap call_in (sym next)
   where
-    by_site : (n : CallName) (s : Option Site) → call_in (calls_at n s) ≡ None → calls_at n s ≡ IsStuck
-    by_site n None no_call = refl
-    by_site n (Some s) no_call = absurd (none-some n (sym no_call))
-stuck_by_instr (Some (instr.Unknown bytes)) c = λ no_call. refl
-
-pub stuck_at : (lib : Library) (p : ProcessValue) (g : Program) → slice_get lib p.program ≡ Some g → IfNone (local_at g.image p.cpu.counter) (call_in (next_for lib p) ≡ None → next_for lib p ≡ IsStuck)
-unfolding next_at
-stuck_at lib p g h = rw h (stuck_by_instr (instr_at g.image p.cpu.counter) p.cpu)
+    by : (s : Option Site) → IsSome s → Some (name_of x) ≡ call_in (calls_at (name_of x) s)
+    by None there = absurd (false≢true there)
+    by (Some s) there = refl
 
 -- a process that isn't there isn't ready
 pub absent_is_not_ready : (w : World) (pid : ℕ) → get w.processes pid ≡ None → IsTrue (is_process w is_ready pid) → ⊥

@@ -159,7 +159,7 @@ verdict_decided objects (Some job) f c = refl
 verdict_decided objects None f c = verdict_allowed f c
 
 -- the action of an object that was found
-seen_action : (o : Option Object) (c : Condition) → unwrap_or (get (policy_in (body_in (option_map object_value o))) (condition_number c)) action.Allow ≡ job_action (as_job_in o) c
+pub seen_action : (o : Option Object) (c : Condition) → unwrap_or (get (policy_in (body_in (option_map object_value o))) (condition_number c)) action.Allow ≡ job_action (as_job_in o) c
 unfolding get
 seen_action None c = refl
 seen_action (Some o) c = by_body o.body

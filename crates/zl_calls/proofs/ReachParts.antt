@@ -6,7 +6,7 @@ use Rattle.zl_code.specs.CallTable.{process_create, process_start, task_kill}
 use Rattle.zl_code.specs.Local.{reg}
 use Rattle.zl_code.specs.declared.history.Outcome.{Outcome}
 use Rattle.zl_code.specs.declared.history.Outcome.TheVariants as outcome
-use Rattle.zl_calls.specs.Cpu.{register_set}
+use Rattle.zl_interp.specs.Common.{register_set}
 use Rattle.zl_calls.specs.Reaching.{IsAnsweredIn, Reaches, creates, kills, kills_itself, starts}
 use Rattle.zl_calls.specs.calls.Answer.{answered_in}
 use Rattle.zl_calls.specs.calls.Task.{CreatesProcess, EndsOrAnswers, IsCallerStill, Lab, ProcessCreateDoes, ProcessStartDoes, TaskKillDoes, ending_of, lab, told_unless_over}

@@ -16,7 +16,7 @@ use Rattle.zl_code.specs.declared.history.Outcome.TheVariants as outcome
 use Rattle.zl_code.specs.declared.instr.CallInstr.TheVariants as call
 use Rattle.zl_table.specs.Table.{Handles}
 use Rattle.zl_calls.specs.Acted.{Acted}
-use Rattle.zl_calls.specs.Cpu.{register_set}
+use Rattle.zl_interp.specs.Common.{register_set}
 use Rattle.zl_calls.specs.declared.process.Process.{Process}
 use Rattle.zl_calls.specs.declared.calls.reading.Received.{Received}
 use Rattle.zl_calls.specs.calls.Answer.{with_stored}

@@ -1,5 +1,3 @@
-pub mod Program
-pub mod Cpu
 pub mod World
 pub mod calls
 pub mod Acted

@@ -1,14 +1,13 @@
 -- What the definitions see of the world of this crate.
 use Rattle.std.specs.Prelude.{ℕ, ◌≡◌, ◌<◌, Bool, length, slice_get, List, [], ◌∷◌, map, Option, Some, None, if◌then◌else◌}
 use Rattle.std.specs.Option.{option_map}
-use Rattle.zl_code.specs.Common.{get, World as WorldValue, Process as ProcessValue, State as StateValue, Created, Ready, Blocked, Ended, Gone, is_ready, is_process, Library, local_effect, name_of, site_of, Next, AtCall, Moves, IsStuck, calls_at, next_for}
+use Rattle.zl_code.specs.Common.{get, World as WorldValue, Process as ProcessValue, State as StateValue, Created, Ready, Blocked, Ended, Gone, is_ready, is_process, Library, name_of, site_of, Next, calls_at, next_for}
 use Rattle.zl_code.specs.declared.history.CallName.{CallName}
 use Rattle.zl_code.specs.declared.history.ProcState.{ProcState}
 use Rattle.zl_code.specs.declared.history.ProcState.TheVariants as seen
 use Rattle.zl_code.specs.declared.instr.CallInstr.{CallInstr}
-use Rattle.zl_code.specs.declared.instr.LocalInstr.{LocalInstr}
-use Rattle.zl_code.specs.Steps.{moves}
 use Rattle.zl_rights.specs.World.{SignalOf, PacketAt}
+use Rattle.zl_interp.specs.Common.{call_in}
 use Rattle.zl_calls.specs.declared.process.State.{State}
 use Rattle.zl_calls.specs.declared.process.State.TheVariants as state
 use Rattle.zl_calls.specs.declared.process.Process.{Process}
@@ -86,27 +85,13 @@ pub record IsPlaceOf (processes : List Process) (pid place : ℕ) : Type 0 where
 abbrev pub state_in : World → ℕ → ProcState
 state_in l pid = seen_of (get l.world.processes pid)
 
--- the call that stands next, if one does
-abbrev pub call_in : Next → Option CallName
-call_in (AtCall call site) = Some call
-call_in (Moves to) = None
-call_in IsStuck = None
-
 -- what stands next for the process
 abbrev pub stands_next : Library → Process → Next
 stands_next lib p = next_for lib (process_value p)
 
--- the call stands next for the process, built or not
+-- the call stands next for the process
 abbrev pub CallsNext : Library → Process → CallInstr → Type 0
 CallsNext lib p call = stands_next lib p ≡ calls_at (name_of call) (site_of call p.cpu)
-
--- the local instruction stands next for the process
-abbrev pub MovesNext : Library → Process → LocalInstr → Type 0
-MovesNext lib p local = stands_next lib p ≡ moves (local_effect local p.cpu)
-
--- where no call stands next, the process is stuck
-abbrev pub IsStuckOrCalls : Next → Type 0
-IsStuckOrCalls next = call_in next ≡ None → next ≡ IsStuck
 
 -- the call at which the process that was looked up is; just a ready one is at a call
 abbrev pub call_of : Library → Option ProcessValue → Option CallName

@@ -1,25 +1,28 @@
 //! The processes and objects that the statements of a boot make.
 
-ghost use Rattle.std.specs.Prelude.{ℕ, ◌+◌, ◌≡◌, ◌≢◌, ◌≤◌, ◌<◌, nat_lt, false, [], length, is_some, Some, slice_get, IfOk, OnOk, IfErr, IsTrue};
+ghost use Rattle.std.specs.Prelude.{ℕ, ◌+◌, ◌≡◌, ◌≢◌, ◌≤◌, ◌<◌, nat_lt, [], ◌∷◌, length, is_some, Some, slice_get, IfOk, OnOk, IfErr, IsTrue};
 ghost use Rattle.std.specs.List.{list_all};
+ghost use Rattle.std.specs.Option.{option_map};
 ghost use Rattle.std.specs.Result.{result_err};
 ghost use Rattle.zl_rights.specs.Numbers.{within, default_rights_of};
 ghost use Rattle.zl_rights.specs.Settle.{Settles};
-ghost use Rattle.zl_code.specs.Boot.{IsBoot, FirstFault, MOST_ITEMS, MOST_GRANTS, MOST_PROCESSES, MOST_KOIDS, boot_fault, rights_given};
+ghost use Rattle.zl_code.specs.Boot.{IsBoot, FirstFault, MOST_ITEMS, MOST_GRANTS, MOST_PROCESSES, MOST_KOIDS, are_declared, are_misfits, boot_fault, handles_given, rights_given};
+ghost use Rattle.zl_code.specs.Jobs.{is_only_start};
 ghost use Rattle.zl_calls.specs.Consistent.{IsConsistent};
 ghost use Rattle.zl_objects.specs.Objects.{kind_at, root_alone};
+ghost use Rattle.zl_interp.specs.Program.{program_value};
 ghost use Rattle.zl_calls.specs.Making.{IsMaking, IsUnwatched};
 ghost use Rattle.zl_calls.specs.Makes.{Makes, seen, IsCauseOf, IsReached};
 ghost use Rattle.zl_calls.specs.Gives.{allowed, rights_if, IsBare, Gives};
 
 use crate::calls::job::has_children;
-use crate::cpu::Cpu;
+use crate::calls::process::{is_declared, lacks_need};
 use crate::leaving::leave;
 use crate::process::{Process, State};
-use crate::program::Library;
 use bitflags::Flags;
 use std::alloc::{AllocError, Global};
-use zl_code::{Boot, BootCause, BootFault, Grant, Grants, Image, Statement};
+use zl_code::{Boot, BootCause, BootFault, Grant, Grants, Image, Start, Statement};
+use zl_interp::{Cpu, Library, Program};
 use zl_objects::{Body, Life, Objects};
 use zl_rights::{Action, Condition, Entry, Kind, Koid, Mode, Rights};
 use zl_table::Table;
@@ -276,8 +279,8 @@ impl Made {
         program: u64,
         handles: &[Grant],
     ) -> Result<&'a Image, BootCause>
-        ensures image { IfOk result (λ image. slice_get library.now program
-            ≡ Some (record { checked = false; image = image.now })) }
+        ensures image { IfOk result (λ image. option_map (λ g. g.image)
+            (slice_get library.now program) ≡ Some image.now) }
         ensures fault { (word : ℕ) → boot_fault library.now (seen self.now)
             (Statement.Process job program word handles.now) ≡ result_err result }
     {
@@ -289,6 +292,12 @@ impl Made {
         }
         if handles.len() > Grants::MOST || !self.may_give(handles) {
             return Err(BootCause::BadHandleList);
+        }
+        if self.are_misfits(listed, handles) {
+            return Err(BootCause::BadHandleList);
+        }
+        if lacks_need(&self.objects, job, listed) {
+            return Err(BootCause::NeedDenied);
         }
         if self.processes.len() >= MOST_PROCESSES || self.lacks_koids(1) {
             return Err(BootCause::Limit);
@@ -311,6 +320,45 @@ impl Made {
         ensures { result ≡ list_all (λ g. is_some (allowed (seen self.now).objects g)) handles.now }
     {
         handles.iter().all(|grant| self.handle(*grant).is_some())
+    }
+
+    /// Whether the program was checked, and declares other handles than these. Each may be given.
+    fn are_misfits(&self, program: &Program, handles: &[Grant]) -> bool
+        requires may { IsTrue (list_all
+            (λ g. is_some (allowed (seen self.now).objects g)) handles.now) }
+        ensures { result ≡ are_misfits (Some (program_value program.now))
+            (handles_given (seen self.now).objects handles.now) }
+    {
+        program.is_checked() && !self.are_declared(program.image().starts(), handles)
+    }
+
+    /// Whether these handles are those that are declared, in order. Each may be given.
+    fn are_declared(&self, starts: &[Start], handles: &[Grant]) -> bool
+        requires may { IsTrue (list_all
+            (λ g. is_some (allowed (seen self.now).objects g)) handles.now) }
+        ensures { result
+            ≡ are_declared starts.now (handles_given (seen self.now).objects handles.now) }
+    {
+        if starts.len() != handles.len() {
+            return false;
+        }
+        for (number, grant) in handles.iter().enumerate() {
+            if !self.fits(&starts[number], *grant) {
+                return false;
+            }
+        }
+        true
+    }
+
+    /// Whether the handle may be given, and is what is declared.
+    fn fits(&self, start: &Start, grant: Grant) -> bool
+        ensures { result ≡ is_only_start (start.now ∷ [])
+            (allowed (seen self.now).objects grant) }
+    {
+        match self.handle(grant) {
+            Some(entry) => is_declared(start, &entry),
+            None => false,
+        }
     }
 
     /// The handle that is to be given, if its object is there and its rights are among the default

@@ -1,22 +1,20 @@
 //! The world of a running lab: boot, system calls and local instructions.
 //!
-//! It stands on `zl_table`, for the handles of a process, on `zl_objects`, for the objects, and on
-//! `zl_code`, for images and the definitions. It promises that `World::boot` makes a boot world of
-//! its statements or names their first fault, and that `World::perform` and `World::local` are steps
-//! of the written relation. Methods follow the source that their type names, where they name none.
+//! It stands on `zl_table`, for the handles of a process, on `zl_objects`, for the objects, on
+//! `zl_interp`, for programs and what stands next in them, and on `zl_code`, for images and the
+//! definitions. It promises that `World::boot` makes a boot world of its statements or names their
+//! first fault, and that `World::perform` and `World::local` are steps of the written relation. Methods
+//! follow the source that their type names, where they name none.
 #![tactic(auto)]
 
 mod blocking;
 mod booting;
 mod calls;
-mod cpu;
 mod leaving;
 mod packets;
 mod policy;
 mod process;
-mod program;
 mod reading;
-mod running;
 mod stepping;
 mod tasks;
 mod waits;
@@ -24,6 +22,4 @@ mod waking;
 mod world;
 mod writing;
 
-pub use cpu::Cpu;
-pub use program::{Library, Program};
 pub use world::{Local, World};

@@ -13,11 +13,11 @@ ghost use Rattle.zl_calls.specs.Policed.{IsDenied, Policed, on_fault, on_making,
 use crate::calls::channel::examine_list;
 use crate::calls::look_up;
 use crate::calls::process::end;
-use crate::cpu::Cpu;
 use crate::process::Process;
 use bitflags::Flags;
 use std::alloc::Global;
 use zl_code::{CallInstr, Outcome, Register};
+use zl_interp::Cpu;
 use zl_objects::Objects;
 use zl_rights::{Action, Condition, Kind, Koid, Rights, Status};
 use zl_table::Table;

@@ -9,11 +9,11 @@ ghost use Rattle.zl_calls.specs.calls.Answer.{status_of, no_value, one_value, tw
 ghost use Rattle.zl_calls.specs.calls.Wait.{polled_status, polled_values};
 
 use crate::calls::wait::PollFault;
-use crate::cpu::Cpu;
 use crate::packets::PacketRegisters;
 use bitflags::Flags;
 use std::alloc::Global;
 use zl_code::{Outcome, ProcState, Register};
+use zl_interp::Cpu;
 use zl_rights::{HValue, Koid, Pid, Signals, Status};
 use zl_table::Table;
 

@@ -1,23 +1,21 @@
 //! What chan_read_etc writes of its caller, and how it gets its answer.
 
-ghost use Rattle.std.specs.Prelude.{◌≡◌, ◌+◌, ◌<◌, ◌^◌, ◌∷◌, [], None, length, slice_get, IfSome, IfNone, IsTrue};
+ghost use Rattle.std.specs.Prelude.{◌≡◌, ◌<◌, ◌^◌, ◌∷◌, None, slice_get, IfSome, IfNone};
 ghost use Rattle.zl_rights.specs.Numbers.{status_magnitude};
 ghost use Rattle.zl_rights.specs.World.{answered, written};
 ghost use Rattle.zl_code.specs.Asked.{triples_from};
 ghost use Rattle.zl_code.specs.Effects.{told_of};
-ghost use Rattle.zl_code.specs.Local.{is_in_memory, overwritten};
 ghost use Rattle.zl_code.specs.Request.{site_of};
 ghost use Rattle.zl_code.specs.declared.instr.CallInstr.TheVariants as call;
 ghost use Rattle.zl_calls.specs.Acted.{Acted};
-ghost use Rattle.zl_calls.specs.Cpu.{register_set};
 ghost use Rattle.zl_calls.specs.calls.Reading.{triple_of};
 
 use crate::calls::reading::{ReadFault, chan_read_etc};
-use crate::cpu::Cpu;
 use crate::process::Process;
 use bitflags::Flags;
 use std::alloc::Global;
 use zl_code::{Outcome, Register};
+use zl_interp::Cpu;
 use zl_objects::Objects;
 use zl_rights::{Entry, HValue, Status};
 
@@ -32,42 +30,20 @@ pub struct Destinations {
     pub places: u32,
 }
 
-impl Cpu {
-    /// The bytes stand in the memory from the address on; they lie in it.
-    pub fn store(&mut self, address: u64, bytes: &[u8])
-        requires { IsTrue (is_in_memory self.old address (length bytes.now)) }
-        ensures { self.new ≡ record self.old {
-          memory = overwritten self.old.memory address bytes.now;
-        } }
-    {
-        let start = address as usize;
-        self.memory[start..start + bytes.len()].copy_from_slice(bytes);
-    }
-
-    /// The register of this number becomes the value, if there is one.
-    fn set_number(&mut self, number: usize, value: u64)
-        ensures { self.new ≡ register_set self.old number value }
-    {
-        if number < Register::COUNT {
-            self.registers[number] = value;
-        }
-    }
-
-    /// So many triples of registers, from the first on, are told of handles: value, kind and rights
-    /// of each. Where there is no handle they become 0.
-    pub fn tell(&mut self, first: Register, places: u32, handles: &[Entry], values: &[HValue])
-        ensures { self.new ≡ record self.old {
-          registers = written
-              self.old.registers (triples_from first places) (told_of handles.now values.now);
-        } }
-    {
-        let start = usize::from(first.number());
-        for n in 0..places as usize {
-            let [value, kind, rights] = triple(handles, values, n);
-            self.set_number(start + 3 * n, value);
-            self.set_number(start + 3 * n + 1, kind);
-            self.set_number(start + 3 * n + 2, rights);
-        }
+/// So many triples of registers, from the first on, are told of handles: value, kind and rights of
+/// each. Where there is no handle they become 0.
+fn tell(cpu: &mut Cpu, first: Register, places: u32, handles: &[Entry], values: &[HValue])
+    ensures { cpu.new ≡ record cpu.old {
+      registers = written
+          cpu.old.registers (triples_from first places) (told_of handles.now values.now);
+    } }
+{
+    let start = usize::from(first.number());
+    for n in 0..places as usize {
+        let [value, kind, rights] = triple(handles, values, n);
+        cpu.set_number(start + 3 * n, value);
+        cpu.set_number(start + 3 * n + 1, kind);
+        cpu.set_number(start + 3 * n + 2, rights);
     }
 }
 
@@ -109,7 +85,7 @@ impl Process {
         self.cpu.set(to.status, u64::from(answer.magnitude()));
         self.cpu.set(to.bytes, bytes as u64);
         self.cpu.set(to.handles, handles as u64);
-        self.cpu.tell(to.first, to.places, entries, values);
+        tell(&mut self.cpu, to.first, to.places, entries, values);
         self.cpu.advance();
         Outcome::Answered(answer)
     }

@@ -11,15 +11,14 @@ ghost use Rattle.zl_calls.specs.Steps.{Performs, StepsTo, TakesStep, local_item,
 
 use crate::blocking::add_blocked;
 use crate::booting::{Made, booted};
-use crate::cpu::Cpu;
 use crate::process::Process;
-use crate::program::Library;
 use crate::stepping::{act_for, next_name, place_of};
 use crate::waits::{end_unheld, fire_waits};
 use crate::waking::wake;
 use std::alloc::Global;
 use std::marker::Model;
 use zl_code::{Boot, BootCause, BootFault, CallName, Image, Outcome, ProcState, TraceItem};
+use zl_interp::{Cpu, Library};
 use zl_objects::Objects;
 use zl_rights::{Pid, Status};
 
@@ -71,14 +70,16 @@ impl World {
     /// The world that the statements of a boot make, in their order.
     ///
     /// The fault names the first statement that can't be done: `Unknown` where it names no job, no
-    /// program or, for a handle, no object; else `BadHandleList` for an eighth handle or rights that a
-    /// new object of the kind doesn't give; else `BadState` for the policy of a job in which a job or
-    /// a process lives; else `Conflict` for an action where another is set; else `Limit` for the 65th
-    /// process, for the 17th level of jobs, or where fewer koids up to 1,024 are left than the statement
-    /// takes, two for a channel, none for a policy and one for any other. A limit of
-    /// the trace above `Boot::MOST_ITEMS` is `Limit` of a statement one past the last. `NoMemory` may
-    /// come at any statement, and for the root job and the room for blocked processes as of statement 0,
-    /// which need not be there.
+    /// program or, for a handle, no object; else `BadHandleList` for an eighth handle, for rights
+    /// that a new object of the kind doesn't give, or for other handles than a checked program
+    /// declares: one for each, in order, of its kind and with its rights at least; else
+    /// `NeedDenied` where the policy of the job doesn't allow what a checked program needs; else
+    /// `BadState` for the policy of a job in which a job or a process lives; else `Conflict` for an
+    /// action where another is set; else `Limit` for the 65th process, for the 17th level of jobs,
+    /// or where fewer koids up to 1,024 are left than the statement takes, two for a channel, none
+    /// for a policy and one for any other. A limit of the trace above `Boot::MOST_ITEMS` is `Limit`
+    /// of a statement one past the last. `NoMemory` may come at any statement, and for the root job
+    /// and the room for blocked processes as of statement 0, which need not be there.
     pub fn boot(alloc: Global, library: Library, boot: &Boot) -> Result<World, BootFault>
         ensures ok { IfOk result (λ world. IsBoot library boot.now.statements.items world.world) }
         ensures programs { IfOk result (λ world. world.programs ≡ library) }

@@ -1,5 +1,5 @@
 -- A boot makes a world or comes to a first fault, never both, whichever values new handles get.
-use Rattle.zl_code.proofs.Common.{on_object, update, body_in, is_process, lives, state_passes, list_any, has_child_job, has_child_process, ◌&&◌, Bool, if◌then◌else◌, ◌≡◌, ◌<◌, ◌≤◌, ◌+◌, ◌⊎◌, ◌==◌, ℕ, zero, suc, true, false, cond, List, [], ◌∷◌, take, length, refl, sym, ap, ◌∙◌, Option, Some, None, inl, inr, IsTrue, arith, slice_get, nat_lt, cases_lt, length-map, none-some, same_Some, Map, put, World, Body, ChannelEnd, EventBody, PortBody, ProcessBody, Library, with_object, boot_fault, boot_effect, may_boot, Boots, IsBoot, FirstFault, at_statement, at_limit, MOST_ITEMS, origin, map, and_from, and_parts, nat_tests, subst, false≢true, cases_Bool, eqb-true, get, has_key, Process, may_get, process_with, get-put, settled_in, keys_of, Settles-exists, Settles-unique, may_get_all, IsBooted, handles_given, values_given, gives_no_handle, created_process, list_all}
+use Rattle.zl_code.proofs.Common.{on_object, update, body_in, is_process, lives, state_passes, list_any, has_child_job, has_child_process, ◌&&◌, Bool, if◌then◌else◌, ◌≡◌, ◌<◌, ◌≤◌, ◌+◌, ◌⊎◌, ◌==◌, ℕ, zero, suc, true, false, cond, List, [], ◌∷◌, take, length, refl, sym, ap, ◌∙◌, Option, Some, None, inl, inr, IsTrue, arith, slice_get, nat_lt, cases_lt, length-map, none-some, same_Some, Map, put, World, Body, ChannelEnd, EventBody, PortBody, ProcessBody, Library, with_object, boot_fault, boot_effect, may_boot, Boots, IsBoot, FirstFault, at_statement, at_limit, MOST_ITEMS, origin, map, and_from, and_parts, nat_tests, subst, false≢true, cases_Bool, eqb-true, get, has_key, Process, may_get, process_with, get-put, settled_in, keys_of, Settles-exists, Settles-unique, may_get_all, IsBooted, handles_given, values_given, gives_no_handle, created_process, list_all, condition_number, Program}
 use Rattle.zl_rights.specs.declared.entry.Entry.{Entry}
 use Rattle.zl_code.specs.declared.boot.Statement.{Statement}
 use Rattle.zl_code.specs.declared.boot.Statement.TheVariants as statement
@@ -7,7 +7,10 @@ use Rattle.zl_code.specs.declared.boot.BootCause.{BootCause}
 use Rattle.zl_code.specs.declared.boot.BootCause.TheVariants as cause
 use Rattle.zl_rights.specs.Signals.{is_job_below, is_process_of}
 use Rattle.zl_code.specs.Boot.{setting}
-use Rattle.zl_code.specs.Jobs.{job_within, policy_changed}
+use Rattle.zl_code.specs.Jobs.{is_allowing, job_within, lacks_need, policy_changed}
+use Rattle.zl_code.specs.Tests.{policy_in}
+use Rattle.zl_rights.specs.declared.policy.Action.TheVariants as action
+use Rattle.std.specs.Prelude.{not, unwrap_or}
 use Rattle.zl_code.proofs.CanStart.{can_start, handles_at_most}
 
 -- ---- worlds that differ by handles alone
@@ -57,10 +60,15 @@ same_processes : (u v : World) → IsAlike u v → (job : ℕ) → has_child_pro
 unfolding has_child_process
 same_processes u v a job = λ i. list_any (λ e. is_process_of job e.1.body && a.living e.0 i) (a.objects i)
 
+-- what a program needs
+same_needs : (u v : World) → IsAlike u v → (job : ℕ) (program : Option Program) → lacks_need u job program ≡ lacks_need v job program
+same_needs u v a job None = refl
+same_needs u v a job (Some g) = λ i. g.checked && list_any (λ c. not (is_allowing (unwrap_or (get (policy_in (body_in (get (a.objects i) job))) (condition_number c)) action.Allow))) g.image.needs
+
 module _ (lib : Library) where
   same_fault : (u v : World) → IsAlike u v → (s : Statement) → boot_fault lib u s ≡ boot_fault lib v s
   unfolding boot_fault
-  same_fault u v a (statement.Process job program word handles) = rw (a.objects, a.next, count) refl
+  same_fault u v a (statement.Process job program word handles) = rw (same_needs u v a job (slice_get lib program), a.objects, a.next, count) refl
     where
       count : length u.processes ≡ length v.processes
       count = sym (length-keys u.processes) ∙ ap length a.pids ∙ length-keys v.processes

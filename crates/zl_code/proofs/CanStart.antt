@@ -1,7 +1,8 @@
 -- What is known of the process of a statement that has no fault, and how it gets its handles.
 use Rattle.zl_code.proofs.Common.{◌+◌, ◌≡◌, ◌<◌, ◌≤◌, ◌&&◌, ◌||◌, ℕ, Bool, true, false, not, List, [], ◌∷◌, ◌++◌, length, refl, sym, arith, nat_tests, nat_le, nat_lt, Option, Some, None, IsTrue, is_some, then_some, slice_get, and_parts, none-some, first_some, Map, get, Object, World, Library, Process, body_in, boot_fault, has_default_rights, may_get, process_with, not-false, or_parts, may_get_all, MOST_GRANTS, MOST_PROCESSES, MOST_KOIDS, process_with_all, is_job, all_known, handle_given, handles_given, may_start_with, started_with, list_all}
 use Rattle.std.specs.Option.{option_to_list}
-use Rattle.zl_code.specs.Boot.{lacks_koids}
+use Rattle.zl_code.specs.Boot.{are_misfits, lacks_koids}
+use Rattle.zl_code.specs.Jobs.{lacks_need}
 use Rattle.zl_rights.specs.declared.entry.Entry.{Entry}
 use Rattle.zl_code.specs.declared.boot.Grant.{Grant}
 use Rattle.zl_code.specs.declared.boot.Statement.TheVariants as statement
@@ -14,6 +15,8 @@ pub record CanStart (lib : Library) (w : World) (job program : ℕ) (handles : L
   pub known : IsTrue (all_known w.objects handles)
   pub few : length handles ≤ MOST_GRANTS
   pub rights : IsTrue (list_all has_default_rights (handles_given w.objects handles))
+  pub declared : are_misfits (slice_get lib program) (handles_given w.objects handles) ≡ false
+  pub needs : lacks_need w job (slice_get lib program) ≡ false
   pub place : length w.processes < MOST_PROCESSES
   pub koid : w.next_koid ≤ MOST_KOIDS
 
@@ -26,8 +29,10 @@ unfolding boot_fault
 can_start lib w job program word handles fine =
     let first = none_first (not (is_job w job && (is_some (slice_get lib program) && all_known w.objects handles))) cause.Unknown _ fine in
     let second = none_first (not (may_start_with handles (handles_given w.objects handles))) cause.BadHandleList _ first.1 in
-    let third = none_first (nat_le MOST_PROCESSES (length w.processes) || lacks_koids w (statement.Process job program word handles)) cause.Limit _ second.1 in
-    let left = or_parts (nat_le MOST_PROCESSES (length w.processes)) _ third.0 in
+    let third = none_first (are_misfits (slice_get lib program) (handles_given w.objects handles)) cause.BadHandleList _ second.1 in
+    let fourth = none_first (lacks_need w job (slice_get lib program)) cause.NeedDenied _ third.1 in
+    let fifth = none_first (nat_le MOST_PROCESSES (length w.processes) || lacks_koids w (statement.Process job program word handles)) cause.Limit _ fourth.1 in
+    let left = or_parts (nat_le MOST_PROCESSES (length w.processes)) _ fifth.0 in
     let enough : nat_lt (MOST_KOIDS + 1) (w.next_koid + 1) ≡ false = left.1 in
     let there = and_parts (is_job w job) _ (not-false _ first.0) in
     let start = and_parts (nat_le (length handles) MOST_GRANTS) _ (not-false _ second.0) in
@@ -36,6 +41,8 @@ can_start lib w job program word handles fine =
       known = (and_parts (is_some (slice_get lib program)) _ there.1).1;
       few = grind (arith, nat_tests, start.0);
       rights = start.1;
+      declared = third.0;
+      needs = fourth.0;
       place = grind (arith, nat_tests, left.0);
       koid = grind (arith, nat_tests, enough);
     }

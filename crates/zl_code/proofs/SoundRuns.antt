@@ -1,5 +1,5 @@
 -- What steps keep, along runs and histories from a boot world.
-use Rattle.zl_code.proofs.Common.{on_object, ◌≡◌, ◌<◌, arith, inl, inr, ℕ, false, ◌∙◌, All-nil, HasPeer, IsSoundWait, JobBody, with_object, ◌==◌, List, [], ◌∷◌, refl, subst, IsTrue, Option, Some, None, is_some, list_all, flat_map, cases_Bool, eqb-true, false≢true, none-some, same_Some, within, get, World, Object, is_process, queue_of, Library, Step, pid_of, single, IsLegalHistory, Boots, IsBoot, boot_effect, origin, HasGivenKoids, has_default_rights, HandlesAreSound, HandlesAreNamed, raisable, IsSound, KeepsProcesses, Runs}
+use Rattle.zl_code.proofs.Common.{on_object, ◌≡◌, ◌<◌, arith, inl, inr, ℕ, false, ◌∙◌, All-nil, HasPeer, IsSoundWait, JobBody, with_object, ◌==◌, List, [], ◌∷◌, refl, subst, IsTrue, Option, Some, None, is_some, list_all, flat_map, cases_Bool, eqb-true, false≢true, none-some, same_Some, within, get, World, Object, is_process, queue_of, Library, Step, pid_of, single, IsLegalHistory, Boots, IsBoot, boot_effect, boot_fault, may_boot, origin, HasGivenKoids, has_default_rights, HandlesAreSound, HandlesAreNamed, raisable, IsSound, KeepsProcesses, Runs}
 use Rattle.zl_code.specs.declared.boot.Statement.{Statement}
 use Rattle.zl_code.specs.declared.history.TraceItem.{TraceItem}
 use Rattle.zl_code.specs.Koids.{KeepsKoids}
@@ -73,13 +73,24 @@ no_wait_booted lib w statement.Event vs = refl
 no_wait_booted lib w statement.Port vs = refl
 no_wait_booted lib w statement.Channel vs = refl
 
-boots_sound : (lib : Library) (w : World) (statements : List Statement) (after : World) → IsSound w → NoneKilled w → w.waits ≡ [] → Boots lib w statements after → IsSound after
-boots_sound lib w [] after s alive none e = rw e s
-boots_sound lib w (st ∷ statements) after s alive none (vs, fine, may, rest) =
-    let none_after : (boot_effect lib w st vs).waits ≡ [] = no_wait_booted lib w st vs ∙ none in
-    boots_sound lib (boot_effect lib w st vs) statements after
-    (wholly_sound (boot_effect lib w st vs) (live_without (boot_effect lib w st vs) none_after) (nearly_kept w (boot_effect lib w st vs) (boot_changes lib w st vs s.objects alive fine may) s))
-    (boot_kills_none lib w st vs alive) none_after rest
+-- What is true of a world within a boot.
+pub record IsBooting (w : World) : Type 0 where
+  pub sound : IsSound w
+  pub alive : NoneKilled w
+  pub unwatched : w.waits ≡ []
+
+pub still_booting : (lib : Library) (w : World) (s : Statement) (vs : List ℕ) → boot_fault lib w s ≡ None → IsTrue (may_boot lib w s vs) → IsBooting w → IsBooting (boot_effect lib w s vs)
+still_booting lib w s vs fine may b =
+    let none : (boot_effect lib w s vs).waits ≡ [] = no_wait_booted lib w s vs ∙ b.unwatched in
+    record {
+      sound = wholly_sound (boot_effect lib w s vs) (live_without (boot_effect lib w s vs) none) (nearly_kept w (boot_effect lib w s vs) (boot_changes lib w s vs b.sound.objects b.alive fine may) b.sound);
+      alive = boot_kills_none lib w s vs b.alive;
+      unwatched = none;
+    }
+
+boots_booting : (lib : Library) (w : World) (statements : List Statement) (after : World) → IsBooting w → Boots lib w statements after → IsBooting after
+boots_booting lib w [] after b e = rw e b
+boots_booting lib w (s ∷ statements) after b (vs, fine, may, rest) = boots_booting lib (boot_effect lib w s vs) statements after (still_booting lib w s vs fine may b) rest
 
 -- the root job is alone in the world where a boot begins
 root_alone : (P : ℕ → Object → Type 0) → P 1 (record { body = JobBody 0 1 [] false; raised = 0 }) → (k : ℕ) (o : Object) → get origin.objects k ≡ Some o → P k o
@@ -118,9 +129,12 @@ origin_is_sound = record {
     by_object k None is h = absurd (false≢true h)
     by_object k (Some o) is h = root_alone (λ j x. j < 2) (omega arith) k o is
 
+pub origin_booting : IsBooting origin
+origin_booting = record { sound = origin_is_sound; alive = root_alone (λ k o. is_killed o.body ≡ false) refl; unwatched = refl }
+
 pub boot_sound : (lib : Library) (statements : List Statement) (w : World) → IsBoot lib statements w → IsSound w
 boot_sound lib statements w boot =
-    wholly_sound w (live_settled boot.made w boot.settles) (kept_by_settling boot.made w boot.settles (nearly_sound boot.made (boots_sound lib origin statements boot.made origin_is_sound (root_alone (λ k o. is_killed o.body ≡ false) refl) refl boot.boots)))
+    wholly_sound w (live_settled boot.made w boot.settles) (kept_by_settling boot.made w boot.settles (nearly_sound boot.made (boots_booting lib origin statements boot.made origin_booting boot.boots).sound))
 
 -- ---- runs and histories from a boot world
 

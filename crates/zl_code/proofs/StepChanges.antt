@@ -192,7 +192,7 @@ boot_kills_none lib w statement.Channel vs none =
     none_killed_beside (with_object w (ChannelEnd (w.next_koid + 1) [])) (ChannelEnd w.next_koid []) refl (none_killed_beside w (ChannelEnd (w.next_koid + 1) []) refl none)
 
 -- nothing lives in the job whose policy a statement sets
-no_child_booted : (lib : Library) (w : World) (job : ℕ) (condition : Condition) (action : Action) → boot_fault lib w (statement.Policy job condition action) ≡ None → has_child w job ≡ false
+pub no_child_booted : (lib : Library) (w : World) (job : ℕ) (condition : Condition) (action : Action) → boot_fault lib w (statement.Policy job condition action) ≡ None → has_child w job ≡ false
 unfolding boot_fault
 no_child_booted lib w job condition action fine =
     let first = none_first (not (is_job w job)) cause.Unknown _ fine in

@@ -12,12 +12,13 @@ use Rattle.zl_code.specs.declared.boot.Statement.{Statement}
 use Rattle.zl_code.specs.declared.boot.Statement.TheVariants as statement
 use Rattle.zl_code.specs.declared.boot.BootCause.{BootCause}
 use Rattle.zl_code.specs.declared.boot.BootCause.TheVariants as cause
-use Rattle.zl_code.specs.Image.{Library}
+use Rattle.zl_code.specs.declared.image.Start.{Start}
+use Rattle.zl_code.specs.Image.{Library, Program}
 use Rattle.zl_rights.specs.Policies.{Setting}
 use Rattle.zl_rights.specs.declared.policy.Condition.{Condition}
 use Rattle.zl_rights.specs.declared.policy.Action.{Action}
 use Rattle.zl_rights.specs.declared.policy.Mode.TheVariants as mode
-use Rattle.zl_code.specs.Jobs.{has_child, is_conflict, is_deepest, job_within, policy_changed}
+use Rattle.zl_code.specs.Jobs.{has_child, is_conflict, is_declared, is_deepest, job_within, lacks_need, policy_changed}
 use Rattle.zl_code.specs.Tests.{body_in, body_of, policy_in}
 use Rattle.zl_code.specs.Handles.{has_default_rights}
 use Rattle.zl_code.specs.Effects.{on_object, with_object, with_process, process_with, may_get_all}
@@ -66,6 +67,18 @@ all_known objects gs = list_all (λ g. has_key objects g.koid) gs
 abbrev pub may_start_with : List Grant → List Entry → Bool
 may_start_with gs es = nat_le (length gs) MOST_GRANTS && list_all has_default_rights es
 
+-- they are those that are declared: one for each, in order, of its kind and with its rights at least
+abbrev pub are_declared : List Start → List Entry → Bool
+are_declared [] [] = true
+are_declared [] (e ∷ es) = false
+are_declared (s ∷ ss) [] = false
+are_declared (s ∷ ss) (e ∷ es) = is_declared s e && are_declared ss es
+
+-- the program is checked, and declares other handles
+abbrev pub are_misfits : Option Program → List Entry → Bool
+are_misfits None es = false
+are_misfits (Some g) es = g.checked && not (are_declared g.image.starts es)
+
 -- ---- one statement
 
 -- the object is a job
@@ -94,8 +107,9 @@ lacks_koids w s = nat_lt (MOST_KOIDS + 1) (w.next_koid + koids_of s)
 abbrev pub setting : Condition → Action → Option Setting
 setting condition action = Some (record { mode = mode.Absolute; condition = condition; action = action })
 
--- why the statement can't be done: no such job, program or object; no handles to start with; a child lives in the job
--- whose policy is set, or the policy has another action; one process or one level of jobs too many, or too few koids are left
+-- why the statement can't be done: no such job, program or object; no handles to start with, or others than the program
+-- declares; a need of the program that the job doesn't allow; a child lives in the job whose policy is set, or the policy
+-- has another action; one process or one level of jobs too many, or too few koids are left
 unfoldable pub boot_fault : Library → World → Statement → Option BootCause
 boot_fault lib w (statement.Job parent) = first_some (
     then_some (not (is_job w parent)) cause.Unknown
@@ -109,6 +123,8 @@ boot_fault lib w (statement.Policy job condition action) = first_some (
 boot_fault lib w (statement.Process job program word handles) = first_some (
     then_some (not (is_job w job && (is_some (slice_get lib program) && all_known w.objects handles))) cause.Unknown
     ∷ then_some (not (may_start_with handles (handles_given w.objects handles))) cause.BadHandleList
+    ∷ then_some (are_misfits (slice_get lib program) (handles_given w.objects handles)) cause.BadHandleList
+    ∷ then_some (lacks_need w job (slice_get lib program)) cause.NeedDenied
     ∷ then_some (nat_le MOST_PROCESSES (length w.processes) || lacks_koids w (statement.Process job program word handles)) cause.Limit
     ∷ [])
 boot_fault lib w statement.Event = then_some (lacks_koids w statement.Event) cause.Limit

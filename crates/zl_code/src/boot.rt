@@ -40,6 +40,7 @@ pub enum Statement {
     Channel,
     /// A process of the job, running the program of that number from 0. It is started with the first
     /// of its handles in register 0, the word in register 1 and the other handles from register 2 on.
+    /// A checked program wants just the handles that it declares, and a job that allows its needs.
     Process {
         job: Koid,
         program: u64,
@@ -116,11 +117,10 @@ pub struct BootFault {
 /// Why a statement can't be done. Own profile.
 #[derive(Clone, Copy)]
 pub enum BootCause {
-    /// A process can't start with these handles: there are eight or more, or one has a right that a
-    /// new object of its kind doesn't give. Not yet: that the program was checked for others.
+    /// A process can't start with these handles: there are eight or more, one has a right that a new
+    /// object of its kind doesn't give, or the program was checked and declares others.
     BadHandleList,
-    /// The program was checked, and the policy of the job forbids it to make what it needs. Not
-    /// yet: a boot doesn't look at needs.
+    /// The program was checked, and the policy of the job forbids it to make what it needs.
     NeedDenied,
     /// Too many processes, too many levels of jobs, too few koids left for what the statement makes,
     /// or too high a limit of the trace.

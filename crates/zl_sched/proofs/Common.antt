@@ -3,4 +3,4 @@ pub use Rattle.zl_code.proofs.Common.{Acts, AtCall, Blocked, Bool, Choice, Creat
 unfoldable pub use Rattle.zl_code.proofs.Common.{get, is_process}
 pub use Rattle.zl_calls.specs.World.{is_ready_in, seen_in, seen_of, state_in}
 pub use Rattle.zl_sched.specs.Follows.{EndsBy, Follows, StopsBefore, ends, goes, skips, turns_of}
-pub use Rattle.zl_sched.specs.System.{Adds, Runs, System, Turns, Walks, room_of}
+pub use Rattle.zl_sched.specs.System.{Adds, HasBooted, IsLegal, Runs, System, Turns, Walks, room_of}

@@ -1,10 +1,13 @@
--- What follows a schedule is a legal history.
-use Rattle.zl_sched.proofs.Common.{◌≡◌, ℕ, List, [], ◌∷◌, refl, sym, subst, IsTrue, Library, Step, Acts, Next, Moves, AtCall, IsStuck, next_for, pid_of, single, IsLegalHistory, Follows, ends, skips, goes, EndsBy}
+-- What follows a schedule is a legal history, and a legal history with one step more is one.
+use Rattle.zl_sched.proofs.Common.{arith, length-append, ◌++◌, ◌∙◌, ap, append-nil, IsLegal, System, Runs, ◌≡◌, ℕ, List, [], ◌∷◌, refl, sym, subst, IsTrue, Library, Step, Acts, Next, Moves, AtCall, IsStuck, next_for, pid_of, single, IsLegalHistory, Follows, ends, skips, goes, EndsBy}
 use Rattle.zl_code.proofs.Common.{World}
+use Rattle.std.proofs.lemmas.List.Folds.{list_all-append}
+use Rattle.std.specs.List.{flat_map, list_all}
+use Rattle.std.proofs.lemmas.List.Concat.{flat_map-append}
 use Rattle.zl_code.specs.declared.history.CallName.{CallName}
 use Rattle.zl_code.specs.declared.history.TraceItem.{TraceItem}
 use Rattle.zl_code.specs.declared.history.TraceItem.TheVariants as item
-use Rattle.zl_code.specs.Steps.{has_count}
+use Rattle.zl_code.specs.Steps.{has_count, Runs as RunsBy}
 use Rattle.zl_sched.specs.declared.system.End.{End}
 use Rattle.zl_sched.specs.declared.system.End.TheVariants as end
 
@@ -46,3 +49,31 @@ pub ends_legal : (lib : Library) (w : World) (turns : List ℕ) (limit : ℕ) (i
 ends_legal lib w turns limit items w2 end.Schedule follows = follows_legal lib w turns items w2 follows
 ends_legal lib w turns limit items w2 end.Limit stops = follows_legal lib w stops.0.taken items w2 stops.0.follows
 ends_legal lib w turns limit items w2 end.Memory stops = follows_legal lib w stops.0.taken items w2 stops.0.follows
+
+-- ---- one step more
+
+one_more : (lib : Library) (boot : World) (items : List TraceItem) (w : World) (x : TraceItem) (mid : World) → RunsBy lib boot items w → Step lib w (pid_of x) x mid → RunsBy lib boot (items ++ (x ∷ [])) mid
+one_more lib boot [] w x mid e step = (mid, subst (λ v. Step lib v (pid_of x) x mid) e step, refl)
+one_more lib boot (y ∷ items) w x mid (first, before, rest) step = (first, before, one_more lib first items w x mid rest step)
+
+counts_more : (items : List TraceItem) (x : TraceItem) → IsTrue (list_all has_count items) → IsTrue (has_count x) → IsTrue (list_all has_count (items ++ (x ∷ [])))
+counts_more items x all one = rw (list_all-append has_count items (x ∷ []), all, one) refl
+
+history_more : (lib : Library) (boot w mid : World) (items : List TraceItem) (p : ℕ) (x : TraceItem) → IsLegalHistory lib boot items w → Step lib w p x mid → IsLegalHistory lib boot (items ++ (x ∷ [])) mid
+history_more lib boot w mid items p x legal step =
+    let one : IsSingle p x = single_step lib w p x mid step in
+    let steps : flat_map single items ++ (x ∷ []) ≡ flat_map single (items ++ (x ∷ []))
+    = ap (λ (more : List TraceItem). flat_map single items ++ more) (sym (append-nil (single x) ∙ one.one)) ∙ sym (flat_map-append single items (x ∷ [])) in
+    record {
+      counts = counts_more items x legal.counts one.count;
+      run = subst (λ (run : List TraceItem). RunsBy lib boot run mid) steps (one_more lib boot (flat_map single items) w x mid legal.run (rw one.of step));
+    }
+
+-- a step of one that is legal
+pub legal_more : (s : System) (p : ℕ) (s2 : System) → IsLegal s → Runs s p s2 → IsLegal s2
+legal_more s p s2 legal runs = rw (runs.adds.programs, runs.adds.items, runs.adds.statements, runs.adds.limit) (record {
+  boot = legal.boot;
+  boots = legal.boots;
+  history = history_more s.lab.programs legal.boot s.lab.world s2.lab.world s.items p runs.item legal.history runs.step;
+  room = omega (arith, length-append s.items (runs.item ∷ []), runs.room);
+})

@@ -1,5 +1,8 @@
--- What a turn is answered for which the trace has no room.
-use Rattle.zl_sched.proofs.Common.{◌<◌, ◌≤◌, ℕ, Bool, true, false, inl, inr, refl, length, if◌then◌else◌, cases_Bool, is_ready_in, System, Turns}
+-- What a turn does that has a step, and what one is answered for which the trace has no room.
+use Rattle.zl_sched.proofs.Common.{◌≡◌, ◌∷◌, ◌++◌, List, [], ◌<◌, ◌≤◌, ℕ, Bool, inl, inr, refl, length, if◌then◌else◌, cases_Bool, is_ready_in, Runs, System, Turns}
+use Rattle.zl_code.specs.declared.history.TraceItem.{TraceItem}
+use Rattle.zl_calls.specs.World.{World}
+use Rattle.zl_calls.specs.Steps.{TakesStep}
 use Rattle.zl_sched.specs.declared.system.Stepped.{Stepped}
 use Rattle.zl_sched.specs.declared.system.Stepped.TheVariants as stepped
 
@@ -19,3 +22,12 @@ module _ (s : System) (pid : ℕ) where
     | inl ready ↦ rw ready (refl, ready, room)
     | inr other ↦ rw other (refl, other)
   ]
+
+  pub step_told : (l2 : World) (items2 : List TraceItem) (x : TraceItem) → TakesStep s.lab pid l2 x → items2 ≡ s.items ++ (x ∷ []) → length s.items < s.limit → Runs s pid (record s { lab = l2; items = items2 })
+  step_told l2 items2 x taken added room = record {
+    item = x;
+    adds = record { programs = taken.steps.programs; items = added; statements = refl; limit = refl };
+    step = rw taken.pid_is at taken.steps.step;
+    ready = taken.ready;
+    room = room;
+  }

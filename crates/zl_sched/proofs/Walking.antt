@@ -21,12 +21,13 @@ follows_skipping lib w p (suc n) not_ready = skips w w p (replicate n p) [] not_
 -- ---- walks
 
 adds_nothing : (s : System) → Adds s [] s
-adds_nothing s = record { programs = refl; items = sym (append-nil s.items); limit = refl }
+adds_nothing s = record { programs = refl; items = sym (append-nil s.items); statements = refl; limit = refl }
 
 adds_both : (s mid s2 : System) (xs ys : List TraceItem) → Adds s xs mid → Adds mid ys s2 → Adds s (xs ++ ys) s2
 adds_both s mid s2 xs ys first second = record {
   programs = second.programs ∙ first.programs;
   items = second.items ∙ (ap (λ (zs : List TraceItem). zs ++ ys) first.items ∙ append_assoc s.items xs ys);
+  statements = second.statements ∙ first.statements;
   limit = second.limit ∙ first.limit;
 }
 

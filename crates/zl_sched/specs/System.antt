@@ -1,6 +1,8 @@
--- A lab with its trace, and what turns do to them.
+-- A lab with its trace, what it was booted from, and what turns do to it.
 use Rattle.std.specs.Prelude.{ℕ, ◌≡◌, ◌<◌, ◌≤◌, ◌-◌, false, List, [], ◌∷◌, ◌++◌, length, IsTrue}
-use Rattle.zl_code.specs.Common.{Step}
+use Rattle.zl_code.specs.Common.{World as WorldValue, Library, Step, IsLegalHistory}
+use Rattle.zl_code.specs.Boot.{IsBooted}
+use Rattle.zl_code.specs.declared.boot.Statement.{Statement}
 use Rattle.zl_code.specs.declared.history.TraceItem.{TraceItem}
 use Rattle.zl_calls.specs.World.{World, is_ready_in}
 use Rattle.zl_sched.specs.declared.system.Stepped.{Stepped}
@@ -8,16 +10,37 @@ use Rattle.zl_sched.specs.declared.system.Stepped.TheVariants as stepped
 use Rattle.zl_sched.specs.declared.system.End.{End}
 use Rattle.zl_sched.specs.Follows.{EndsBy}
 
--- a lab, the items of its steps so far, and how many items there may be
+-- a lab, the items of its steps so far, the statements that it was booted from, and how many items there may be
 pub record System : Type 0 where
   pub lab : World
   pub items : List TraceItem
+  pub statements : List Statement
   pub limit : ℕ
+
+-- ---- where it comes from
+
+-- the items are a legal history from a boot world of the statements to the world, and not too many
+pub record IsLegal (s : System) : Type 0 where
+  pub boot : WorldValue
+  pub boots : IsBooted s.lab.programs s.statements s.limit boot
+  pub history : IsLegalHistory s.lab.programs boot s.items s.lab.world
+  pub room : length s.items ≤ s.limit
+
+-- the system stands before its first step, booted from these programs, these statements and this limit
+pub record HasBooted (lib : Library) (statements : List Statement) (limit : ℕ) (s : System) : Type 0 where
+  pub programs : s.lab.programs ≡ lib
+  pub boots : IsBooted lib statements limit s.lab.world
+  pub items : s.items ≡ []
+  pub statements_are : s.statements ≡ statements
+  pub limit_is : s.limit ≡ limit
+
+-- ---- what comes to it
 
 -- the items came to the trace
 pub record Adds (s : System) (more : List TraceItem) (s2 : System) : Type 0 where
   pub programs : s2.lab.programs ≡ s.lab.programs
   pub items : s2.items ≡ s.items ++ more
+  pub statements : s2.statements ≡ s.statements
   pub limit : s2.limit ≡ s.limit
 
 -- ---- one turn

@@ -1,13 +1,17 @@
-//! A world with its trace, stepped along a schedule.
-ghost use Rattle.std.specs.Prelude.{◌≡◌, [], replicate, if◌then◌else◌};
+//! A world with its trace, booted from statements and stepped along a schedule.
+ghost use Rattle.std.specs.Prelude.{◌≡◌, ◌≢◌, IfOk, IfErr, replicate, if◌then◌else◌};
+ghost use Rattle.zl_code.specs.declared.boot.BootCause.TheVariants.{NoMemory};
+ghost use Rattle.zl_code.specs.Boot.{FirstFault};
+ghost use Rattle.zl_calls.specs.Makes.{IsReached};
 ghost use Rattle.zl_calls.specs.World.{is_ready_in};
 ghost use Rattle.zl_sched.specs.Follows.{turns_of};
-ghost use Rattle.zl_sched.specs.System.{Turns, Walks};
+ghost use Rattle.zl_sched.specs.System.{HasBooted, IsLegal, Turns, Walks};
 
 use std::alloc::Global;
 use std::marker::Model;
 use zl_calls::World;
-use zl_code::{ProcState, TraceItem};
+use zl_code::{Boot, BootFault, ProcState, TraceItem};
+use zl_interp::Library;
 use zl_rights::Pid;
 
 /// How a step ends. All but `Ran` change nothing.
@@ -38,38 +42,56 @@ pub enum End {
     Memory,
 }
 
-/// A world, and the trace of the steps that led to it.
+/// A world, and the trace of the steps that led to it from the world that its statements boot.
 ///
 /// Source: own profile; what a step is follows `World`.
 #[derive(Drop)]
 pub struct System {
     world: World,
     items: Vec<TraceItem>,
-    limit: u64,
+    boot: Boot,
 }
 
 impl Model for System {
-    ghost use Rattle.zl_sched.specs.System.{System as SystemValue};
+    ghost use Rattle.zl_sched.specs.System.{System as SystemValue, IsLegal};
 
     ghost Value = { SystemValue };
 
-    ghost view = { λ s. record { lab = s.world; items = s.items.items; limit = s.limit } };
+    ghost view = { λ s. record {
+      lab = s.world;
+      items = s.items.items;
+      statements = s.boot.statements.items;
+      limit = s.boot.limit;
+    } };
+
+    ghost invariant = { λ s. IsLegal (record {
+      lab = s.world;
+      items = s.items.items;
+      statements = s.boot.statements.items;
+      limit = s.boot.limit;
+    }) };
 }
 
 impl System {
-    /// The system before the first step, whose trace may have so many items.
-    pub fn new(alloc: Global, world: World, limit: u64) -> System
-        ensures { result ≡ record { lab = world; items = []; limit = limit } }
+    /// The system before its first step, in the world that the statements of the boot make.
+    ///
+    /// The faults are those of `World::boot`, with the numbers that it gives them. `NoMemory` may come
+    /// at any statement; what was handed in is then gone.
+    pub fn boot(alloc: Global, library: Library, boot: Boot) -> Result<System, BootFault>
+        ensures ok { IfOk result
+            (HasBooted library boot.statements.items boot.limit) }
+        ensures err { IfErr result (λ fault. fault.cause ≢ NoMemory
+            → FirstFault library boot.statements.items boot.limit
+            fault.statement fault.cause) }
+        ensures reached { IfErr result (λ fault. fault.cause ≡ NoMemory
+            → IsReached library boot.statements.items fault.statement) }
     {
+        let world = World::boot(alloc, library, &boot)?;
         let mut items = Vec::new(alloc);
         // Room for the whole trace, so that it isn't moved as it grows. Where that is refused, each step
         // asks for its own.
-        let _ = items.reserve(limit as usize);
-        System {
-            world,
-            items,
-            limit,
-        }
+        let _ = items.reserve(boot.limit as usize);
+        Ok(System { world, items, boot })
     }
 
     /// The world as it stands.
@@ -79,9 +101,18 @@ impl System {
         &self.world
     }
 
-    /// The trace.
+    /// The world alone; the trace is gone.
+    pub fn into_world(self) -> World
+        ensures { result ≡ self.lab }
+    {
+        self.world
+    }
+
+    /// The trace: a legal history from a boot world to the world as it stands, with at most as many
+    /// items as the boot's limit.
     pub fn items(&self) -> &[TraceItem]
-        ensures { result.now ≡ self.now.items }
+        ensures items { result.now ≡ self.now.items }
+        ensures legal { IsLegal self.now }
     {
         self.items.as_slice()
     }
@@ -93,7 +124,7 @@ impl System {
     pub fn step(&mut self, pid: Pid) -> Stepped
         ensures { Turns self.old pid result self.new }
     {
-        if self.items.len() as u64 >= self.limit {
+        if self.items.len() as u64 >= self.boot.limit {
             return self.refused(pid, Stepped::Limit);
         }
         if self.items.reserve(1).is_err() {

@@ -4,10 +4,11 @@
 use std::alloc::{AllocError, Global};
 use std::test::*;
 use zl_asm::assemble_bytes;
-use zl_calls::{Library, Program, World};
+use zl_calls::World;
 use zl_code::{
     Boot, BootCause, BootFault, CallName, Grant, Grants, Outcome, ProcState, Statement, TraceItem,
 };
+use zl_interp::{Library, Program};
 use zl_rights::{Koid, Pid, Status};
 
 const ROOT: Koid = 1;

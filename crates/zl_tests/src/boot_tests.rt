@@ -3,9 +3,11 @@
 use std::alloc::{AllocError, Global};
 use std::test::*;
 use zl_asm::assemble_bytes;
-use zl_calls::{Library, Program, World};
+use zl_calls::World;
 use zl_code::{Boot, BootCause, BootFault, CallName, Grant, Grants, Outcome, Statement, TraceItem};
-use zl_rights::{Koid, Pid, Status};
+use zl_interp::{Library, Program};
+use zl_rights::{Action, Condition, Koid, Pid, Status};
+use zl_verify::check;
 
 /// The root job's koid, and those of the first and the second process.
 const ROOT: Koid = 1;
@@ -177,5 +179,98 @@ fn refuses_handles(rt: HostRuntime) -> Result<(), Fail> {
             })
         )
     );
+    Ok(())
+}
+
+/// Starts with an event to set signals of, and makes an event. The verifier accepts it.
+const NEEDS_EVENTS: &str = ".budget 4
+.need NEW_EVENT
+.start event 4096
+signal r2, r0, r3, r1
+event_create r2, r3
+process_exit r1
+";
+
+/// The library of the checked program alone.
+fn checked_library(alloc: Global) -> Result<Library, Fail> {
+    let image = assemble_bytes(alloc, NEEDS_EVENTS.as_bytes())
+        .ok()
+        .ok_or("the text is a program")?;
+    let checked = check(alloc, image).ok().ok_or("the program is accepted")?;
+    let mut library = Library::new(alloc);
+    if library.push(Program::Checked(checked)).is_err() {
+        return Err(Fail::from("memory was refused"));
+    }
+    Ok(library)
+}
+
+/// The root job's action for new events, an event, and a process of the checked program with these
+/// handles.
+fn checked_boot(alloc: Global, action: Action, given: &[Grant]) -> Result<Boot, AllocError> {
+    let mut statements = Vec::new(alloc);
+    statements.push(Statement::Policy {
+        job: ROOT,
+        condition: Condition::NewEvent,
+        action,
+    })?;
+    statements.push(Statement::Event)?;
+    statements.push(process(alloc, 0, given)?)?;
+    Ok(Boot {
+        statements,
+        limit: 100,
+    })
+}
+
+/// The cause for which that process isn't started; no other statement is refused.
+fn checked_fault(
+    alloc: Global,
+    action: Action,
+    given: &[Grant],
+) -> Result<Option<BootCause>, Fail> {
+    let boot = checked_boot(alloc, action, given)?;
+    let Some(fault) = World::boot(alloc, checked_library(alloc)?, &boot).err() else {
+        return Ok(None);
+    };
+    if fault.statement != 2 {
+        return Err(Fail::from("another statement is refused"));
+    }
+    Ok(Some(fault.cause))
+}
+
+#[test]
+fn starts_a_checked_program_with_what_it_declares(rt: HostRuntime) -> Result<(), Fail> {
+    for given in [default_rights(FIRST), rights(FIRST, 4096)] {
+        let fault = checked_fault(rt.alloc(), Action::Allow, &[given])?;
+        assert!(rt; fault.is_none());
+    }
+    Ok(())
+}
+
+#[test]
+fn starts_no_checked_program_with_other_handles(rt: HostRuntime) -> Result<(), Fail> {
+    let declared = default_rights(FIRST);
+    let others: [&[Grant]; 5] = [
+        &[],
+        &[declared, declared],
+        // Another kind, and too few rights.
+        &[default_rights(ROOT)],
+        &[rights(FIRST, 16384)],
+        &[rights(FIRST, 0)],
+    ];
+    for given in others {
+        for action in [Action::Allow, Action::Deny] {
+            let fault = checked_fault(rt.alloc(), action, given)?;
+            assert!(rt; matches!(fault, Some(BootCause::BadHandleList)));
+        }
+    }
+    Ok(())
+}
+
+#[test]
+fn starts_no_checked_program_without_what_it_needs(rt: HostRuntime) -> Result<(), Fail> {
+    for action in [Action::Deny, Action::Kill] {
+        let fault = checked_fault(rt.alloc(), action, &[default_rights(FIRST)])?;
+        assert!(rt; matches!(fault, Some(BootCause::NeedDenied)));
+    }
     Ok(())
 }

@@ -1,63 +1,195 @@
--- In a boot world each process is as a statement started it.
-use Rattle.std.proofs.Common.{◌≡◌, ℕ, ◌≤◌, Bool, List, [], ◌∷◌, refl, ap, IsTrue, Some, None}
-use Rattle.std.specs.Prelude.{slice_get}
+-- In a boot world each process is as a statement started it, and properly where its program is checked.
+use Rattle.std.proofs.Common.{◌≡◌, ℕ, ◌+◌, ◌≤◌, ◌⊎◌, Bool, true, false, not, ◌||◌, ◌==◌, List, [], ◌∷◌, refl, sym, ap, ◌∙◌, subst, arith, IsTrue, Option, Some, None, option_map, inl, inr}
+use Rattle.std.specs.Prelude.{if◌then◌else◌, slice_get}
 use Rattle.std.specs.List.{AllByRecursion}
-use Rattle.std.proofs.lemmas.Option.{none-some}
-use Rattle.zl_rights.specs.Common.{get, Koids, Settles, process_settled, without_others, World, Process}
+use Rattle.std.specs.Option.{option_to_list}
+use Rattle.std.proofs.lemmas.Bool.{cases_Bool, eqb-true, not-false}
+use Rattle.std.proofs.lemmas.Option.{none-some, same_Some}
+use Rattle.zl_rights.specs.declared.entry.Entry.{Entry}
+use Rattle.zl_rights.specs.declared.kind.Kind.{Kind}
+use Rattle.zl_rights.specs.declared.policy.Condition.{Condition}
+use Rattle.zl_rights.specs.Common.{bits, within, get, lives, Settles, process_settled, without_others, World, Process, Body, EventBody, PortBody, ChannelEnd, ProcessBody}
+use Rattle.zl_rights.specs.Numbers.{same_kind, takes}
+use Rattle.zl_rights.specs.Signals.{has_child_job, has_child_process}
+use Rattle.zl_rights.proofs.MapLaws.{get-put, get-each}
+use Rattle.zl_code.specs.declared.boot.Grant.{Grant}
 use Rattle.zl_code.specs.declared.boot.Statement.{Statement}
 use Rattle.zl_code.specs.declared.boot.Statement.TheVariants as statement
-use Rattle.zl_rights.specs.declared.policy.Condition.{Condition}
-use Rattle.zl_code.specs.Image.{Image, Library, is_among}
-use Rattle.zl_code.specs.Effects.{with_object, on_object}
-use Rattle.zl_code.specs.Boot.{Boots, may_boot, boot_effect, handles_given, origin, started_process}
-use Rattle.zl_code.specs.Tests.{creates}
-use Rattle.zl_code.proofs.MapKept.{each_put}
-use Rattle.zl_abs.specs.Values.{ANY}
+use Rattle.zl_code.specs.declared.image.Start.{Start}
+use Rattle.zl_code.specs.Image.{Image, Library, Program, is_among}
+use Rattle.zl_code.specs.Effects.{with_object, on_object, process_with}
+use Rattle.zl_code.specs.Jobs.{is_declared, job_within}
+use Rattle.zl_code.specs.Starting.{created_process, program_in, program_of}
+use Rattle.zl_code.specs.Boot.{Boots, setting, are_declared, are_misfits, may_boot, boot_fault, boot_effect, handles_given, origin, process_with_all, started_process}
+use Rattle.zl_code.specs.Tests.{body_of, creates}
+use Rattle.zl_code.specs.Sound.{IsSound}
+use Rattle.zl_code.proofs.CanStart.{CanStart, can_start}
+use Rattle.zl_code.proofs.StepChanges.{no_child_booted, job_is_there}
+use Rattle.zl_code.proofs.SoundRuns.{IsBooting, origin_booting, still_booting, boot_sound}
+use Rattle.zl_abs.specs.Values.{ANY, kind_below}
+use Rattle.zl_abs.proofs.Order.{both}
 use Rattle.zl_verify.specs.SizedLaws.{word_of, IsSizedBoot}
 use Rattle.zl_verify.specs.WakeLaws.{AreAsDeclared, IsProperStart, IsBooted}
-use Rattle.zl_verify.proofs.SizedWorlds.{each_each}
+use Rattle.zl_verify.specs.Conforms.{IsAs}
+use Rattle.zl_verify.specs.Headline.{IsStarted}
+use Rattle.zl_verify.proofs.OwnEffect.{AreAlike, alike_then, same_objects, made_alike, more_koids, neither_one, set_alike, same_policy}
+use Rattle.zl_verify.proofs.Woken.{settled_allowed}
+use Rattle.zl_verify.proofs.UnstartedRuns.{made_allows}
 
--- each process is as it was started
+-- ---- handles as they are declared
+
+takes_as : (k : Option Kind) (x : Kind) → takes (option_to_list k) x ≡ true → kind_below (Some x) k ≡ true
+takes_as None x e = refl
+takes_as (Some y) x e = by (same_kind x y) e
+  where
+    by : (b : Bool) → (b || false) ≡ true → b ≡ true
+    by true e = refl
+    by false e = cc
+
+pub one_declared : (s : Start) (x : Entry) → is_declared s x ≡ true → IsAs s.kind s.rights (Some x)
+one_declared s x e = let two = both (takes (option_to_list s.kind) x.kind) (within (bits s.rights) (bits x.rights)) e in (takes_as s.kind x.kind two.0, two.1)
+
+all_declared : (ss : List Start) (es : List Entry) → are_declared ss es ≡ true → AreAsDeclared ss es
+all_declared [] [] e = tt
+all_declared [] (x ∷ es) e = cc
+all_declared (s ∷ ss) [] e = cc
+all_declared (s ∷ ss) (x ∷ es) e = let two = both (is_declared s x) (are_declared ss es) e in (one_declared s x two.0, all_declared ss es two.1)
+
+-- the program is checked, and has this image
+abbrev Checks : Option Program → Image → Type 0
+Checks o i = o ≡ Some (record { checked = true; image = i })
+
+none_misfits : (o : Option Program) (i : Image) (es : List Entry) → Checks o i → are_misfits o es ≡ false → AreAsDeclared i.starts es
+none_misfits o i es is fits =
+    let found : not (are_declared i.starts es) ≡ false = subst (λ x. are_misfits x es ≡ false) is fits in
+    all_declared i.starts es (not-false (are_declared i.starts es) found)
+
+-- ---- what is true of each process within a boot
+
+-- q is as it was started; by a checked program with what that declares, in a job that allows what it needs
+record IsWellBooted (lib : Library) (w : World) (p : ℕ) (q : Process) : Type 0 where
+  booted : IsBooted lib q
+  declared : (i : Image) → Checks (slice_get lib booted.program) i → AreAsDeclared i.starts booted.handles
+  allowed : (i : Image) → Checks (slice_get lib booted.program) i → (c : Condition) → is_among i.needs c ≡ true → creates w p c ≡ None
+
+-- so is each process
 abbrev AreStarts : Library → World → Type 0
-AreStarts lib w = (p : ℕ) (q : Process) → get w.processes p ≡ Some q → IsBooted lib q
+AreStarts lib w = (p : ℕ) (q : Process) → get w.processes p ≡ Some q → IsWellBooted lib w p q
 
-statement_starts : (lib : Library) (w : World) (s : Statement) (vs : List ℕ) → word_of s ≤ ANY → IsTrue (may_boot lib w s vs) → AreStarts lib w → AreStarts lib (boot_effect lib w s vs)
+-- where another world allows no less
+still_well : (lib : Library) (w v : World) (p : ℕ) (q : Process) → ((c : Condition) → creates v p c ≡ creates w p c) → IsWellBooted lib w p q → IsWellBooted lib v p q
+still_well lib w v p q same b = record { booted = b.booted; declared = b.declared; allowed = λ i is c named. same c ∙ b.allowed i is c named }
+
+started_lives : (lib : Library) (q : Process) → IsBooted lib q → lives q.state ≡ true
+started_lives lib q b = ap (λ (z : Process). lives z.state) b.made
+
+-- ---- one statement
+
+boot_alike : (lib : Library) (w : World) (s : Statement) (vs : List ℕ) → boot_fault lib w s ≡ None → AreAlike w w (boot_effect lib w s vs)
+unfolding boot_effect
+boot_alike lib w (statement.Process job program word handles) vs fine =
+    let more : World = with_object w (ProcessBody job) in
+    alike_then w w more _ (made_alike w w (ProcessBody job) (omega arith)) (same_objects w more _ refl)
+boot_alike lib w (statement.Job parent) vs fine = made_alike w w (job_within parent (body_of w parent)) (omega arith)
+boot_alike lib w (statement.Policy job condition action) vs fine =
+    set_alike w w job (setting condition action) (neither_one (has_child_job w job) (has_child_process w job) (no_child_booted lib w job condition action fine))
+boot_alike lib w statement.Event vs fine = made_alike w w EventBody (omega arith)
+boot_alike lib w statement.Port vs fine = made_alike w w (PortBody []) (omega arith)
+boot_alike lib w statement.Channel vs fine =
+    let first : Body = ChannelEnd (w.next_koid + 1) [] in
+    alike_then w w (with_object w first) _ (made_alike w w first (omega arith)) (made_alike w (with_object w first) (ChannelEnd w.next_koid []) (more_koids w w first (omega arith)))
+
+-- one that was there before the statement
+before : (lib : Library) (w : World) (s : Statement) (vs : List ℕ) → boot_fault lib w s ≡ None → IsSound w → AreStarts lib w → (p : ℕ) (q : Process) → get w.processes p ≡ Some q → IsWellBooted lib (boot_effect lib w s vs) p q
+before lib w s vs fine sound all p q there =
+    let b = all p q there in
+    still_well lib w (boot_effect lib w s vs) p q (same_policy w (boot_effect lib w s vs) p q sound there (started_lives lib q b.booted) (boot_alike lib w s vs fine)) b
+
+-- the one that the statement makes
+module _ (lib : Library) (w : World) (job program word : ℕ) (handles : List Grant) (vs : List ℕ) (few : word ≤ ANY) (fine : boot_fault lib w (statement.Process job program word handles) ≡ None)
+    (may : IsTrue (may_boot lib w (statement.Process job program word handles) vs)) (sound : IsSound w) where
+  abbrev new : Process
+  new = started_process lib program (handles_given w.objects handles) vs word
+
+  can : CanStart lib w job program handles
+  can = can_start lib w job program word handles fine
+
+  new_well : IsWellBooted lib (boot_effect lib w (statement.Process job program word handles) vs) w.next_koid new
+  unfolding boot_effect with_object
+  new_well = record {
+    booted = record { program = program; handles = handles_given w.objects handles; values = vs; word = word; made = refl; free = may; small = few };
+    declared = λ i is. none_misfits (slice_get lib program) i (handles_given w.objects handles) is can.declared;
+    allowed = λ i is c named.
+        made_allows lib w (boot_effect lib w (statement.Process job program word handles) vs) job program (sound.objects.below job (job_is_there (get w.objects job) can.in_job)) can.needs refl (record { checked = true; image = i }) is refl c named;
+  }
+
+statement_starts : (lib : Library) (w : World) (s : Statement) (vs : List ℕ) → word_of s ≤ ANY → boot_fault lib w s ≡ None → IsTrue (may_boot lib w s vs) → IsSound w → AreStarts lib w → AreStarts lib (boot_effect lib w s vs)
 unfolding boot_effect with_object on_object
-statement_starts lib w (statement.Process job program word handles) vs few may s =
-    each_put (IsBooted lib) w.processes s w.next_koid (started_process lib program (handles_given w.objects handles) vs word)
-    (record { program = program; handles = handles_given w.objects handles; values = vs; word = word; made = refl; free = may; small = few })
-statement_starts lib w (statement.Job parent) vs few may s = s
-statement_starts lib w (statement.Policy job condition action) vs few may s = s
-statement_starts lib w statement.Event vs few may s = s
-statement_starts lib w statement.Port vs few may s = s
-statement_starts lib w statement.Channel vs few may s = s
+statement_starts lib w (statement.Process job program word handles) vs few fine may sound all p q there = by (cases_Bool (w.next_koid == p))
+  where
+    made : Process
+    made = started_process lib program (handles_given w.objects handles) vs word
 
-boots_start : (lib : Library) (w : World) (statements : List Statement) (after : World) → AllByRecursion (λ s. word_of s ≤ ANY) statements → AreStarts lib w → Boots lib w statements after → AreStarts lib after
-boots_start lib w [] after few s e = rw e s
-boots_start lib w (st ∷ statements) after (one, few) s (vs, fine, may, rest) = boots_start lib (boot_effect lib w st vs) statements after few (statement_starts lib w st vs one may s) rest
+    after : World
+    after = boot_effect lib w (statement.Process job program word handles) vs
+
+    stands : (if w.next_koid == p then Some made else get w.processes p) ≡ Some q
+    stands = sym (get-put w.processes w.next_koid made p) ∙ there
+
+    by : ((w.next_koid == p) ≡ true) ⊎ ((w.next_koid == p) ≡ false) → IsWellBooted lib after p q
+    by (inl here) =
+        subst (λ k. IsWellBooted lib after k q) (eqb-true w.next_koid p here)
+        (subst (IsWellBooted lib after w.next_koid) (same_Some made q (rw here at stands)) (new_well lib w job program word handles vs few fine may sound))
+    by (inr other) = before lib w (statement.Process job program word handles) vs fine sound all p q (rw other at stands)
+statement_starts lib w (statement.Job parent) vs few fine may sound all p q there = before lib w (statement.Job parent) vs fine sound all p q there
+statement_starts lib w (statement.Policy job condition action) vs few fine may sound all p q there = before lib w (statement.Policy job condition action) vs fine sound all p q there
+statement_starts lib w statement.Event vs few fine may sound all p q there = before lib w statement.Event vs fine sound all p q there
+statement_starts lib w statement.Port vs few fine may sound all p q there = before lib w statement.Port vs fine sound all p q there
+statement_starts lib w statement.Channel vs few fine may sound all p q there = before lib w statement.Channel vs fine sound all p q there
+
+-- ---- all statements, and the end of the boot
+
+boots_start : (lib : Library) (w : World) (statements : List Statement) (after : World) → AllByRecursion (λ s. word_of s ≤ ANY) statements → IsBooting w → AreStarts lib w → Boots lib w statements after → AreStarts lib after
+boots_start lib w [] after few b all e = rw e all
+boots_start lib w (s ∷ statements) after (one, few) b all (vs, fine, may, rest) =
+    boots_start lib (boot_effect lib w s vs) statements after few (still_booting lib w s vs fine may b) (statement_starts lib w s vs one fine may b.sound all) rest
 
 origin_starts : (lib : Library) → AreStarts lib origin
 unfolding get
 origin_starts lib p q there = absurd (none-some q there)
 
 -- a process that was started is ready, and settling leaves it so
-settled_start : (lib : Library) (K : Koids) (k : ℕ) (q : Process) → IsBooted lib q → IsBooted lib (process_settled K k q)
-settled_start lib K k q b = record { program = b.program; handles = b.handles; values = b.values; word = b.word; made = ap (process_settled K k) b.made; free = b.free; small = b.small }
-
-settled_starts : (lib : Library) (u v : World) → Settles u v → AreStarts lib u → AreStarts lib v
+settled_starts : (lib : Library) (u v : World) → Settles u v → IsSound v → AreStarts lib u → AreStarts lib v
 unfolding without_others
-settled_starts lib u v (K, largest, is) s = rw is (each_each (IsBooted lib) u.processes s (process_settled K) (settled_start lib K))
+settled_starts lib u v (K, largest, is) sound all p q there = by (get u.processes p) refl (sym (get-each u.processes (process_settled K) p) ∙ (ap (λ (z : World). get z.processes p) (sym is) ∙ there))
+  where
+    by : (o : Option Process) → get u.processes p ≡ o → option_map (process_settled K p) o ≡ Some q → IsWellBooted lib v p q
+    by None at e = cc
+    by (Some x) at e =
+        let b = all p x at in
+        let same : x ≡ q = b.booted.made ∙ (sym (ap (process_settled K p) b.booted.made) ∙ same_Some (process_settled K p x) q e) in
+        let well : IsWellBooted lib u p q = subst (IsWellBooted lib u p) same b in
+        still_well lib u v p q (settled_allowed u v (K, largest, is) sound p q there (started_lives lib q well.booted)) well
 
 boot_starts : (lib : Library) (statements : List Statement) (boot : World) → IsSizedBoot lib statements boot → AreStarts lib boot
-boot_starts lib statements boot b = settled_starts lib b.boots.made boot b.boots.settles (boots_start lib origin statements b.boots.made b.words (origin_starts lib) b.boots.boots)
+boot_starts lib statements boot b =
+    settled_starts lib b.boots.made boot b.boots.settles (boot_sound lib statements boot b.boots) (boots_start lib origin statements b.boots.made b.words origin_booting (origin_starts lib) b.boots.boots)
 
-module _ (lib : Library) (statements : List Statement) (boot : World) (b : IsSizedBoot lib statements boot) (p : ℕ) (q : Process) where
-  pub is_booted : get boot.processes p ≡ Some q → IsBooted lib q
-  is_booted there = boot_starts lib statements boot b p q there
+-- ---- the laws
+
+same_program : (es : List Entry) (vs : List ℕ) (q : Process) → (process_with_all es vs q).program ≡ q.program
+same_program [] vs q = refl
+same_program (e ∷ es) [] q = refl
+same_program (e ∷ es) (v ∷ vs) q = same_program es vs (process_with v e q)
+
+module _ (lib : Library) (statements : List Statement) (boot : World) (b : IsSizedBoot lib statements boot) (p : ℕ) where
+  pub is_booted : (q : Process) → get boot.processes p ≡ Some q → IsBooted lib q
+  is_booted q there = (boot_starts lib statements boot b p q there).booted
 
   -- where its handles are as its image declares, and its job allows what the image needs, it started properly
-  pub proper : (s : IsBooted lib q) → (i : Image) (checked : Bool) → slice_get lib s.program ≡ Some (record { checked = checked; image = i }) → AreAsDeclared i.starts s.handles → ((c : Condition) → IsTrue (is_among i.needs c) → creates boot p c ≡ None) → IsProperStart i boot p q
-  proper s i checked running declared allowed = record {
+  pub proper : (q : Process) (s : IsBooted lib q) → (i : Image) (checked : Bool) → slice_get lib s.program ≡ Some (record { checked = checked; image = i }) → AreAsDeclared i.starts s.handles → ((c : Condition) → IsTrue (is_among i.needs c) → creates boot p c ≡ None)
+      → IsProperStart i boot p q
+  proper q s i checked running declared allowed = record {
     library = lib;
     program = s.program;
     checked = checked;
@@ -71,3 +203,23 @@ module _ (lib : Library) (statements : List Statement) (boot : World) (b : IsSiz
     small = s.small;
     allowed = allowed;
   }
+
+  -- a checked program declares its handles, and its job allows what it needs
+  pub boot_is_proper : (i : Image) → program_of lib boot p ≡ Some (record { checked = true; image = i }) → IsStarted lib i boot p
+  boot_is_proper i program = by (get boot.processes p) refl program
+    where
+      by : (o : Option Process) → get boot.processes p ≡ o → Checks (program_in lib o) i → IsStarted lib i boot p
+      by None there is = cc
+      by (Some q) there is =
+          let well = boot_starts lib statements boot b p q there in
+          let s = well.booted in
+          let runs : s.program ≡ q.program = sym (ap (λ (z : Process). z.program) s.made ∙ same_program s.handles s.values (created_process lib s.program)) in
+          let listed : Checks (slice_get lib s.program) i = ap (slice_get lib) runs ∙ is in
+          record {
+            process = q;
+            there = there;
+            ready = ap (λ (z : Process). z.state) s.made;
+            checked = true;
+            program = is;
+            proper = proper q s i true listed (well.declared i listed) (well.allowed i listed);
+          }

@@ -1,5 +1,5 @@
 -- A process that another starts is started properly, where its program is checked.
-use Rattle.std.proofs.Common.{◌≡◌, ℕ, ◌≤◌, Bool, true, false, not, ◌&&◌, ◌||◌, ◌==◌, List, [], ◌∷◌, ◌++◌, refl, sym, ap, ◌∙◌, subst, Option, Some, None, option_map, Ok, Err, arith}
+use Rattle.std.proofs.Common.{◌≡◌, ℕ, ◌≤◌, Bool, true, false, not, ◌&&◌, ◌==◌, List, [], ◌∷◌, ◌++◌, refl, sym, ap, ◌∙◌, subst, Option, Some, None, option_map, Ok, Err, arith}
 use Rattle.std.specs.Prelude.{if◌then◌else◌, slice_get}
 use Rattle.std.specs.List.{AllByRecursion}
 use Rattle.std.specs.Option.{option_to_list}
@@ -16,7 +16,7 @@ use Rattle.zl_rights.specs.declared.status.Status.TheVariants as status
 use Rattle.zl_rights.specs.Common.{bits, within, get, is_process, World, Process, Ready}
 use Rattle.zl_rights.specs.Signals.{state_passes}
 use Rattle.zl_rights.specs.LookUp.{granted}
-use Rattle.zl_rights.specs.Numbers.{same_kind, takes}
+use Rattle.zl_rights.specs.Numbers.{takes}
 use Rattle.zl_code.specs.declared.boot.Statement.{Statement}
 use Rattle.zl_code.specs.declared.history.CallName.TheVariants as name
 use Rattle.zl_code.specs.declared.history.Outcome.{Outcome}
@@ -36,8 +36,7 @@ use Rattle.zl_code.specs.Request.{Site, site}
 use Rattle.zl_code.specs.Calls.{Calls, CallBy, Choice, Refused, WantsMemory, Values, taken_handles, taken, may_choose, replied, with_effect}
 use Rattle.zl_code.specs.Steps.{AtCall, Acts, Runs, pid_of}
 use Rattle.zl_code.specs.Sound.{IsSound}
-use Rattle.zl_abs.specs.Values.{ANY, kind_below}
-use Rattle.zl_abs.proofs.Order.{both}
+use Rattle.zl_abs.specs.Values.{ANY}
 use Rattle.zl_verify.specs.SizedLaws.{IsSizedBoot}
 use Rattle.zl_verify.specs.WakeLaws.{IsRunStep, AreAsDeclared, StartsChild}
 use Rattle.zl_verify.specs.Headline.{IsStarted}
@@ -51,7 +50,7 @@ use Rattle.zl_verify.proofs.SizedRuns.{world_sized}
 use Rattle.zl_verify.proofs.Woken.{sound_before, settled_there, allowed_after}
 use Rattle.zl_verify.proofs.Ended.{awake_still}
 use Rattle.zl_verify.proofs.CheckedRuns.{one_more}
-use Rattle.zl_verify.proofs.BootStarts.{is_booted}
+use Rattle.zl_verify.proofs.BootStarts.{is_booted, one_declared}
 use Rattle.zl_verify.proofs.Unstarted.{AreUnstarted, inserted_at, changed_at}
 use Rattle.zl_verify.proofs.UnstartedRuns.{lives_new, step_unstarted}
 
@@ -122,14 +121,6 @@ module _ (w : World) (p : ℕ) where
 
 -- ---- what it gets
 
-takes_as : (k : Option Kind) (x : Kind) → takes (option_to_list k) x ≡ true → kind_below (Some x) k ≡ true
-takes_as None x e = refl
-takes_as (Some y) x e = by (same_kind x y) e
-  where
-    by : (b : Bool) → (b || false) ≡ true → b ≡ true
-    by true e = refl
-    by false e = cc
-
 -- the handle is the only one that is declared
 record IsOnly (ss : List Start) (o : Option Entry) : Type 0 where
   entry : Entry
@@ -142,9 +133,7 @@ only_one [] (Some x) e = cc
 only_one (s ∷ []) None e = cc
 only_one (s ∷ r ∷ ss) None e = cc
 only_one (s ∷ r ∷ ss) (Some x) e = cc
-only_one (s ∷ []) (Some x) e =
-    let two = both (takes (option_to_list s.kind) x.kind) (within (bits s.rights) (bits x.rights)) e in
-    record { entry = x; there = refl; declared = ((takes_as s.kind x.kind two.0, two.1), tt) }
+only_one (s ∷ []) (Some x) e = record { entry = x; there = refl; declared = (one_declared s x e, tt) }
 
 fits_declared : (o : Option Program) (i : Image) (e : Option Entry) → o ≡ Some (record { checked = true; image = i }) → misfits o e ≡ false → is_only_start i.starts e ≡ true
 fits_declared None i e is fits = cc

@@ -50,13 +50,13 @@ pub mod SizedRuns
 pub mod Awaking
 pub mod Woken
 pub mod Starting
-pub mod BootStarts
 pub mod Others
 pub mod Ended
 pub mod OwnSteps
 pub mod CheckedRuns
 pub mod Unstarted
 pub mod UnstartedRuns
+pub mod BootStarts
 pub mod ChildStarts
 mod Headline
 mod NoLeak

@@ -153,7 +153,7 @@ changed_alike v u k f same = so_alike v u _ (λ j less. rw (get-update u.objects
     by false o = (refl, refl)
 
 -- an object is made
-made_alike : (v u : World) (b : Body) → v.next_koid ≤ u.next_koid → AreAlike v u (with_object u b)
+pub made_alike : (v u : World) (b : Body) → v.next_koid ≤ u.next_koid → AreAlike v u (with_object u b)
 unfolding with_object
 made_alike v u b le = so_alike v u _ (λ k less. rw (get-put u.objects u.next_koid (record { body = b; raised = 0 }) k, other_koid u.next_koid k (omega arith)) (refl, refl))
 
@@ -170,41 +170,38 @@ killed_alike v u t = so_alike v u _ (λ k less. rw (get-each u.objects (λ j o. 
     by true o = of_body o.body
     by false o = (refl, refl)
 
-neither_one : (a b : Bool) → a || b ≡ false → b ≡ false
+pub neither_one : (a b : Bool) → a || b ≡ false → b ≡ false
 neither_one true b e = cc
 neither_one false b e = e
 
 -- a policy is set where no process lives
-set_alike : (lib : Library) (w u : World) (p j mode condition action : ℕ) → refusal lib w p (job_set_policy j mode condition action) ≡ None → AreAlike w u (on_object u (object_at w p j) (policy_changed (setting_of mode condition action)))
-unfolding on_object listed
-set_alike lib w u p j mode condition action passes = record {
-  parents = λ k less. ap (λ o. parent_in (body_in o)) (get-update u.objects job change k) ∙ above (job == k) (get u.objects k);
-  policies = λ k less child. ap (λ o. policy_in (body_in o)) (get-update u.objects job change k) ∙ actions k child (cases_Bool (job == k));
+pub set_alike : (v u : World) (job : ℕ) (s : Option Setting) → has_child_process v job ≡ false → AreAlike v u (on_object u job (policy_changed s))
+unfolding on_object
+set_alike v u job s none = record {
+  parents = λ k less. ap (λ o. parent_in (body_in o)) (get-update u.objects job (policy_changed s) k) ∙ above (job == k) (get u.objects k);
+  policies = λ k less child. ap (λ o. policy_in (body_in o)) (get-update u.objects job (policy_changed s) k) ∙ actions k child (cases_Bool (job == k));
 }
   where
-    job : ℕ
-    job = object_at w p j
+    of_body : (b : Body) → parent_in (Some (body_with_policy s b)) ≡ parent_in (Some b)
+    of_body (JobBody parent depth policy killed) = refl
+    of_body _ = refl
 
-    change : Object → Object
-    change = policy_changed (setting_of mode condition action)
-
-    no_child_in : has_child_process w job ≡ false
-    no_child_in =
-        neither_one (has_child_job w job) (has_child_process w job)
-        (neither_one (is_dead (body_of w job)) (has_child w job) (test_fails _ status.BadState (listed_none lib w p (job_set_policy j mode condition action) passes).1.0))
-
-    of_body : (s : Option Setting) (b : Body) → parent_in (Some (body_with_policy s b)) ≡ parent_in (Some b)
-    of_body s (JobBody parent depth policy killed) = refl
-    of_body s _ = refl
-
-    above : (b : Bool) (o : Option Object) → parent_in (body_in (if b then option_map change o else o)) ≡ parent_in (body_in o)
+    above : (b : Bool) (o : Option Object) → parent_in (body_in (if b then option_map (policy_changed s) o else o)) ≡ parent_in (body_in o)
     above true None = refl
-    above true (Some o) = of_body (setting_of mode condition action) o.body
+    above true (Some o) = of_body o.body
     above false o = refl
 
-    actions : (k : ℕ) → has_child_process w k ≡ true → ((job == k) ≡ true) ⊎ ((job == k) ≡ false) → policy_in (body_in (if job == k then option_map change (get u.objects k) else get u.objects k)) ≡ policy_in (body_in (get u.objects k))
-    actions k child (inl same) = let here : has_child_process w job ≡ true = subst (λ n. has_child_process w n ≡ true) (sym (eqb-true job k same)) child in let none = no_child_in in cc
+    actions : (k : ℕ) → has_child_process v k ≡ true → ((job == k) ≡ true) ⊎ ((job == k) ≡ false) → policy_in (body_in (if job == k then option_map (policy_changed s) (get u.objects k) else get u.objects k)) ≡ policy_in (body_in (get u.objects k))
+    actions k child (inl same) = let here : has_child_process v job ≡ true = subst (λ n. has_child_process v n ≡ true) (sym (eqb-true job k same)) child in let free = none in cc
     actions k child (inr other) = rw other refl
+
+-- where the call isn't refused, no process lives in the job
+none_in_job : (lib : Library) (w : World) (p j mode condition action : ℕ) → refusal lib w p (job_set_policy j mode condition action) ≡ None → has_child_process w (object_at w p j) ≡ false
+unfolding listed
+none_in_job lib w p j mode condition action passes =
+    let job : ℕ = object_at w p j in
+    neither_one (has_child_job w job) (has_child_process w job)
+    (neither_one (is_dead (body_of w job)) (has_child w job) (test_fails _ status.BadState (listed_none lib w p (job_set_policy j mode condition action) passes).1.0))
 
 sends_alike : (m : Message) (o : Object) → IsAlike (message_sent m o).body o.body
 sends_alike m o = by o.body
@@ -227,7 +224,7 @@ packs_alike f o = by o.body
     by (PortBody packets) = (refl, refl)
     by _ = (refl, refl)
 
-more_koids : (v u : World) (b : Body) → v.next_koid ≤ u.next_koid → v.next_koid ≤ (with_object u b).next_koid
+pub more_koids : (v u : World) (b : Body) → v.next_koid ≤ u.next_koid → v.next_koid ≤ (with_object u b).next_koid
 unfolding with_object
 more_koids v u b le = omega arith
 
@@ -253,7 +250,8 @@ effect_alike c _ _ (process_create_at a b d e) lib w u p passes le vs =
     alike_then w u more _ (made_alike w u (ProcessBody (object_at w p (reg c b))) le) (same_objects w more _ refl)
 effect_alike c _ _ (task_kill_at a b) lib w u p passes le vs = killed_alike w u (object_at w p (reg c b))
 effect_alike c _ _ (job_create_at a b d) lib w u p passes le vs = made_alike w u (job_within (object_at w p (reg c b)) (body_of w (object_at w p (reg c b)))) le
-effect_alike c _ _ (job_set_policy_at a b d e f) lib w u p passes le vs = set_alike lib w u p (reg c b) (reg c d) (reg c e) (reg c f) passes
+effect_alike c _ _ (job_set_policy_at a b d e f) lib w u p passes le vs =
+    set_alike w u (object_at w p (reg c b)) (setting_of (reg c d) (reg c e) (reg c f)) (none_in_job lib w p (reg c b) (reg c d) (reg c e) (reg c f) passes)
 effect_alike c _ _ _ lib w u p passes le vs = same_objects w u _ refl
 
 pub inserted_objects : (es : List Entry) (vs : List ℕ) (w : World) (p : ℕ) → (insert_all w p es vs).objects ≡ w.objects

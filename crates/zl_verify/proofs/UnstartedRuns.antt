@@ -84,17 +84,15 @@ job_below w p h sound some = by (get w.processes p) refl
     by None is = rw is some
     by (Some q) is = rw is (of_entry q is (get q.handles h) refl)
 
-module _ (lib : Library) (w u : World) (p h program : ℕ) (sound : IsSound w) (some : 0 < w.next_koid) (passes : refusal lib w p (process_create h program) ≡ None)
-    (objects : u.objects ≡ put w.objects w.next_koid (record { body = ProcessBody (object_at w p h); raised = 0 })) where
-  made_allows : (g : Program) → slice_get lib program ≡ Some g → g.checked ≡ true → (c : Condition) → is_among g.image.needs c ≡ true → creates u w.next_koid c ≡ None
+-- u has a new process in the job, which has what its program needs
+module _ (lib : Library) (w u : World) (job program : ℕ) (below : job < w.next_koid) (met : lacks_need w job (slice_get lib program) ≡ false)
+    (objects : u.objects ≡ put w.objects w.next_koid (record { body = ProcessBody job; raised = 0 })) where
+  pub made_allows : (g : Program) → slice_get lib program ≡ Some g → g.checked ≡ true → (c : Condition) → is_among g.image.needs c ≡ true → creates u w.next_koid c ≡ None
   unfolding creates
   made_allows g is checked c named =
       ap (λ j. unless_allowed (action_of u j c)) above
-      ∙ (ap (λ m. unless_allowed (unwrap_or (get m (condition_number c)) action.Allow)) policy ∙ all_allowed w job (slice_get lib program) g (needs_met lib w p h program passes) is checked c named)
+      ∙ (ap (λ m. unless_allowed (unwrap_or (get m (condition_number c)) action.Allow)) policy ∙ all_allowed w job (slice_get lib program) g met is checked c named)
     where
-      job : ℕ
-      job = object_at w p h
-
       new : Object
       new = record { body = ProcessBody job; raised = 0 }
 
@@ -105,7 +103,7 @@ module _ (lib : Library) (w u : World) (p h program : ℕ) (sound : IsSound w) (
       above = let here : get u.objects w.next_koid ≡ Some new = at w.next_koid ∙ rw (itself w.next_koid) refl in ap (λ o. parent_in (body_in o)) here
 
       policy : policy_in (body_of u job) ≡ policy_in (body_of w job)
-      policy = let still : get u.objects job ≡ get w.objects job = at job ∙ rw (other_koid w.next_koid job (job_below w p h sound some)) refl in ap (λ o. policy_in (body_in o)) still
+      policy = let still : get u.objects job ≡ get w.objects job = at job ∙ rw (other_koid w.next_koid job below) refl in ap (λ o. policy_in (body_in o)) still
 
 -- ---- a step
 
@@ -128,7 +126,7 @@ module _ (lib : Library) (w : World) (p : ℕ) (x : TraceItem) (w2 : World) (sou
   unstarted_then q y new (made h program passes fresh blank objects) = record {
     blank = subst (λ (z : Process). z ≡ created_process lib z.program) (sym blank) refl;
     allowed = λ g is checked c named.
-        ap (λ k. creates step.acted k c) fresh ∙ made_allows lib w step.acted p h program sound some_koid passes objects g (ap (λ (z : Process). slice_get lib z.program) (sym blank) ∙ is) checked c named;
+        ap (λ k. creates step.acted k c) fresh ∙ made_allows lib w step.acted (object_at w p h) program (job_below w p h sound some_koid) (needs_met lib w p h program passes) objects g (ap (λ (z : Process). slice_get lib z.program) (sym blank) ∙ is) checked c named;
   }
 
   -- right after the act

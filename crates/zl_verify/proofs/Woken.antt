@@ -159,6 +159,12 @@ module _ (u w2 : World) (K : Koids) (a : AreBare (without_others u K) w2) where
       above : parent_of (without_others u K) p ≡ own.job
       above = sym (same_parent (without_others u K) w2 a p) ∙ ap parent_in own.there
 
+-- who lives after settling is allowed as much as before
+pub settled_allowed : (u v : World) → Settles u v → IsSound v → (p : ℕ) (y : Process) → get v.processes p ≡ Some y → lives y.state ≡ true → (c : Condition) → creates v p c ≡ creates u p c
+settled_allowed u v (K, largest, is) sound p y there living c =
+    let alike : AreBare (without_others u K) v = same_bare (without_others u K) v (ap (λ (z : World). z.objects) is) in
+    bare_creates (without_others u K) v alike p c ∙ settled_creates u v K alike p (sound.living p y there living) c
+
 -- ---- the process
 
 -- q stands at p, or what it became as it woke

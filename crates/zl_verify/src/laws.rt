@@ -118,12 +118,17 @@ pub fn start_and_wake()
         → EndsStep i t q process w2 }
 {}
 
-/// In a run from a boot world, a process that another starts by a `process_start` that is answered
-/// OK has been started properly, where its program is checked: it is ready, with a handle as its
-/// image declares it, and its job allows what the image needs. So what is promised from a proper
-/// start on is promised of it too. Own profile.
-pub fn started_by_another()
-    ensures { (i : Image) (lib : Library) (w : World) (p : ℕ) (x : TraceItem) (w2 : World) (k : ℕ)
+/// Every start of a checked program is a proper one: the process is ready, with handles as its image
+/// declares them, and its job allows what the image needs. So it is with each process of a boot
+/// world, and in a run from one with a process that another starts by a `process_start` that is
+/// answered OK. What is promised from a proper start on is promised of both. Own profile.
+pub fn checked_starts_are_proper()
+    ensures boots { (i : Image) (lib : Library) (statements : List Statement) (boot : World) (p : ℕ)
+        → IsSizedBoot lib statements boot
+        → program_of lib boot p ≡ Some (record { checked = true; image = i })
+        → IsStarted lib i boot p }
+    ensures calls { (i : Image) (lib : Library)
+        (w : World) (p : ℕ) (x : TraceItem) (w2 : World) (k : ℕ)
         → (run : IsRunStep lib w p x w2)
         → x ≡ item.Call p name.ProcessStart (outcome.Answered status.Ok)
         → StartsChild lib w p run.step.process k

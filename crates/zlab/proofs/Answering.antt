@@ -1,5 +1,5 @@
 -- From what the parts of the engine do to the answer to a text.
-use Rattle.zlab.proofs.Common.{◌≡◌, ℕ, List, [], ◌++◌, length, Option, Some, None, Result, Ok, Err, refl, sym, ap, ◌∙◌, subst, arith, IfOk, OnOk, IsLegalHistory, Appends, said_in, states_of, IsRunOf, IsFirstFault, too_long, IsAnswer, trace, refusal, Answers, BeginsAnswer, nothing, beginning, IsTextOf, AnswersReader, BeginsReader, IsStart, IsRun, WritesRun, BeginsRun, no_line, some_lines, turns_of, EndsBy, IsInputOf, AppendsBeginning, none_refused, System, Walks, room_of, history_text, cause_name, refused_line}
+use Rattle.zlab.proofs.Common.{◌≡◌, ℕ, List, [], ◌++◌, length, Option, Some, None, Result, Ok, Err, refl, sym, ap, ◌∙◌, subst, arith, IfOk, OnOk, IsLegalHistory, Appends, states_of, IsRunOf, IsFirstFault, too_long, IsAnswer, trace, refusal, Answers, BeginsAnswer, nothing, beginning, IsTextOf, AnswersReader, BeginsReader, IsStart, IsRun, WritesRun, BeginsRun, no_line, some_lines, turns_of, EndsBy, IsInputOf, AppendsBeginning, System, Walks, room_of, history_text, cause_name, refused_line}
 use Rattle.std.specs.Prelude.{OnErr}
 use Rattle.zl_code.specs.declared.history.TraceItem.{TraceItem}
 use Rattle.zlab.specs.declared.fault.Cause.TheVariants as cause
@@ -31,32 +31,34 @@ module _ {A E : Type 0} where
 -- ---- a run
 
 module _ (text : List ℕ) (s : System) (pairs : List (ℕ × ℕ)) (start : IsStart text s pairs) where
-  run_of : (e : End) (last : System) (walks : Walks s (turns_of pairs) e last) → IsRunOf none_refused text walks.more last.lab.world e
+  run_of : (e : End) (last : System) (walks : Walks s (turns_of pairs) e last) → IsRunOf text walks.more last.lab.world e
   run_of e last walks = record {
     fits = start.fits;
-    no_fault = start.no_fault;
+    said = start.said;
+    read = start.read;
     library = s.lab.programs;
     programs = start.programs;
+    accepted = start.accepted;
     boot = s.lab.world;
     boots = start.boots;
     legal = legal;
-    sound = always_sound s.lab.programs (said_in none_refused text).statements s.lab.world last.lab.world walks.more start.boots legal;
+    sound = always_sound s.lab.programs start.said.statements s.lab.world last.lab.world walks.more start.boots legal;
     room = omega (arith, walks.room, start.limit, ap length start.items);
-    ends = subst (λ (turns : List (ℕ × ℕ)). EndsBy s.lab.programs s.lab.world (turns_of turns) (said_in none_refused text).limit walks.more last.lab.world e) start.schedule
+    ends = subst (λ (turns : List (ℕ × ℕ)). EndsBy s.lab.programs s.lab.world (turns_of turns) start.said.limit walks.more last.lab.world e) start.schedule
         (subst (λ (limit : ℕ). EndsBy s.lab.programs s.lab.world (turns_of pairs) limit walks.more last.lab.world e) room walks.ends);
   }
     where
       legal : IsLegalHistory s.lab.programs s.lab.world walks.more last.lab.world
       legal = ends_legal s.lab.programs s.lab.world (turns_of pairs) (room_of s) walks.more last.lab.world e walks.ends
 
-      room : room_of s ≡ (said_in none_refused text).limit
+      room : room_of s ≡ start.said.limit
       room = omega (arith, start.limit, ap length start.items)
 
   answer_of : (lines : List ℕ) → IsRun s pairs lines → IsAnswer text verdict.Done lines
   answer_of lines run =
       let items : run.walks.more ≡ run.last.items = sym (run.walks.adds.items ∙ ap (λ (xs : List TraceItem). xs ++ run.walks.more) start.items) in
       subst (IsAnswer text verdict.Done) (ap (λ (xs : List TraceItem). history_text xs (states_of run.last.lab.world) run.end) items ∙ sym run.lines_are)
-      (trace none_refused run.walks.more run.last.lab.world run.end (run_of run.end run.last run.walks))
+      (trace run.walks.more run.last.lab.world run.end (run_of run.end run.last run.walks))
 
   pub run_answers : (v : Verdict) (old new : Option (List ℕ)) → v ≡ verdict.Done → WritesRun s pairs old new → Answers text v old new
   run_answers v old new is wrote = record { lines = wrote.lines; is_answer = rw is (answer_of wrote.lines wrote.is_run); written = wrote.written }
@@ -67,12 +69,12 @@ module _ (text : List ℕ) (s : System) (pairs : List (ℕ × ℕ)) (start : IsS
 
 -- ---- a refusal
 
-module _ (text : List ℕ) (fault : LineFault) (first : IsFirstFault none_refused text fault) where
+module _ (text : List ℕ) (fault : LineFault) (first : IsFirstFault text fault) where
   pub refusal_answers : (v : Verdict) (old new : Option (List ℕ)) → v ≡ verdict.Refused → Appends old new (refused_line fault.line (cause_name fault.cause)) → Answers text v old new
-  refusal_answers v old new is wrote = record { lines = refused_line fault.line (cause_name fault.cause); is_answer = rw is (refusal none_refused fault first); written = wrote }
+  refusal_answers v old new is wrote = record { lines = refused_line fault.line (cause_name fault.cause); is_answer = rw is (refusal fault first); written = wrote }
 
   pub refusal_begins : (old new : Option (List ℕ)) → AppendsBeginning old new (refused_line fault.line (cause_name fault.cause)) → BeginsAnswer text old new
-  refusal_begins old new begun = beginning verdict.Refused (refused_line fault.line (cause_name fault.cause)) new (refusal none_refused fault first) begun
+  refusal_begins old new begun = beginning verdict.Refused (refused_line fault.line (cause_name fault.cause)) new (refusal fault first) begun
 
 -- ---- what a reader had
 

@@ -1,5 +1,5 @@
 -- What the text leads to before the first step.
-use Rattle.zlab.proofs.Common.{◌≡◌, ℕ, ◌<◌, List, [], length, get_or, Some, None, sym, ap, ◌∙◌, subst, arith, slice_get, slice_get-get_or, none-some, IsBoot, FirstFault, at_statement, at_limit, slice_index_or, IsFirstFault, of_statement, of_reading, line_cause, said_in, IsStart, FitsInput, none_refused, reading_of, IsInOrder, System}
+use Rattle.zlab.proofs.Common.{◌≡◌, ℕ, ◌<◌, List, [], length, get_or, Some, None, sym, ap, ◌∙◌, subst, arith, slice_get, slice_get-get_or, none-some, IsBoot, FirstFault, at_statement, at_limit, slice_index_or, IsFirstFault, of_statement, of_reading, line_cause, IsStart, FitsInput, Reading, IsRead, Option, IsInOrder, System}
 use Rattle.zl_code.proofs.Common.{World}
 use Rattle.std.proofs.lemmas.Option.{slice_get_within}
 use Rattle.zl_code.specs.declared.boot.BootCause.{BootCause}
@@ -14,32 +14,34 @@ use Rattle.zlab.specs.Reading.{IsScenario}
 other_than_memory : (found : BootCause) (c : Cause) → line_cause found ≡ Some c → found ≡ boot.NoMemory → ⊥
 other_than_memory found c named is = none-some c (sym (ap line_cause is) ∙ named)
 
-module _ (text : List ℕ) (fits : FitsInput text) (scenario : Made) (is : IsScenario (said_in none_refused text) scenario) (order : IsInOrder (reading_of none_refused text)) where
-  line_at : (n line : ℕ) → n < length (said_in none_refused text).statements → line ≡ slice_index_or scenario.lines.items n 0 → slice_get (said_in none_refused text).lines n ≡ Some line
-  line_at n line some read = slice_get-get_or (said_in none_refused text).lines n 0 (omega (arith, some, order.placed)) ∙ ap (λ (x : ℕ). Some x) (sym (read ∙ ap (λ (xs : List ℕ). get_or xs n 0) is.lines))
+module _ (text : List ℕ) (fits : FitsInput text) (scenario : Made) (reading : Reading) (reads : IsRead text reading) (is : IsScenario reading.said scenario) (order : IsInOrder reading) where
+  line_at : (n line : ℕ) → n < length reading.said.statements → line ≡ slice_index_or scenario.lines.items n 0 → slice_get reading.said.lines n ≡ Some line
+  line_at n line some read = slice_get-get_or reading.said.lines n 0 (omega (arith, some, order.placed)) ∙ ap (λ (x : ℕ). Some x) (sym (read ∙ ap (λ (xs : List ℕ). get_or xs n 0) is.lines))
 
   pub statement_fault : (n : ℕ) (found : BootCause) (fault : LineFault)
       → ((found ≡ boot.NoMemory → ⊥) → FirstFault scenario.library scenario.boot.statements.items scenario.boot.limit n found)
-      → line_cause found ≡ Some fault.cause → fault.line ≡ slice_index_or scenario.lines.items n 0 → IsFirstFault none_refused text fault
+      → line_cause found ≡ Some fault.cause → fault.line ≡ slice_index_or scenario.lines.items n 0 → IsFirstFault text fault
   statement_fault n found fault first named read =
-      let faulty : FirstFault scenario.library (said_in none_refused text).statements (said_in none_refused text).limit n found
-      = subst (λ (limit : ℕ). FirstFault scenario.library (said_in none_refused text).statements limit n found) is.limit
+      let faulty : FirstFault scenario.library reading.said.statements reading.said.limit n found
+      = subst (λ (limit : ℕ). FirstFault scenario.library reading.said.statements limit n found) is.limit
       (subst (λ (ss : List Statement). FirstFault scenario.library ss scenario.boot.limit n found) is.statements (first (other_than_memory found fault.cause named))) in
-      of_statement scenario.library n found fault fits is.programs faulty (line_at n fault.line (at_some n found faulty) read) named
+      of_statement reading scenario.library n found fault fits reads is.programs faulty (line_at n fault.line (at_some n found faulty) read) named
     where
-      at_some : (n : ℕ) (found : BootCause) → FirstFault scenario.library (said_in none_refused text).statements (said_in none_refused text).limit n found → n < length (said_in none_refused text).statements
-      at_some _ _ (at_statement made n s c boots at faulty) = slice_get_within (said_in none_refused text).statements n s at
+      at_some : (n : ℕ) (found : BootCause) → FirstFault scenario.library reading.said.statements reading.said.limit n found → n < length reading.said.statements
+      at_some _ _ (at_statement made n s c boots at faulty) = slice_get_within reading.said.statements n s at
       at_some _ _ (at_limit made boots above) = absurd (omega (arith, above, order.limit))
 
-  pub reading_fault : (w : World) (fault : LineFault) → IsBoot scenario.library scenario.boot.statements.items w → (reading_of none_refused text).fault ≡ Some fault → IsFirstFault none_refused text fault
-  reading_fault w fault boots faulty = of_reading scenario.library w fault fits is.programs (subst (λ (ss : List Statement). IsBoot scenario.library ss w) is.statements boots) faulty
+  pub reading_fault : (w : World) (fault : LineFault) → IsBoot scenario.library scenario.boot.statements.items w → reading.fault ≡ Some fault → IsFirstFault text fault
+  reading_fault w fault boots faulty = of_reading reading scenario.library w fault fits reads is.programs (subst (λ (ss : List Statement). IsBoot scenario.library ss w) is.statements boots) faulty
 
-  pub is_start : (s : System) (pairs : List (ℕ × ℕ)) → (reading_of none_refused text).fault ≡ None → s.lab.programs ≡ scenario.library → IsBoot scenario.library scenario.boot.statements.items s.lab.world
+  pub is_start : (s : System) (pairs : List (ℕ × ℕ)) → reading.fault ≡ None → s.lab.programs ≡ scenario.library → IsBoot scenario.library scenario.boot.statements.items s.lab.world
       → s.items ≡ [] → s.limit ≡ scenario.boot.limit → pairs ≡ scenario.schedule.items → IsStart text s pairs
   is_start s pairs no_fault programs boots items limit schedule = record {
     fits = fits;
-    no_fault = no_fault;
+    said = reading.said;
+    read = subst (λ (f : Option LineFault). IsRead text (record { said = reading.said; fault = f })) no_fault reads;
     programs = rw programs is.programs;
+    accepted = rw programs is.accepted;
     boots = rw programs (subst (λ (ss : List Statement). IsBoot scenario.library ss s.lab.world) is.statements boots);
     items = items;
     limit = limit ∙ is.limit;

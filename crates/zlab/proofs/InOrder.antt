@@ -1,5 +1,5 @@
 -- What a text says stands in the order of its lines, and before the first fault.
-use Rattle.zlab.proofs.Common.{◌≡◌, ℕ, ◌+◌, ◌≤◌, Bool, true, false, ltb, cond, List, [], ◌∷◌, ◌++◌, length, Option, Some, None, Result, Ok, Err, refl, subst, arith, length-append, nat_tests, MOST_ITEMS, words_of, Scenario, Body, Part, Statements, Block, Schedule, Place, Refusals, at, start, onto, opened_by, body_named, object_named, object_said, onto_block, bytes_said, body_said, with_program, MOST_PROGRAMS, with_statement, process_said, limit_said, statement_said, program_said, block_said, pair_said, turns_said, part_said, line_said, told_line, Reading, refused_at, fault_at_end, reading_from, Rises, IsInOrder}
+use Rattle.zlab.proofs.Common.{◌≡◌, ℕ, ◌+◌, ◌≤◌, Bool, true, false, ltb, cond, List, [], ◌∷◌, ◌++◌, length, Option, Some, None, Result, Ok, Err, refl, subst, arith, length-append, nat_tests, MOST_ITEMS, words_of, Scenario, Body, Part, Statements, Block, Schedule, Place, at, start, onto, opened_by, body_named, object_named, object_said, onto_block, bytes_said, body_said, with_program, MOST_PROGRAMS, with_statement, process_said, limit_said, statement_said, program_said, block_said, pair_said, turns_said, part_said, line_said, told_line, Reading, refused_at, fault_at_end, Rises, IsInOrder, mark_named, lines_of, IsRead, Reads, at_end, line_taken, line_faulty, program_refused}
 use Rattle.zl_code.specs.declared.boot.Grant.{Grant}
 use Rattle.zl_code.specs.declared.boot.Statement.{Statement}
 use Rattle.zl_code.specs.declared.boot.Statement.TheVariants as statement
@@ -50,10 +50,6 @@ if_ok false x new c e = absurd (cc)
 then_ok : {S : Type 0} (t : Bool) (r : Result S Cause) (new : S) (c : Cause) → cond t r (Err c) ≡ Ok new → r ≡ Ok new
 then_ok true r new c e = e
 then_ok false r new c e = absurd (cc)
-
-else_ok : {S : Type 0} (t : Bool) (r : Result S Cause) (new : S) (c : Cause) → cond t (Err c) r ≡ Ok new → r ≡ Ok new
-else_ok true r new c e = absurd (cc)
-else_ok false r new c e = e
 
 onto_ok : (part : Part) (r : Result Scenario Cause) (next : Place) → onto part r ≡ Ok next → (said : Scenario) × (r ≡ Ok said) × (at said part ≡ next)
 onto_ok part (Ok said) next e = (said, refl, cc)
@@ -109,9 +105,10 @@ limit_below n said new None h e = absurd (cc)
 next_line : (n : ℕ) (part : Part) (next : Place) (said : Scenario) → told_line (n + 1) part ≡ n + 1 → IsBelow (n + 1) said → at said part ≡ next → IsPlaced (n + 1) next
 next_line n part next said out h e = subst (IsPlaced (n + 1)) e (record { below = rw out h; told = omega (arith, out) })
 
-opened_placed : (n : ℕ) (said : Scenario) (body : Option Body) (next : Place) → IsBelow n said → opened_by n said body ≡ Ok next → IsPlaced (n + 1) next
-opened_placed n said (Some body) next h e = let same : at said (Block n false body) ≡ next = cc in subst (IsPlaced (n + 1)) same (record { below = h; told = omega arith })
-opened_placed n said None next h e = absurd (cc)
+opened_placed : (n : ℕ) (said : Scenario) (mark : Option Bool) (body : Option Body) (next : Place) → IsBelow n said → opened_by n said mark body ≡ Ok next → IsPlaced (n + 1) next
+opened_placed n said (Some checked) (Some body) next h e = let same : at said (Block n checked body) ≡ next = cc in subst (IsPlaced (n + 1)) same (record { below = h; told = omega arith })
+opened_placed n said (Some checked) None next h e = absurd (cc)
+opened_placed n said None body next h e = absurd (cc)
 
 -- one statement of two, by two tests
 either_placed : (n : ℕ) (t u : Bool) (one other : Result Scenario Cause) (next : Place) → ((new : Scenario) → one ≡ Ok new → IsBelow (n + 1) new) → ((new : Scenario) → other ≡ Ok new → IsBelow (n + 1) new)
@@ -137,32 +134,31 @@ statement_placed n said (name ∷ []) next h e = alone _ e
 statement_placed n said (name ∷ most ∷ []) next h e =
     either_placed n (is_word name (codes "limit")) (is_word name (codes "job")) (limit_said said (number_of most)) (job_said n said (number_of most)) next
     (λ new. limit_below n said new _ h) (λ new. job_below n said new _ h) e
-statement_placed n said (name ∷ mark ∷ form ∷ []) next h e = opened_placed n said (body_named name mark form) next h e
+statement_placed n said (name ∷ mark ∷ form ∷ []) next h e = opened_placed n said (mark_named name mark) (body_named form) next h e
 statement_placed n said (name ∷ job ∷ program ∷ word ∷ handles) next h e =
     either_placed n (is_word name (codes "policy") && is_empty handles) (is_word name (codes "process")) (policy_said n said (number_of job) (condition_named program) (action_named word))
     (process_said n said (number_of job) (number_of program) (number_of word) (handles_of handles)) next
     (λ new. policy_below n said new _ _ _ h) (λ new. process_below n said new _ _ _ _ h) e
 
-program_below : (is_refused : Refusals) (n : ℕ) (said new : Scenario) (checked : Bool) (bytes : Result (List ℕ) Cause) → IsBelow n said → program_said is_refused said checked bytes ≡ Ok new → IsBelow n new
+program_below : (n : ℕ) (said new : Scenario) (checked : Bool) (bytes : Result (List ℕ) Cause) → IsBelow n said → program_said said checked bytes ≡ Ok new → IsBelow n new
 unfolding program_said
-program_below is_refused n said new checked (Ok bytes) h e =
-    let fits = else_ok _ (cond (ltb (length said.programs) MOST_PROGRAMS) (Ok (with_program said checked bytes)) (Err cause.Limit)) new cause.Check e in
-    subst (IsBelow n) (if_ok (ltb (length said.programs) MOST_PROGRAMS) (with_program said checked bytes) new cause.Limit fits).1 (record { limit = h.limit; placed = h.placed; rising = h.rising })
-program_below is_refused n said new checked (Err c) h e = absurd (cc)
+program_below n said new checked (Ok bytes) h e =
+    subst (IsBelow n) (if_ok (ltb (length said.programs) MOST_PROGRAMS) (with_program said checked bytes) new cause.Limit e).1 (record { limit = h.limit; placed = h.placed; rising = h.rising })
+program_below n said new checked (Err c) h e = absurd (cc)
 
 body_placed : (n opened : ℕ) (said : Scenario) (checked : Bool) (r : Result Body Cause) (next : Place) → IsBelow opened said → opened ≤ n → onto_block said opened checked r ≡ Ok next → IsPlaced (n + 1) next
 body_placed n opened said checked (Ok body) next h before e = let same : at said (Block opened checked body) ≡ next = cc in subst (IsPlaced (n + 1)) same (record { below = h; told = omega arith })
 body_placed n opened said checked (Err c) next h before e = absurd (cc)
 
-block_placed : (is_refused : Refusals) (n opened : ℕ) (said : Scenario) (checked : Bool) (body : Body) (line : List ℕ) (words : List (List ℕ)) (next : Place) → IsBelow opened said → opened ≤ n
-    → block_said is_refused said opened checked body line words ≡ Ok next → IsPlaced (n + 1) next
+block_placed : (n opened : ℕ) (said : Scenario) (checked : Bool) (body : Body) (line : List ℕ) (words : List (List ℕ)) (next : Place) → IsBelow opened said → opened ≤ n
+    → block_said said opened checked body line words ≡ Ok next → IsPlaced (n + 1) next
 unfolding block_said
-block_placed is_refused n opened said checked body line words next h before e = go _ e
+block_placed n opened said checked body line words next h before e = go _ e
   where
-    go : (t : Bool) → cond t (onto Statements (program_said is_refused said checked (bytes_said body))) (onto_block said opened checked (body_said body line)) ≡ Ok next → IsPlaced (n + 1) next
+    go : (t : Bool) → cond t (onto Statements (program_said said checked (bytes_said body))) (onto_block said opened checked (body_said body line)) ≡ Ok next → IsPlaced (n + 1) next
     go true e =
         let read = onto_ok Statements _ next e in
-        next_line n Statements next read.0 refl (below_more opened (n + 1) read.0 (program_below is_refused opened said read.0 checked _ h read.1) (omega arith)) read.2
+        next_line n Statements next read.0 refl (below_more opened (n + 1) read.0 (program_below opened said read.0 checked _ h read.1) (omega arith)) read.2
     go false e = body_placed n opened said checked _ next h before e
 
 pair_below : (n : ℕ) (said new : Scenario) (pid count : Option ℕ) → IsBelow n said → pair_said said pid count ≡ Ok new → IsBelow n new
@@ -180,10 +176,10 @@ turns_below n said new (pid ∷ count ∷ more ∷ rest) h e = absurd (cc)
 
 -- ---- one line, and all lines
 
-part_placed : (is_refused : Refusals) (n : ℕ) (said : Scenario) (part : Part) (line : List ℕ) (words : List (List ℕ)) (next : Place) → IsPlaced n (at said part) → part_said is_refused n said part line words ≡ Ok next → IsPlaced (n + 1) next
-part_placed is_refused n said Statements line words next h e = statement_placed n said words next h.below e
-part_placed is_refused n said (Block opened checked body) line words next h e = block_placed is_refused n opened said checked body line words next h.below h.told e
-part_placed is_refused n said Schedule line words next h e =
+part_placed : (n : ℕ) (said : Scenario) (part : Part) (line : List ℕ) (words : List (List ℕ)) (next : Place) → IsPlaced n (at said part) → part_said n said part line words ≡ Ok next → IsPlaced (n + 1) next
+part_placed n said Statements line words next h e = statement_placed n said words next h.below e
+part_placed n said (Block opened checked body) line words next h e = block_placed n opened said checked body line words next h.below h.told e
+part_placed n said Schedule line words next h e =
     let read = onto_ok Schedule _ next e in
     next_line n Schedule next read.0 refl (below_more n (n + 1) read.0 (turns_below n said read.0 words h.below read.1) (omega arith)) read.2
 
@@ -193,13 +189,13 @@ same_placed n said Statements h = record { below = below_more n (n + 1) said h.b
 same_placed n said (Block opened checked body) h = record { below = h.below; told = omega (arith, h.told) }
 same_placed n said Schedule h = record { below = below_more n (n + 1) said h.below (omega arith); told = omega arith }
 
-line_placed : (is_refused : Refusals) (n : ℕ) (place : Place) (line : List ℕ) (next : Place) → IsPlaced n place → line_said is_refused n place line ≡ Ok next → IsPlaced (n + 1) next
+line_placed : (n : ℕ) (place : Place) (line : List ℕ) (next : Place) → IsPlaced n place → line_said n place line ≡ Ok next → IsPlaced (n + 1) next
 unfolding line_said
-line_placed is_refused n place line next h e = go _ (then_ok _ _ next _ e)
+line_placed n place line next h e = go _ (then_ok _ _ next _ e)
   where
-    go : (t : Bool) → cond t (Ok place) (part_said is_refused n place.said place.part line (words_of line)) ≡ Ok next → IsPlaced (n + 1) next
+    go : (t : Bool) → cond t (Ok place) (part_said n place.said place.part line (words_of line)) ≡ Ok next → IsPlaced (n + 1) next
     go true e = let same : place ≡ next = cc in subst (IsPlaced (n + 1)) same (same_placed n place.said place.part h)
-    go false e = part_placed is_refused n place.said place.part line _ next h e
+    go false e = part_placed n place.said place.part line _ next h e
 
 refused_in_order : (n : ℕ) (place : Place) (c : Cause) → IsPlaced n place → IsInOrder (refused_at place.said (told_line n place.part) c)
 refused_in_order n place c h = record { limit = h.below.limit; placed = h.below.placed; rising = (told_line n place.part, h.below.rising); before_fault = h.below.rising }
@@ -209,17 +205,13 @@ end_in_order n said Statements h = record { limit = h.below.limit; placed = h.be
 end_in_order n said (Block opened checked body) h = record { limit = h.below.limit; placed = h.below.placed; rising = (opened, h.below.rising); before_fault = h.below.rising }
 end_in_order n said Schedule h = record { limit = h.below.limit; placed = h.below.placed; rising = (n, h.below.rising); before_fault = tt }
 
-rest_in_order : (is_refused : Refusals) (n : ℕ) (place : Place) (line : List ℕ) (lines : List (List ℕ)) (r : Result Place Cause) → line_said is_refused n place line ≡ r → IsPlaced n place
-    → ((next : Place) → IsPlaced (n + 1) next → IsInOrder (reading_from is_refused (n + 1) next lines))
-    → IsInOrder (elim r as (λ _. Reading) [ Ok next ↦ reading_from is_refused (n + 1) next lines | Err c ↦ refused_at place.said (told_line n place.part) c ])
-rest_in_order is_refused n place line lines (Ok next) e h rest = rest next (line_placed is_refused n place line next h e)
-rest_in_order is_refused n place line lines (Err c) e h rest = refused_in_order n place c h
-
-from_in_order : (is_refused : Refusals) (n : ℕ) (place : Place) (lines : List (List ℕ)) → IsPlaced n place → IsInOrder (reading_from is_refused n place lines)
-unfolding reading_from
-from_in_order is_refused n place [] h = end_in_order n place.said place.part h
-from_in_order is_refused n place (line ∷ lines) h = rest_in_order is_refused n place line lines (line_said is_refused n place line) refl h (λ next g. from_in_order is_refused (n + 1) next lines g)
+read_in_order : (n : ℕ) (place : Place) (lines : List (List ℕ)) (reading : Reading) → Reads n place lines reading → IsPlaced n place → IsInOrder reading
+read_in_order _ _ _ _ (at_end n place) h = end_in_order n place.said place.part h
+read_in_order _ _ _ _ (line_taken n place next line lines reading said passed more) h = read_in_order (n + 1) next lines reading more (line_placed n place line next h said)
+read_in_order _ _ _ _ (line_faulty n place line lines c said passed) h = refused_in_order n place c h
+read_in_order _ _ _ _ (program_refused n place line lines stopped) h = refused_in_order n place cause.Check h
 
 -- every text
-pub text_in_order : (is_refused : Refusals) (lines : List (List ℕ)) → IsInOrder (reading_from is_refused 1 start lines)
-text_in_order is_refused lines = from_in_order is_refused 1 start lines (record { below = record { limit = omega arith; placed = refl; rising = omega arith }; told = omega arith })
+pub text_in_order : (text : List ℕ) (reading : Reading) → IsRead text reading → IsInOrder reading
+text_in_order text reading read =
+    read_in_order 1 start (lines_of text) reading read (record { below = record { limit = omega arith; placed = refl; rising = omega arith }; told = omega arith })

@@ -12,6 +12,7 @@ pub mod LineDigits
 pub mod HandleWords
 pub mod ReadingOn
 pub mod InOrder
+pub mod ReadOnce
 pub mod WholeBlocks
 pub mod WalkKeeps
 pub mod CommandLine

@@ -1,7 +1,7 @@
 -- The programs of a scenario, and the bytes that spell them.
-use Rattle.zlab.proofs.Common.{◌≡◌, ℕ, ◌<◌, true, false, ◌&&◌, ltb, List, [], ◌∷◌, ◌++◌, length, Result, Ok, IsTrue, refl, sym, ap, ◌∙◌, arith, list_all, and_parts, nat_tests, list_all-append, Image, Library, Program, Spells, spelling, is_in_range, Scenario, MOST_PROGRAMS, none_refused, with_program, program_said}
+use Rattle.zlab.proofs.Common.{◌≡◌, ℕ, ◌<◌, Bool, true, ◌&&◌, ltb, List, [], ◌∷◌, ◌++◌, length, Result, Ok, IsTrue, refl, sym, ap, ◌∙◌, arith, list_all, and_parts, nat_tests, list_all-append, Image, Library, Program, Spells, spelling, is_in_range, Scenario, MOST_PROGRAMS, with_program, program_said, AcceptsImage, IsPassed, listed}
 use Rattle.zlab.specs.declared.fault.Cause.{Cause}
-use Rattle.zlab.specs.Reading.{Lists, spellings, has_ranges}
+use Rattle.zlab.specs.Reading.{Lists, AreAccepted, IsLibrary, spellings, has_ranges}
 
 spelled : (p : Program) → IsTrue (has_ranges p) → Spells (spelling p.image) p.image
 unfolding has_ranges
@@ -14,21 +14,31 @@ lists_all (p ∷ library) e =
     let both = and_parts (has_ranges p) (list_all has_ranges library) e in
     (spelled p both.0, refl, lists_all library both.1)
 
-ranges_by : (image : Image) → IsTrue (is_in_range image) → has_ranges (record { checked = false; image = image }) ≡ true
-unfolding has_ranges
-ranges_by image e = e
-
 -- one more program
-pub program_pushed : (library : Library) (image : Image) → IsTrue (list_all has_ranges library) → IsTrue (is_in_range image) → IsTrue (list_all has_ranges (library ++ (record { checked = false; image = image } ∷ [])))
-program_pushed library image all here =
-    let more : list_all has_ranges (library ++ (record { checked = false; image = image } ∷ [])) ≡ (list_all has_ranges library && (has_ranges (record { checked = false; image = image }) && true)) =
-    list_all-append has_ranges library (record { checked = false; image = image } ∷ []) in
-    more ∙ rw (all, ranges_by image here) refl
+accepted_pushed : (library : Library) (p : Program) → AreAccepted library → AcceptsImage p.checked p.image → AreAccepted (library ++ p ∷ [])
+accepted_pushed [] p all here = (here, tt)
+accepted_pushed (q ∷ library) p all here = (all.0, accepted_pushed library p all.1 here)
 
--- a block says one more program, where there is room for it
-pub said_more : (said new : Scenario) (bytes : List ℕ) (given : Result (List ℕ) Cause) → given ≡ Ok bytes → length said.programs < MOST_PROGRAMS → new ≡ with_program said false bytes
-    → program_said none_refused said false given ≡ Ok new
-unfolding program_said
-said_more said new bytes given is room added =
-    let test : ltb (length said.programs) MOST_PROGRAMS ≡ true = grind (arith, nat_tests) in
-    rw (is, test) (ap Ok (sym added))
+pub program_pushed : (library : Library) (p : Program) → IsLibrary library → IsTrue (has_ranges p) → AcceptsImage p.checked p.image → IsLibrary (library ++ p ∷ [])
+program_pushed library p all ranges here =
+    let more : list_all has_ranges (library ++ (p ∷ [])) ≡ (list_all has_ranges library && (has_ranges p && true)) = list_all-append has_ranges library (p ∷ []) in
+    record { ranges = more ∙ rw (all.ranges, ranges) refl; accepted = accepted_pushed library p all.accepted here }
+
+-- a program of this mark and this image is in range where the image is
+pub ranges_by : (p : Program) (checked : Bool) (image : Image) → p ≡ record { checked = checked; image = image } → IsTrue (is_in_range image) → IsTrue (has_ranges p)
+unfolding has_ranges
+ranges_by p checked image is e = rw is e
+
+-- ---- what a block gives
+
+module _ (checked : Bool) (image : Image) (given : Result (List ℕ) Cause) (gives : given ≡ Ok (spelling image)) where
+  -- one more program, where there is room for it
+  pub said_more : (said new : Scenario) → length said.programs < MOST_PROGRAMS → new ≡ with_program said checked (spelling image) → program_said said checked given ≡ Ok new
+  unfolding program_said
+  said_more said new room added =
+      let test : ltb (length said.programs) MOST_PROGRAMS ≡ true = grind (arith, nat_tests) in
+      rw (gives, test) (ap Ok (sym added))
+
+  -- it is accepted
+  pub passed : IsTrue (is_in_range image) → AcceptsImage checked image → IsPassed (listed checked given)
+  passed in_range accepts = rw gives (record { image = image; spelled = record { same = refl; in_range = in_range }; is_true = accepts })

@@ -5,9 +5,6 @@ use Rattle.zl_code.specs.Common.{Image, Spells}
 use Rattle.zl_code.specs.Spells.{first_fault}
 use Rattle.zl_code.specs.declared.image.DecodeFault.{DecodeFault}
 use Rattle.zl_code.specs.declared.image.DecodeFault.TheVariants as fault
-use Rattle.zl_abs.specs.States.{State}
-use Rattle.zl_abs.specs.Typing.{IsTyping}
-use Rattle.zl_verify.specs.Steps.{IsStepBound}
 use Rattle.zl_verify.specs.Checks.{IsRefused}
 use Rattle.zl_verify.specs.Names.{cause_name}
 use Rattle.zl_verify.specs.declared.refusal.RefusalCause.TheVariants as cause
@@ -15,6 +12,7 @@ use Rattle.zlab.specs.declared.checking.Finding.{Finding}
 use Rattle.zlab.specs.declared.checking.Finding.TheVariants as finding
 use Rattle.zlab.specs.declared.fault.Verdict.{Verdict}
 use Rattle.zlab.specs.declared.fault.Verdict.TheVariants as verdict
+use Rattle.zlab.specs.Accepted.{HasStepBound}
 use Rattle.zlab.specs.Engine.{IsTextOf}
 use Rattle.zlab.specs.Input.{TakesAtMost}
 use Rattle.zl_trace.specs.Output.{AppendsBeginning}
@@ -31,13 +29,6 @@ front_of bytes = take (MOST_IMAGE + 1) bytes
 -- a reader gave up no more than that
 abbrev pub TakesImage : (old new : Option (List ℕ)) → Type 0
 TakesImage old new = TakesAtMost (MOST_IMAGE + 1) old new
-
--- the image has a typing and a step bound of it
-pub record HasStepBound (i : Image) : Type 0 where
-  pub states : ℕ → Option State
-  pub typing : IsTyping i states
-  pub steps : ℕ → Option ℕ
-  pub bound : IsStepBound i states steps
 
 -- What is found is true of the image: it has a step bound; or it is refused at the n-th instruction, as it has no typing, or, for
 -- the budget, none with a step bound. A want of memory isn't found.

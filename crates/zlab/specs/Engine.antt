@@ -18,15 +18,12 @@ use Rattle.zl_sched.specs.declared.system.End.{End}
 use Rattle.zl_sched.specs.Follows.{turns_of, EndsBy}
 use Rattle.zlab.specs.Input.{MOST_INPUT, FitsInput}
 use Rattle.zl_trace.specs.Output.{AppendsBeginning}
-use Rattle.zlab.specs.Reading.{Lists}
-use Rattle.zlab.specs.Scenario.{Scenario, Refusals, none_refused, reading_of}
+use Rattle.zlab.specs.Reading.{Lists, AreAccepted}
+use Rattle.zlab.specs.Reads.{IsRead}
+use Rattle.zlab.specs.Scenario.{Scenario, Reading}
 use Rattle.zl_sched.specs.System.{System, Walks}
 use Rattle.zl_trace.specs.Text.{states_of, history_text}
 use Rattle.zlab.specs.Text.{cause_name, refused_line}
-
--- what the text says, where these of its checked programs are refused
-abbrev pub said_in : Refusals → List ℕ → Scenario
-said_in is_refused text = (reading_of is_refused text).said
 
 -- ---- a trace
 
@@ -36,18 +33,21 @@ InEachWorld P lib first items last legal = Throughout P lib first (flat_map sing
 
 -- The items are a legal history from a boot world of the scenario in the text, along its schedule, up to
 -- this end and within the limit. Neither the text nor a line of it is at fault.
-pub record IsRunOf (is_refused : Refusals) (text : List ℕ) (items : List TraceItem) (w : World) (e : End) : Type 0 where
+pub record IsRunOf (text : List ℕ) (items : List TraceItem) (w : World) (e : End) : Type 0 where
   pub fits : FitsInput text
-  pub no_fault : (reading_of is_refused text).fault ≡ None
+  pub said : Scenario
+  pub read : IsRead text (record { said = said; fault = None })
+  -- its programs with their marks; each checked one has a typing and a step bound of it
   pub library : Library
-  pub programs : Lists (said_in is_refused text).programs library
+  pub programs : Lists said.programs library
+  pub accepted : AreAccepted library
   pub boot : World
-  pub boots : IsBoot library (said_in is_refused text).statements boot
+  pub boots : IsBoot library said.statements boot
   pub legal : IsLegalHistory library boot items w
   -- no two handles stand at one place, none has a right that its kind doesn't give, and each names an object that is there
   pub sound : InEachWorld IsSound library boot items w legal
-  pub room : length items ≤ (said_in is_refused text).limit
-  pub ends : EndsBy library boot (turns_of (said_in is_refused text).schedule) (said_in is_refused text).limit items w e
+  pub room : length items ≤ said.limit
+  pub ends : EndsBy library boot (turns_of said.schedule) said.limit items w e
 
 -- ---- a refusal
 
@@ -62,22 +62,22 @@ line_cause boot.BadState = Some cause.BadState
 line_cause boot.Conflict = Some cause.Conflict
 
 -- The first fault of the text: too many bytes; or, in a text that isn't too long, a statement that can't be done, before any fault of
--- reading; or a fault of reading, where all statements before it can be done.
-pub data IsFirstFault (is_refused : Refusals) (text : List ℕ) : LineFault → Type 0 where
-  too_long : MOST_INPUT < length text → IsFirstFault is_refused text (record { line = 0; cause = cause.Limit })
-  of_statement : (library : Library) (n : ℕ) (found : BootCause) (fault : LineFault)
-      → FitsInput text → Lists (said_in is_refused text).programs library → FirstFault library (said_in is_refused text).statements (said_in is_refused text).limit n found
-      → slice_get (said_in is_refused text).lines n ≡ Some fault.line → line_cause found ≡ Some fault.cause → IsFirstFault is_refused text fault
-  of_reading : (library : Library) (w : World) (fault : LineFault)
-      → FitsInput text → Lists (said_in is_refused text).programs library → IsBoot library (said_in is_refused text).statements w
-      → (reading_of is_refused text).fault ≡ Some fault → IsFirstFault is_refused text fault
+-- reading, such as a checked program that the rules refuse, where all statements before it can be done.
+pub data IsFirstFault (text : List ℕ) : LineFault → Type 0 where
+  too_long : MOST_INPUT < length text → IsFirstFault text (record { line = 0; cause = cause.Limit })
+  of_statement : (reading : Reading) (library : Library) (n : ℕ) (found : BootCause) (fault : LineFault)
+      → FitsInput text → IsRead text reading → Lists reading.said.programs library → FirstFault library reading.said.statements reading.said.limit n found
+      → slice_get reading.said.lines n ≡ Some fault.line → line_cause found ≡ Some fault.cause → IsFirstFault text fault
+  of_reading : (reading : Reading) (library : Library) (w : World) (fault : LineFault)
+      → FitsInput text → IsRead text reading → Lists reading.said.programs library → IsBoot library reading.said.statements w
+      → reading.fault ≡ Some fault → IsFirstFault text fault
 
 -- ---- the answer
 
--- the lines are the answer to the text, where some of its checked programs are refused
+-- the lines are the answer to the text
 pub data IsAnswer (text : List ℕ) : Verdict → List ℕ → Type 0 where
-  trace : (is_refused : Refusals) (items : List TraceItem) (w : World) (e : End) → IsRunOf is_refused text items w e → IsAnswer text verdict.Done (history_text items (states_of w) e)
-  refusal : (is_refused : Refusals) (fault : LineFault) → IsFirstFault is_refused text fault → IsAnswer text verdict.Refused (refused_line fault.line (cause_name fault.cause))
+  trace : (items : List TraceItem) (w : World) (e : End) → IsRunOf text items w e → IsAnswer text verdict.Done (history_text items (states_of w) e)
+  refusal : (fault : LineFault) → IsFirstFault text fault → IsAnswer text verdict.Refused (refused_line fault.line (cause_name fault.cause))
 
 -- the bytes of a reader, which may tell what it has left
 pub record IsTextOf (told : Option (List ℕ)) (text : List ℕ) : Type 0 where
@@ -111,17 +111,19 @@ pub record BeginsReader (told old new : Option (List ℕ)) : Type 0 where
 -- the system stands before the first turn of the text's schedule
 pub record IsStart (text : List ℕ) (s : System) (pairs : List (ℕ × ℕ)) : Type 0 where
   pub fits : FitsInput text
-  pub no_fault : (reading_of none_refused text).fault ≡ None
-  pub programs : Lists (said_in none_refused text).programs s.lab.programs
-  pub boots : IsBoot s.lab.programs (said_in none_refused text).statements s.lab.world
+  pub said : Scenario
+  pub read : IsRead text (record { said = said; fault = None })
+  pub programs : Lists said.programs s.lab.programs
+  pub accepted : AreAccepted s.lab.programs
+  pub boots : IsBoot s.lab.programs said.statements s.lab.world
   pub items : s.items ≡ []
-  pub limit : s.limit ≡ (said_in none_refused text).limit
-  pub schedule : pairs ≡ (said_in none_refused text).schedule
+  pub limit : s.limit ≡ said.limit
+  pub schedule : pairs ≡ said.schedule
 
 -- what the text leads to, before the first step
 abbrev pub Starts : List ℕ → Booted → Type 0
 Starts text (booted.Runs system schedule) = IsStart text system schedule.items
-Starts text (booted.Refused fault) = IsFirstFault none_refused text fault
+Starts text (booted.Refused fault) = IsFirstFault text fault
 
 -- the system ran along the schedule
 pub record IsRun (s : System) (schedule : List (ℕ × ℕ)) (lines : List ℕ) : Type 0 where

@@ -4,6 +4,8 @@ pub mod Input
 pub mod Lines
 pub mod Handles
 pub mod Scenario
+pub mod Accepted
+pub mod Reads
 pub mod Reading
 pub mod Words
 pub mod Assembling

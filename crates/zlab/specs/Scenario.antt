@@ -1,5 +1,5 @@
--- What the lines of a scenario and of its schedule say, one after another, and the first fault of each.
-use Rattle.std.specs.Prelude.{ℕ, ◌≡◌, ◌≤◌, ◌+◌, ◌%◌, Bool, false, ◌&&◌, not, ◌==◌, nat_lt, nat_le, List, [], ◌∷◌, ◌++◌, length, codes, Option, Some, None, is_some, IfSome, Result, Ok, Err, if◌then◌else◌}
+-- What the lines of a scenario and of its schedule say, one after another, and the first fault of each, where each checked program is accepted.
+use Rattle.std.specs.Prelude.{ℕ, ◌≡◌, ◌≤◌, ◌+◌, ◌%◌, Bool, true, false, ◌&&◌, not, ◌==◌, nat_lt, nat_le, List, [], ◌∷◌, ◌++◌, length, codes, Option, Some, None, is_some, IfSome, Result, Ok, Err, if◌then◌else◌}
 use Rattle.zl_code.specs.Common.{MOST_ITEMS, first_fault}
 use Rattle.zl_rights.specs.Names.{condition_named}
 use Rattle.zl_rights.specs.Signals.{is_empty}
@@ -110,17 +110,21 @@ unfoldable pub limit_said : Scenario → Option ℕ → Result Scenario Cause
 limit_said said (Some limit) = if nat_le limit MOST_ITEMS then Ok (record said { limit = limit }) else Err cause.Limit
 limit_said said None = Err cause.Syntax
 
--- `program raw hex` or `program raw asm`, and what the block holds at first
-unfoldable pub body_named : List ℕ → List ℕ → List ℕ → Option Body
-body_named name mark form =
-    if is_word name (codes "program") && is_word mark (codes "raw") then
-    (if is_word form (codes "hex") then Some (Hex []) else (if is_word form (codes "asm") then Some (Asm []) else None))
+-- `program raw` or `program checked`: whether the program is marked as checked
+unfoldable pub mark_named : List ℕ → List ℕ → Option Bool
+mark_named name mark =
+    if is_word name (codes "program") then
+    (if is_word mark (codes "raw") then Some false else (if is_word mark (codes "checked") then Some true else None))
     else None
 
--- line n opens a block of this form, if it is one; no program is marked as checked yet
-abbrev pub opened_by : ℕ → Scenario → Option Body → Result Place Cause
-opened_by n said (Some body) = Ok (at said (Block n false body))
-opened_by n said None = Err cause.Syntax
+-- `hex` or `asm`: what the block holds at first
+unfoldable pub body_named : List ℕ → Option Body
+body_named form = if is_word form (codes "hex") then Some (Hex []) else (if is_word form (codes "asm") then Some (Asm []) else None)
+
+-- line n opens a block of this mark and form, if these are one
+abbrev pub opened_by : ℕ → Scenario → Option Bool → Option Body → Result Place Cause
+opened_by n said (Some checked) (Some body) = Ok (at said (Block n checked body))
+opened_by n said _ _ = Err cause.Syntax
 
 -- the words of line n, which stands among the statements
 unfoldable pub statement_said : ℕ → Scenario → List (List ℕ) → Result Place Cause
@@ -129,7 +133,7 @@ statement_said n said (name ∷ []) = if is_word name (codes "--") then Ok (at s
 statement_said n said (name ∷ most ∷ []) =
     if is_word name (codes "limit") then onto Statements (limit_said said (number_of most))
     else (if is_word name (codes "job") then onto Statements (job_said n said (number_of most)) else Err cause.Syntax)
-statement_said n said (name ∷ mark ∷ form ∷ []) = opened_by n said (body_named name mark form)
+statement_said n said (name ∷ mark ∷ form ∷ []) = opened_by n said (mark_named name mark) (body_named form)
 statement_said n said (name ∷ job ∷ program ∷ word ∷ handles) =
     if is_word name (codes "policy") && is_empty handles then onto Statements (policy_said n said (number_of job) (condition_named program) (action_named word))
     else (if is_word name (codes "process") then onto Statements (process_said n said (number_of job) (number_of program) (number_of word) (handles_of handles))
@@ -141,7 +145,7 @@ statement_said n said (name ∷ job ∷ program ∷ word ∷ handles) =
 abbrev pub MOST_PROGRAMS : ℕ
 MOST_PROGRAMS = 256
 
--- one more program, of these bytes
+-- one more program, of this mark and these bytes
 abbrev pub with_program : Scenario → Bool → List ℕ → Scenario
 with_program said checked bytes = record said { programs = said.programs ++ (record { checked = checked; bytes = bytes } ∷ []) }
 
@@ -162,20 +166,10 @@ abbrev pub bytes_said : Body → Result (List ℕ) Cause
 bytes_said (Hex digits) = digits_spelled digits
 bytes_said (Asm text) = text_spelled (image_bytes_of text)
 
--- which programs are refused, by their numbers, if they are marked as checked
-abbrev pub Refusals : Type 0
-Refusals = ℕ → Bool
-
--- no program is refused
-abbrev pub none_refused : Refusals
-none_refused n = false
-
--- one program more, if it isn't refused, and isn't one too many
-unfoldable pub program_said : Refusals → Scenario → Bool → Result (List ℕ) Cause → Result Scenario Cause
-program_said is_refused said checked (Ok bytes) =
-    if checked && is_refused (length said.programs) then Err cause.Check
-    else (if nat_lt (length said.programs) MOST_PROGRAMS then Ok (with_program said checked bytes) else Err cause.Limit)
-program_said is_refused said checked (Err c) = Err c
+-- one program more, if it isn't one too many
+unfoldable pub program_said : Scenario → Bool → Result (List ℕ) Cause → Result Scenario Cause
+program_said said checked (Ok bytes) = if nat_lt (length said.programs) MOST_PROGRAMS then Ok (with_program said checked bytes) else Err cause.Limit
+program_said said checked (Err c) = Err c
 
 -- a line's digits after those before it
 abbrev pub digits_said : List ℕ → Option (List ℕ) → Result (List ℕ) Cause
@@ -203,9 +197,9 @@ is_end (name ∷ []) = is_word name (codes "end")
 is_end _ = false
 
 -- a line of a block, and its words: the one word `end`, or what the block is made of
-unfoldable pub block_said : Refusals → Scenario → ℕ → Bool → Body → List ℕ → List (List ℕ) → Result Place Cause
-block_said is_refused said opened checked body line words =
-    if is_end words then onto Statements (program_said is_refused said checked (bytes_said body)) else onto_block said opened checked (body_said body line)
+unfoldable pub block_said : Scenario → ℕ → Bool → Body → List ℕ → List (List ℕ) → Result Place Cause
+block_said said opened checked body line words =
+    if is_end words then onto Statements (program_said said checked (bytes_said body)) else onto_block said opened checked (body_said body line)
 
 -- ---- the schedule
 
@@ -231,15 +225,15 @@ turns_said said _ = Err cause.Syntax
 -- ---- one line, and all lines
 
 -- a line and its words, by the part that the line belongs to
-abbrev pub part_said : Refusals → ℕ → Scenario → Part → List ℕ → List (List ℕ) → Result Place Cause
-part_said is_refused n said Statements line words = statement_said n said words
-part_said is_refused n said (Block opened checked body) line words = block_said is_refused said opened checked body line words
-part_said is_refused n said Schedule line words = onto Schedule (turns_said said words)
+abbrev pub part_said : ℕ → Scenario → Part → List ℕ → List (List ℕ) → Result Place Cause
+part_said n said Statements line words = statement_said n said words
+part_said n said (Block opened checked body) line words = block_said said opened checked body line words
+part_said n said Schedule line words = onto Schedule (turns_said said words)
 
 -- line n, where it stands: a byte outside ASCII is a fault in a comment too, and a comment says nothing
-unfoldable pub line_said : Refusals → ℕ → Place → List ℕ → Result Place Cause
-line_said is_refused n place line =
-    if is_ascii line then (if is_comment line then Ok place else part_said is_refused n place.said place.part line (words_of line)) else Err cause.Syntax
+unfoldable pub line_said : ℕ → Place → List ℕ → Result Place Cause
+line_said n place line =
+    if is_ascii line then (if is_comment line then Ok place else part_said n place.said place.part line (words_of line)) else Err cause.Syntax
 
 -- the line that a fault of line n is told of: in a block the one that opens it
 abbrev pub told_line : ℕ → Part → ℕ
@@ -261,16 +255,16 @@ fault_at_end (Block opened checked body) = Some (record { line = opened; cause =
 fault_at_end _ = None
 
 -- the lines from number n on, from where they stand
-unfoldable pub reading_from : Refusals → ℕ → Place → List (List ℕ) → Reading
-reading_from is_refused n place [] = record { said = place.said; fault = fault_at_end place.part }
-reading_from is_refused n place (line ∷ lines) = elim (line_said is_refused n place line) as (λ _. Reading) [
-  | Ok next ↦ reading_from is_refused (n + 1) next lines
+unfoldable pub reading_from : ℕ → Place → List (List ℕ) → Reading
+reading_from n place [] = record { said = place.said; fault = fault_at_end place.part }
+reading_from n place (line ∷ lines) = elim (line_said n place line) as (λ _. Reading) [
+  | Ok next ↦ reading_from (n + 1) next lines
   | Err c ↦ refused_at place.said (told_line n place.part) c
 ]
 
--- a whole text, where these of its checked programs are refused
-abbrev pub reading_of : Refusals → List ℕ → Reading
-reading_of is_refused text = reading_from is_refused 1 start (lines_of text)
+-- a whole text
+abbrev pub reading_of : List ℕ → Reading
+reading_of text = reading_from 1 start (lines_of text)
 
 -- ---- in which order
 
@@ -299,10 +293,15 @@ digits_in [] = Some []
 digits_in (line ∷ lines) =
     if is_ascii line && not (is_end (words_of line)) then joined (if is_comment line then Some [] else digits_of line) (digits_in lines) else None
 
+-- the line that opens a block of this mark and form
+abbrev pub opening : Bool → List ℕ → List ℕ
+opening true form = codes "program checked " ++ form
+opening false form = codes "program raw " ++ form
+
 -- what follows a block from the line of this number on, by what all of it says
-abbrev pub after_block : Refusals → ℕ → ℕ → Scenario → List (List ℕ) → Result Scenario Cause → Reading
-after_block is_refused opened n said rest (Ok new) = reading_from is_refused n (at new Statements) rest
-after_block is_refused opened n said rest (Err c) = refused_at said opened c
+abbrev pub after_block : ℕ → ℕ → Scenario → List (List ℕ) → Result Scenario Cause → Reading
+after_block opened n said rest (Ok new) = reading_from n (at new Statements) rest
+after_block opened n said rest (Err c) = refused_at said opened c
 
 -- the text of the lines of a block of the assembler, comments aside; nothing where a line is `end`, or has a byte outside ASCII
 unfoldable pub text_in : List (List ℕ) → Option (List ℕ)
@@ -310,17 +309,18 @@ text_in [] = Some []
 text_in (line ∷ lines) =
     if is_ascii line && not (is_end (words_of line)) then joined (if is_comment line then Some [] else Some (line ++ codes "\n")) (text_in lines) else None
 
--- from the line `program raw hex` to the line `end`, a block says what all of its digits say, or it is at fault as a whole
+-- from the line `program raw hex` or `program checked hex` to the line `end`, a block says what all of its digits say, or it is at
+-- fault as a whole
 abbrev pub DigitsAreWhole : Type 0
-DigitsAreWhole = (is_refused : Refusals) (n : ℕ) (said : Scenario) (lines rest : List (List ℕ)) (digits : List ℕ) → digits_in lines ≡ Some digits
-    → reading_from is_refused n (at said Statements) (codes "program raw hex" ∷ (lines ++ (codes "end" ∷ rest)))
-    ≡ after_block is_refused n (n + 2 + length lines) said rest (program_said is_refused said false (digits_spelled digits))
+DigitsAreWhole = (checked : Bool) (n : ℕ) (said : Scenario) (lines rest : List (List ℕ)) (digits : List ℕ) → digits_in lines ≡ Some digits
+    → reading_from n (at said Statements) (opening checked (codes "hex") ∷ (lines ++ (codes "end" ∷ rest)))
+    ≡ after_block n (n + 2 + length lines) said rest (program_said said checked (digits_spelled digits))
 
--- and from the line `program raw asm` on, the image that all of its text denotes
+-- and where the form is `asm`, the image that all of its text denotes
 abbrev pub TextIsWhole : Type 0
-TextIsWhole = (is_refused : Refusals) (n : ℕ) (said : Scenario) (lines rest : List (List ℕ)) (text : List ℕ) → text_in lines ≡ Some text
-    → reading_from is_refused n (at said Statements) (codes "program raw asm" ∷ (lines ++ (codes "end" ∷ rest)))
-    ≡ after_block is_refused n (n + 2 + length lines) said rest (program_said is_refused said false (text_spelled (image_bytes_of text)))
+TextIsWhole = (checked : Bool) (n : ℕ) (said : Scenario) (lines rest : List (List ℕ)) (text : List ℕ) → text_in lines ≡ Some text
+    → reading_from n (at said Statements) (opening checked (codes "asm") ∷ (lines ++ (codes "end" ∷ rest)))
+    ≡ after_block n (n + 2 + length lines) said rest (program_said said checked (text_spelled (image_bytes_of text)))
 
 -- a block of either form gives what all of its lines say together
 pub record BlocksAreWhole : Type 0 where

@@ -13,7 +13,6 @@ use crate::scenario::{Reading, Scenario, read_scenario};
 use crate::text::push_refusal;
 use std::alloc::Global;
 use std::io::{Read, Write};
-use zl_calls::World;
 use zl_code::{BootCause, BootFault};
 use zl_rights::Pid;
 use zl_sched::System;
@@ -105,11 +104,11 @@ fn boot(alloc: Global, text: &[u8]) -> Result<Booted, EngineFault>
         lines,
         schedule,
     } = scenario;
-    match World::boot(alloc, library, &boot) {
+    match System::boot(alloc, library, boot) {
         Err(refused) => Ok(Booted::Refused(fault_of_boot(lines.as_slice(), refused)?)),
-        Ok(world) => Ok(match fault {
+        Ok(system) => Ok(match fault {
             Some(fault) => Booted::Refused(fault),
-            None => Booted::Runs(System::new(alloc, world, boot.limit), schedule),
+            None => Booted::Runs(system, schedule),
         }),
     }
 }

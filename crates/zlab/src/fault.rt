@@ -55,13 +55,13 @@ pub enum Cause {
     Syntax,
     /// The bytes of a program are no image, or its text denotes none.
     Program,
-    /// A checked program that is refused. Not yet: no program is marked as checked.
+    /// A checked program that the verifier refuses.
     Check,
     /// No object of this koid and kind, or no program of this number.
     Unknown,
-    /// Handles that a process can't be given: too many, or a right that its kind doesn't have.
+    /// Handles that a process can't be given.
     BadHandleList,
-    /// The job's policy doesn't allow what a program needs. Not yet: no program is checked.
+    /// The job's policy doesn't allow what a checked program needs.
     NeedDenied,
     /// The policy of a job that has children.
     BadState,

@@ -7,6 +7,7 @@
 //! answer has.
 
 mod above;
+mod checked;
 mod command;
 mod failing;
 mod handles;

@@ -1,7 +1,8 @@
 //! Reading a scenario with its schedule.
 ghost use Rattle.std.specs.Prelude.{◌≡◌, IfOk, IfErr};
-ghost use Rattle.zlab.specs.Scenario.{Refusals, none_refused, reading_of, IsInOrder, BlocksAreWhole};
-ghost use Rattle.zlab.specs.Reading.{IsScenario};
+ghost use Rattle.zlab.specs.Scenario.{Reading as ReadingValue, IsInOrder, BlocksAreWhole};
+ghost use Rattle.zlab.specs.Reading.{IsScenario, reading_value};
+ghost use Rattle.zlab.specs.Reads.{IsRead, TextsAreReadOnce, TextsAreReadAsSaid};
 ghost use Rattle.zlab.specs.declared.fault.EngineFault.TheVariants.{NoMemory};
 
 mod block;
@@ -18,10 +19,11 @@ mod statements;
 mod words;
 
 use crate::fault::{EngineFault, LineFault};
+pub use body::{Body, Form};
 use reader::Reader;
 use std::alloc::Global;
-use zl_calls::Library;
 use zl_code::Boot;
+use zl_interp::Library;
 use zl_rights::Pid;
 
 /// What an input asks for.
@@ -46,15 +48,16 @@ pub struct Reading {
 
 /// Reads the scenario and the schedule up to the first fault. `NoMemory` is the only error.
 pub fn read_scenario(alloc: Global, text: &[u8]) -> Result<Reading, EngineFault>
-    ensures scenario { IfOk result (λ reading. IsScenario (reading_of none_refused text.now).said
+    ensures read { IfOk result (λ reading. IsRead text.now (reading_value reading)) }
+    ensures scenario { IfOk result (λ reading. IsScenario (reading_value reading).said
         reading.scenario) }
-    ensures fault { IfOk result (λ reading. reading.fault
-        ≡ (reading_of none_refused text.now).fault) }
     ensures err { IfErr result (λ fault. fault ≡ NoMemory) }
     // Of two faults, one in a statement and the reader's, that of the statement is in an earlier line.
-    ensures in_order { (is_refused : Refusals) → IsInOrder (reading_of is_refused text.now) }
-    // A law of what lines say.
+    ensures in_order { (reading : ReadingValue) → IsRead text.now reading → IsInOrder reading }
+    // Laws of what lines say, and of how texts are read.
     ensures blocks { BlocksAreWhole }
+    ensures once { TextsAreReadOnce }
+    ensures as_said { TextsAreReadAsSaid }
 {
     let mut reader = Reader::new(alloc);
     let fault = reader.read_lines(alloc, text)?;

@@ -17,8 +17,8 @@ syntax match zlsStatement /^ *\%(event\|port\|channel\) *$/
 syntax match zlsRights /\%(:\)\@<=\*\%( \|$\)\@=/
 
 " A program's block, up to the one word `end`.
-syntax region zlsAsmBlock matchgroup=zlsProgram start=/^ *program \+raw \+asm *$/ end=/^ *end *$/ keepend contains=@zlsAsm,zlsComment
-syntax region zlsHexBlock matchgroup=zlsProgram start=/^ *program \+raw \+hex *$/ end=/^ *end *$/ keepend contains=zlsDigits,zlsComment,zlsError
+syntax region zlsAsmBlock matchgroup=zlsProgram start=/^ *program \+\%(raw\|checked\) \+asm *$/ end=/^ *end *$/ keepend contains=@zlsAsm,zlsComment
+syntax region zlsHexBlock matchgroup=zlsProgram start=/^ *program \+\%(raw\|checked\) \+hex *$/ end=/^ *end *$/ keepend contains=zlsDigits,zlsComment,zlsError
 syntax match zlsError /[^0-9a-f ]/ contained
 syntax match zlsDigits /[0-9a-f]\+/ contained
 

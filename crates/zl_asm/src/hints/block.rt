@@ -12,9 +12,13 @@ use zl_code::decode;
 /// Whether the words open a block.
 pub fn is_opening(words: &[&[u8]]) -> bool {
     match words {
-        [name, mark, form] => is(name, b"program") && is(mark, b"raw") && is_form(form),
+        [name, mark, form] => is(name, b"program") && is_mark(mark) && is_form(form),
         _ => false,
     }
+}
+
+fn is_mark(word: &[u8]) -> bool {
+    is(word, b"raw") || is(word, b"checked")
 }
 
 fn is_form(word: &[u8]) -> bool {

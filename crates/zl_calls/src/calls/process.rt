@@ -10,16 +10,16 @@ ghost use Rattle.zl_rights.specs.Numbers.{MANAGE_PROCESS};
 ghost use Rattle.zl_table.specs.Table.{Inserts};
 ghost use Rattle.zl_objects.specs.Jobs.{action_of, job_at};
 ghost use Rattle.zl_objects.specs.Objects.{has_koids, with_new};
-ghost use Rattle.zl_calls.specs.Program.{program_value};
+ghost use Rattle.zl_interp.specs.Common.{program_value};
 ghost use Rattle.zl_calls.specs.Registered.{KeepsListed};
 ghost use Rattle.zl_calls.specs.calls.Process.{Drained, Ends};
 ghost use Rattle.zl_calls.specs.calls.Task.{create_refusal, needs_more};
 
 use crate::calls::{insert, look_up};
 use crate::process::Process;
-use crate::program::{Library, Program};
 use std::alloc::Global;
 use zl_code::{Image, Start};
+use zl_interp::{Library, Program};
 use zl_objects::{Body, Life, Objects};
 use zl_rights::{Action, Condition, Entry, HValue, Kind, Koid, Rights, Status};
 use zl_table::Table;
@@ -86,12 +86,17 @@ pub fn find_job<'a>(
 }
 
 /// Whether the program was checked, and declares a need that the policy of the job doesn't allow.
-fn lacks_need(objects: &Objects, job: Koid, program: &Program) -> bool
+pub fn lacks_need(objects: &Objects, job: Koid, program: &Program) -> bool
     ensures { result ≡ needs_more
         (action_of (job_at objects.now.objects job)) (Some (program_value program.now)) }
 {
+    let image = program.image();
+    // Its clauses are the image's invariant, by which needs are among the four.
+    image.len();
     program.is_checked()
-        && NEEDS.iter().any(|need| program.image().needs(*need) && !allows(objects, job, *need))
+        && NEEDS
+            .iter()
+            .any(|need| image.needs(*need) && !allows(objects, job, *need))
 }
 
 /// Whether the policy of the job allows what the condition stands for.
@@ -156,7 +161,7 @@ fn is_only_start(starts: &[Start], entry: &Entry) -> bool
 }
 
 /// Whether the handle is of the declared kind, with the declared rights at least.
-fn is_declared(start: &Start, entry: &Entry) -> bool
+pub fn is_declared(start: &Start, entry: &Entry) -> bool
     ensures { result ≡ is_declared start.now entry.now }
 {
     let is_of_kind = match start.kind {

@@ -134,7 +134,7 @@ pub fn push_wrong_handles(
             return Ok(());
         }
     }
-    Ok(())
+    hint.push_str("the program is checked, and these aren't the handles that it declares")
 }
 
 /// Adds which right of the handle a new object of its kind doesn't have, if there is one.

@@ -28,10 +28,21 @@ fn push_line(
 ) -> Result<(), AllocError> {
     let name = cause.name();
     write!(hints, "zlab: instruction {at}: {name}: ")?;
+    push_reason(hints, alloc, image, at, cause)?;
+    hints.push_str("\n")
+}
+
+/// Adds the instruction of this number, and why the image is refused there.
+pub fn push_reason(
+    hints: &mut String,
+    alloc: Global,
+    image: &Image,
+    at: usize,
+    cause: RefusalCause,
+) -> Result<(), AllocError> {
     if at < image.len() {
         push_instr_text(hints, alloc, image, at)?;
         hints.push_str(": ")?;
     }
-    push_refusal(hints, alloc, image, at, cause)?;
-    hints.push_str("\n")
+    push_refusal(hints, alloc, image, at, cause)
 }

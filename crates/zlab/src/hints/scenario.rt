@@ -1,9 +1,11 @@
 //! The faults of a scenario and its schedule.
 
 use crate::hints::above::{Above, Part, read_above};
+use crate::hints::checked::push_refused_block;
 use crate::hints::handles::{push_no_handle, push_no_object, push_wrong_handles};
 use crate::hints::jobs::{push_job, push_no_job, push_policy};
 use crate::hints::numbers::{decimal, push_first_no_number, push_no_number};
+use crate::scenario::Form;
 use std::alloc::{AllocError, Global};
 use zl_asm::hints::{
     Word, is, is_opening, line_at, place_of_blank, place_outside_ascii, plural, push_block_fault,
@@ -18,6 +20,9 @@ const STATEMENTS: [&str; 10] = [
 
 /// The statements of one word.
 const OBJECTS: [&str; 3] = ["event", "port", "channel"];
+
+/// What a program may be marked as.
+const MARKS: [&str; 2] = ["raw", "checked"];
 
 /// The most processes that a scenario starts.
 const MOST_PROCESSES: usize = 64;
@@ -47,6 +52,10 @@ fn push_fault(
     let above = read_above(alloc, input, number)?;
     let words = words_of(alloc, line)?;
     match above.part {
+        Part::Statements if is_opening(words.as_slice()) && cause == "Check" => {
+            let form = form_of(words.as_slice());
+            push_refused_block(hint, alloc, input, number, form)?;
+        }
         Part::Statements if is_opening(words.as_slice()) && cause != "Limit" => {
             push_block_fault(hint, alloc, input, number, words.as_slice())?;
         }
@@ -56,6 +65,15 @@ fn push_fault(
         }
     }
     hint.push_str("\n")
+}
+
+/// How the block is written that the words open.
+fn form_of(words: &[&[u8]]) -> Form {
+    if words.iter().any(|word| is(word, b"hex")) {
+        Form::Hex
+    } else {
+        Form::Asm
+    }
 }
 
 /// Adds what is wrong with a line that is no line of a block.
@@ -138,6 +156,7 @@ fn push_process(
     match cause {
         "Unknown" => push_unknown(hint, job, program, handles, above),
         "BadHandleList" => push_wrong_handles(hint, handles, above),
+        "NeedDenied" => hint.push_str("the job doesn't allow what the checked program needs"),
         "Limit" if above.count(Kind::Process) < MOST_PROCESSES => push_no_koid(hint, above),
         "Limit" => hint.push_str("a scenario starts at most 64 processes"),
         _ => {
@@ -212,15 +231,12 @@ fn push_opening(hint: &mut String, alloc: Global, words: &[&[u8]]) -> Result<(),
         let count = words.len();
         return write!(
             hint,
-            "program takes 2 words, raw and hex or asm, and has {count}"
+            "program takes 2 words, raw or checked, and hex or asm, and has {count}"
         );
     };
-    if is(mark, b"checked") {
-        return hint.push_str("checked programs come later; a program is raw");
-    }
-    if !is(mark, b"raw") {
-        write!(hint, "a program is raw, and not {}", Word(mark))?;
-        return push_nearest(hint, alloc, mark, &["raw"]);
+    if !is_among(mark, &MARKS) {
+        write!(hint, "a program is raw or checked, and not {}", Word(mark))?;
+        return push_nearest(hint, alloc, mark, &MARKS);
     }
     if is_opening(&[b"program", mark, form]) {
         return hint.push_str("a scenario has at most 256 programs");

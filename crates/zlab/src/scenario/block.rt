@@ -1,7 +1,8 @@
 //! The block of a program.
-ghost use Rattle.std.specs.Prelude.{◌≡◌, false, map};
-ghost use Rattle.zlab.specs.Scenario.{at, none_refused, is_end, bytes_said, program_said, block_said};
-ghost use Rattle.zlab.specs.Reading.{part_with, Tells, Keeps};
+ghost use Rattle.std.specs.Prelude.{◌≡◌, map};
+ghost use Rattle.zlab.specs.Scenario.{at, Block, is_end, bytes_said, program_said, block_said};
+ghost use Rattle.zlab.specs.Reading.{part_with, Judges, Keeps, Verifies};
+ghost use Rattle.zlab.specs.Reads.{listed, whole_in};
 
 use crate::fault::Cause;
 use crate::scenario::body::Body;
@@ -10,32 +11,38 @@ use crate::scenario::fault::Fault;
 use crate::scenario::part::Part;
 use crate::scenario::words::is;
 use std::alloc::Global;
+use zl_code::Image;
+use zl_interp::Program;
+use zl_verify::{RefusalCause, check};
 
 /// The most programs of a scenario.
 const MOST_PROGRAMS: usize = 256;
 
-/// Reads a line of the block that the line `opened` opens, and answers what the next line belongs
-/// to. The `body` is what the lines before it have given.
-#[tactic(auto, unfolding(crate::specs::Scenario::block_said))]
+/// Reads a line of the block that the line `opened` opens, of a program that is marked as checked or
+/// isn't, and answers what the next line belongs to. The `body` is what the lines before it have
+/// given.
+#[tactic(auto, unfolding(crate::specs::Scenario::block_said, crate::specs::Reads::whole_in))]
 pub fn read_block(
     draft: &mut Draft,
     body: &mut Body,
     alloc: Global,
     opened: u64,
+    checked: bool,
     line: &[u8],
     words: &[&[u8]],
 ) -> Result<Part, Fault>
-    ensures answer { Tells result (λ next. at draft.new (part_with body.new next))
-        (block_said none_refused draft.old opened false body.old line.now
-        (map (λ word. word.now) words.now)) }
+    ensures answer { Judges result (λ next. at draft.new (part_with body.new next))
+        (block_said draft.old opened checked body.old line.now
+        (map (λ word. word.now) words.now))
+        (whole_in (Block opened checked body.old) (map (λ word. word.now) words.now)) }
     ensures unchanged { Keeps result draft.old draft.new }
 {
     if is_end(words) {
-        read_program(draft, alloc, body)?;
+        read_program(draft, alloc, body, checked)?;
         return Ok(Part::Statements);
     }
     body.push_line(line)?;
-    Ok(Part::Block { opened })
+    Ok(Part::Block { opened, checked })
 }
 
 #[tactic(auto, unfolding(crate::specs::Scenario::is_end))]
@@ -50,15 +57,33 @@ fn is_end(words: &[&[u8]]) -> bool
 
 /// Adds the program that the whole block gives.
 #[tactic(auto, unfolding(crate::specs::Scenario::program_said))]
-fn read_program(draft: &mut Draft, alloc: Global, body: &Body) -> Result<(), Fault>
-    ensures answer { Tells result (λ _. draft.new)
-        (program_said none_refused draft.old false (bytes_said body.now)) }
+fn read_program(draft: &mut Draft, alloc: Global, body: &Body, checked: bool) -> Result<(), Fault>
+    ensures answer { Judges result (λ _. draft.new)
+        (program_said draft.old checked (bytes_said body.now))
+        (listed checked (bytes_said body.now)) }
     ensures unchanged { Keeps result draft.old draft.new }
 {
     let image = body.image(alloc)?;
+    let program = program_of(alloc, image, checked)?;
     if draft.programs() >= MOST_PROGRAMS {
         return Err(Fault::Refused(Cause::Limit));
     }
-    draft.push_program(image)?;
+    draft.push_program(program)?;
     Ok(())
+}
+
+/// The program of this mark and image, which the verifier has to accept where the mark asks for it.
+fn program_of(alloc: Global, image: Image, checked: bool) -> Result<Program, Fault>
+    ensures { Verifies result checked image }
+{
+    if !checked {
+        return Ok(Program::Raw(image));
+    }
+    match check(alloc, image) {
+        Ok(accepted) => Ok(Program::Checked(accepted)),
+        Err(refusal) => Err(match refusal.cause {
+            RefusalCause::NoMemory => Fault::NoMemory,
+            _ => Fault::Unaccepted,
+        }),
+    }
 }

@@ -1,14 +1,16 @@
 //! What the lines of a scenario have said so far.
-ghost use Rattle.std.specs.Prelude.{◌≡◌, IsTrue, false, length, OnOk};
-ghost use Rattle.zl_code.specs.Spells.{spelling, is_in_range};
+ghost use Rattle.std.specs.Prelude.{◌≡◌, IsTrue, length, OnOk};
+ghost use Rattle.zl_interp.specs.Program.{program_value};
+ghost use Rattle.zl_code.specs.Spells.{spelling};
+ghost use Rattle.zlab.specs.Accepted.{AcceptsImage};
 ghost use Rattle.zlab.specs.Scenario.{start, with_program, with_statement, with_turns};
-ghost use Rattle.zlab.specs.Reading.{IsScenario};
+ghost use Rattle.zlab.specs.Reading.{IsScenario, has_ranges, said_by};
 
 use crate::scenario::Scenario;
 use std::alloc::{AllocError, Global};
 use std::marker::Model;
-use zl_calls::{Library, Program};
-use zl_code::{Boot, Image, Statement};
+use zl_code::{Boot, Statement};
+use zl_interp::{Library, Program};
 use zl_rights::Pid;
 
 /// The limit of the trace where a scenario names none.
@@ -21,16 +23,14 @@ pub struct Draft {
 }
 
 impl Model for Draft {
-    ghost use Rattle.std.specs.Prelude.{IsTrue};
-    ghost use Rattle.std.specs.List.{list_all};
     ghost use Rattle.zlab.specs.Scenario.{Scenario as ScenarioValue};
-    ghost use Rattle.zlab.specs.Reading.{said_by, has_ranges};
+    ghost use Rattle.zlab.specs.Reading.{said_by, IsLibrary};
 
     ghost Value = { ScenarioValue };
 
     ghost view = { λ d. said_by d.scenario };
 
-    ghost invariant = { λ d. IsTrue (list_all has_ranges d.scenario.library) };
+    ghost invariant = { λ d. IsLibrary d.scenario.library };
 }
 
 impl Draft {
@@ -58,12 +58,15 @@ impl Draft {
         self.scenario.library.len()
     }
 
-    /// Adds a raw program with this image.
-    pub fn push_program(&mut self, image: Image) -> Result<(), AllocError>
-        requires { IsTrue (is_in_range image) }
-        ensures { OnOk result (self.new ≡ with_program self.old false (spelling image)) }
+    /// Adds the program, which is of this mark and this image.
+    pub fn push_program(&mut self, program: Program) -> Result<(), AllocError>
+        requires in_range { IsTrue (has_ranges (program_value program)) }
+        requires accepted { AcceptsImage (program_value program).checked
+            (program_value program).image }
+        ensures { OnOk result (self.new ≡ with_program self.old (program_value program).checked
+            (spelling (program_value program).image)) }
     {
-        self.scenario.library.push(Program::Raw(image))?;
+        self.scenario.library.push(program)?;
         Ok(())
     }
 
@@ -93,7 +96,8 @@ impl Draft {
 
     /// The scenario that was said.
     pub fn into_scenario(self) -> Scenario
-        ensures { IsScenario self result }
+        ensures said { said_by result ≡ self }
+        ensures whole { IsScenario self result }
     {
         self.scenario
     }

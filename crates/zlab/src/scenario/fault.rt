@@ -10,6 +10,8 @@ use std::alloc::{AllocError, AllocFailed};
 pub enum Fault {
     /// The line is refused.
     Refused(Cause),
+    /// The line ends the block of a checked program that the verifier refuses.
+    Unaccepted,
     /// Memory was refused.
     NoMemory,
 }

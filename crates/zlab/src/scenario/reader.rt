@@ -1,8 +1,9 @@
 //! The reader: one line after the other, in one pass.
 ghost use Rattle.std.specs.Prelude.{◌≡◌, IfOk, IfErr, map};
 ghost use Rattle.zl_asm.specs.Words.{lines_of};
-ghost use Rattle.zlab.specs.Scenario.{start, none_refused, told_line, fault_at_end, part_said, line_said, reading_from};
-ghost use Rattle.zlab.specs.Reading.{Tells, Keeps, IsScenario};
+ghost use Rattle.zlab.specs.Scenario.{start, told_line, fault_at_end, part_said, line_said};
+ghost use Rattle.zlab.specs.Reading.{Judges, Keeps, IsScenario, said_by};
+ghost use Rattle.zlab.specs.Reads.{Reads, whole_at, whole_in};
 ghost use Rattle.zlab.specs.declared.fault.EngineFault.TheVariants.{NoMemory};
 
 use crate::fault::{Cause, EngineFault, LineFault};
@@ -50,7 +51,8 @@ impl Reader {
 
     /// The scenario that was read.
     pub fn into_scenario(self) -> Scenario
-        ensures { IsScenario self.said result }
+        ensures said { said_by result ≡ self.said }
+        ensures whole { IsScenario self.said result }
     {
         self.draft.into_scenario()
     }
@@ -60,7 +62,7 @@ impl Reader {
         ensures { result ≡ told_line number self.now.part }
     {
         match self.part {
-            Part::Block { opened } => opened,
+            Part::Block { opened, .. } => opened,
             Part::Statements | Part::Schedule => number,
         }
     }
@@ -70,7 +72,7 @@ impl Reader {
         ensures { result ≡ fault_at_end self.now.part }
     {
         match self.part {
-            Part::Block { opened } => Some(LineFault {
+            Part::Block { opened, .. } => Some(LineFault {
                 line: opened,
                 cause: Cause::Syntax,
             }),
@@ -79,7 +81,7 @@ impl Reader {
     }
 
     /// Reads the line of this number; `words` is room for its words.
-    #[tactic(auto, unfolding(crate::specs::Scenario::line_said))]
+    #[tactic(auto, unfolding(crate::specs::Scenario::line_said, crate::specs::Reads::whole_at))]
     fn read_line<'a>(
         &mut self,
         alloc: Global,
@@ -87,8 +89,8 @@ impl Reader {
         line: &'a [u8],
         words: &mut Vec<&'a [u8]>,
     ) -> Result<(), Fault>
-        ensures answer { Tells result (λ _. self.new)
-            (line_said none_refused number self.old line.now) }
+        ensures answer { Judges result (λ _. self.new) (line_said number self.old line.now)
+            (whole_at self.old line.now) }
         ensures unchanged { Keeps result self.old.said self.new.said }
     {
         if !is_ascii(line) {
@@ -102,6 +104,7 @@ impl Reader {
     }
 
     /// Reads a line with these words, by the part that it belongs to.
+    #[tactic(auto, unfolding(crate::specs::Reads::whole_in))]
     fn read_part(
         &mut self,
         alloc: Global,
@@ -109,17 +112,19 @@ impl Reader {
         line: &[u8],
         words: &[&[u8]],
     ) -> Result<(), Fault>
-        ensures answer { Tells result (λ _. self.new)
-            (part_said none_refused number self.old.said self.old.part line.now
-            (map (λ word. word.now) words.now)) }
+        ensures answer { Judges result (λ _. self.new)
+            (part_said number self.old.said self.old.part line.now
+            (map (λ word. word.now) words.now))
+            (whole_in self.old.part (map (λ word. word.now) words.now)) }
         ensures unchanged { Keeps result self.old.said self.new.said }
     {
         self.part = match self.part {
             Part::Statements => {
                 read_statement(&mut self.draft, &mut self.body, alloc, number, words)?
             }
-            Part::Block { opened } => {
-                read_block(&mut self.draft, &mut self.body, alloc, opened, line, words)?
+            Part::Block { opened, checked } => {
+                let draft = &mut self.draft;
+                read_block(draft, &mut self.body, alloc, opened, checked, line, words)?
             }
             Part::Schedule => {
                 read_turns(&mut self.draft, words)?;
@@ -136,8 +141,8 @@ impl Reader {
         alloc: Global,
         text: &[u8],
     ) -> Result<Option<LineFault>, EngineFault>
-        ensures ok { IfOk result (λ fault. reading_from none_refused 1 self.old (lines_of text.now)
-            ≡ record { said = self.new.said; fault = fault }) }
+        ensures ok { IfOk result (λ fault. Reads 1 self.old (lines_of text.now)
+            (record { said = self.new.said; fault = fault })) }
         ensures err { IfErr result (λ fault. fault ≡ NoMemory) }
     {
         let mut words = Vec::new(alloc);
@@ -147,6 +152,12 @@ impl Reader {
             match self.read_line(alloc, number, line, &mut words) {
                 Ok(()) => {}
                 Err(Fault::Refused(cause)) => return Ok(Some(LineFault { line: told, cause })),
+                Err(Fault::Unaccepted) => {
+                    return Ok(Some(LineFault {
+                        line: told,
+                        cause: Cause::Check,
+                    }));
+                }
                 Err(Fault::NoMemory) => return Err(EngineFault::NoMemory),
             }
         }

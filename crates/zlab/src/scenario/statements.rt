@@ -6,7 +6,7 @@ ghost use Rattle.std.specs.Option.{option_map};
 ghost use Rattle.zlab.specs.Lines.{number_of};
 ghost use Rattle.zlab.specs.Handles.{handles_of};
 ghost use Rattle.zl_rights.specs.Names.{condition_named};
-ghost use Rattle.zlab.specs.Scenario.{at, Statements, action_named, body_named, job_said, object_named, policy_said, process_said, limit_said, statement_said};
+ghost use Rattle.zlab.specs.Scenario.{at, Statements, action_named, body_named, mark_named, job_said, object_named, policy_said, process_said, limit_said, statement_said};
 ghost use Rattle.zlab.specs.Reading.{part_with, body_with, Tells, Keeps};
 
 use crate::fault::Cause;
@@ -50,11 +50,14 @@ pub fn read_statement(
             Ok(Part::Statements)
         }
         [name, mark, form] => {
-            let Some(form) = form_of(name, mark, form) else {
+            let (Some(checked), Some(form)) = (mark_of(name, mark), form_of(form)) else {
                 return Err(Fault::Refused(Cause::Syntax));
             };
             body.open(form);
-            Ok(Part::Block { opened: line })
+            Ok(Part::Block {
+                opened: line,
+                checked,
+            })
         }
         [name, job, program, word, handles @ ..] => {
             if is_policy(name, handles) {
@@ -118,15 +121,28 @@ fn object_named(name: &[u8]) -> Option<Statement>
     }
 }
 
-/// The form of the block that the words open, if they open one.
-#[tactic(auto, unfolding(crate::specs::Scenario::body_named))]
-fn form_of(name: &[u8], mark: &[u8], form: &[u8]) -> Option<Form>
-    ensures { option_map (λ form. body_with form [] []) result ≡ body_named name.now mark.now
-        form.now }
+/// Whether the program whose block these words open is marked as checked, if they open one.
+#[tactic(auto, unfolding(crate::specs::Scenario::mark_named))]
+fn mark_of(name: &[u8], mark: &[u8]) -> Option<bool>
+    ensures { result ≡ mark_named name.now mark.now }
 {
-    if !is(name, b"program") || !is(mark, b"raw") {
+    if !is(name, b"program") {
         return None;
     }
+    if is(mark, b"raw") {
+        Some(false)
+    } else if is(mark, b"checked") {
+        Some(true)
+    } else {
+        None
+    }
+}
+
+/// The form of this name, if it is one.
+#[tactic(auto, unfolding(crate::specs::Scenario::body_named))]
+fn form_of(form: &[u8]) -> Option<Form>
+    ensures { option_map (λ form. body_with form [] []) result ≡ body_named form.now }
+{
     if is(form, b"hex") {
         Some(Form::Hex)
     } else if is(form, b"asm") {

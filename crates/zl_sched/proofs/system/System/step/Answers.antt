@@ -1,5 +1,6 @@
-use Rattle.zl_sched.proofs.Common.{refl, arith, rules}
-use Rattle.zl_sched.proofs.TurnTold.{limit_told, memory_told}
+use Rattle.zl_sched.proofs.Common.{arith, rules, System}
+use Rattle.zl_sched.proofs.Legal.{legal_more}
+use Rattle.zl_sched.proofs.TurnTold.{limit_told, memory_told, step_told}
 use Rattle.zl_sched.proofs.system.System.step.Goals as goal
 
 pub returns-then-len-self : goal.returns-then-len-self
@@ -9,15 +10,16 @@ returns-then-len-self c =
 pub returns-then-is_err : goal.returns-then-is_err
 returns-then-is_err c =
     rw (c.refused-then-is_err.ensures, c.reserve.ensures.items, ← c.self.view_is)
-    (memory_told (record { lab = c.self.inside.world; items = c.self.inside.items.items; limit = c.self.inside.limit }) c.args.pid (omega (arith, c.if-len-self.false, c.len.ensures, c.self.inside.items.ok.0)))
+    (memory_told (record { lab = c.self.inside.world; items = c.self.inside.items.items; statements = c.self.inside.boot.statements.items; limit = c.self.inside.boot.limit }) c.args.pid (omega (arith, c.if-len-self.false, c.len.ensures, c.self.inside.items.ok.0)))
+
+pub invariant_of-self-2 : goal.invariant_of-self-2
+invariant_of-self-2 c =
+    let before : System = record { lab = c.self.inside.world; items = c.self.inside.items.items; statements = c.self.inside.boot.statements.items; limit = c.self.inside.boot.limit } in
+    legal_more before c.args.pid (record before { lab = c.step.new.self; items = c.push.new.self.items }) c.self.invariant
+    (step_told before c.args.pid c.step.new.self c.push.new.self.items c.in-Some.item (c.in-Some.ensures {u = tt}).ran (search rules) (omega (arith, c.if-len-self.false, c.len.ensures, c.self.inside.items.ok.0)))
 
 pub returns : goal.returns
 returns c =
-    let taken = (c.in-Some.ensures {u = tt}).ran in
-    rw (← c.self.view_is) (record {
-      item = c.in-Some.item;
-      adds = record { programs = taken.steps.programs; items = search rules; limit = refl };
-      step = rw taken.pid_is at taken.steps.step;
-      ready = taken.ready;
-      room = omega (arith, c.if-len-self.false, c.len.ensures, c.self.inside.items.ok.0);
-    })
+    let before : System = record { lab = c.self.inside.world; items = c.self.inside.items.items; statements = c.self.inside.boot.statements.items; limit = c.self.inside.boot.limit } in
+    rw (← c.self.view_is)
+    (step_told before c.args.pid c.step.new.self c.push.new.self.items c.in-Some.item (c.in-Some.ensures {u = tt}).ran (search rules) (omega (arith, c.if-len-self.false, c.len.ensures, c.self.inside.items.ok.0)))

@@ -1,9 +1,0 @@
-use Rattle.zl_calls.proofs.Common.{◌≡◌, ◌≤◌, ◌++◌, map, take, length}
-use Rattle.std.specs.Prelude.{drop, slice_index}
-use Rattle.zl_code.specs.Asked.{used}
-use Rattle.zl_calls.proofs.cpu.Cpu.listed.Given as goal
-
-abbrev pub invariant-loop-place : goal.invariant-loop-place
-invariant-loop-place l =
-    (length l.values ≡ 8) × (l.count ≤ l.place)
-    × (map (slice_index l.self.registers) (used l.handles.places) ≡ take l.count l.values ++ map (slice_index l.self.registers) (used (drop l.place l.handles.places)))

@@ -1,0 +1,13 @@
+use Rattle.zl_calls.proofs.Common.{◌≡◌, ◌+◌, ◌-◌}
+use Rattle.std.specs.Prelude.{◌*◌, drop}
+use Rattle.zl_rights.specs.World.{written}
+use Rattle.zl_code.specs.Asked.{triples_from}
+use Rattle.zl_code.specs.Effects.{told_of}
+use Rattle.zl_calls.proofs.reading.tell.Given as goal
+
+abbrev pub invariant-loop-n : goal.invariant-loop-n
+invariant-loop-n l = record {
+  left : written l.cpu.registers (triples_from (l.start + 3 * l.n) (l.places - l.n)) (told_of (drop l.n l.handles) (drop l.n l.values)) ≡ written l.initial.cpu.registers (triples_from l.fn.first l.places) (told_of l.handles l.values);
+  start : l.start ≡ l.fn.first;
+  others : l.cpu ≡ record l.initial.cpu { registers = l.cpu.registers };
+}

@@ -1,9 +1,0 @@
--- What the definitions see of a program.
-use Rattle.std.specs.Prelude.{false}
-use Rattle.zl_code.specs.Common.{Program as ProgramValue}
-use Rattle.zl_calls.specs.declared.program.Program.{Program}
-use Rattle.zl_calls.specs.declared.program.Program.TheVariants as program
-
--- the program as the definitions have it; a raw one is unchecked
-abbrev pub program_value : Program → ProgramValue
-program_value (program.Raw image) = record { checked = false; image = image }

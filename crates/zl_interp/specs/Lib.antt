@@ -1,0 +1,5 @@
+pub mod Cpu
+pub mod Running
+pub mod Program
+pub mod Next
+pub mod Common

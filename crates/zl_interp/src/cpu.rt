@@ -1,0 +1,198 @@
+//! What a process computes with, and its registers.
+
+ghost use Rattle.std.specs.Prelude.{◌≡◌, ◌+◌, ◌<◌, ◌≤◌, ◌^◌, [], ◌∷◌, length, map, take, IfOk};
+ghost use Rattle.zl_rights.specs.World.{written};
+ghost use Rattle.zl_code.specs.Asked.{used};
+ghost use Rattle.zl_code.specs.Limits.{most_handles};
+ghost use Rattle.zl_code.specs.Local.{reg, sets, goes_to, goes_if};
+ghost use Rattle.zl_code.specs.Starting.{cpu_given};
+ghost use Rattle.zl_interp.specs.Cpu.{started_cpu, register_set, handle_register};
+ghost use Rattle.zl_interp.specs.Running.{empty_places};
+
+use std::alloc::{AllocError, Global};
+use std::marker::Model;
+use zl_code::{HandleList, Image, Register, SlotArray};
+use zl_rights::HValue;
+
+/// What a process computes with: program counter, registers, data memory and slot arrays. To it a
+/// handle is a number.
+///
+/// Source: own profile.
+#[derive(Drop)]
+pub struct Cpu {
+    pub(crate) counter: usize,
+    pub(crate) registers: [u64; 32],
+    pub(crate) memory: Vec<u8>,
+    pub(crate) slots: Vec<Vec<u64>>,
+}
+
+impl Model for Cpu {
+    ghost use Rattle.std.specs.Prelude.{map};
+    ghost use Rattle.zl_rights.specs.World.{Cpu as CpuValue};
+
+    ghost Value = { CpuValue };
+
+    ghost view = { λ c. record {
+      counter = c.counter;
+      registers = c.registers;
+      memory = c.memory.items;
+      slots = map (λ places. places.items) c.slots.items;
+    } };
+}
+
+impl Cpu {
+    /// The Cpu of a process that runs the image and starts with the word: all is 0 but the word in
+    /// register 1. Only memory can be refused.
+    pub fn new(alloc: Global, image: &Image, word: u64) -> Result<Cpu, AllocError>
+        ensures { IfOk result (λ cpu. cpu ≡ started_cpu image.now word) }
+    {
+        let mut registers = [0; 32];
+        registers[1] = word;
+        let memory = vec![in alloc; 0; image.memory() as usize]?;
+        let slots = empty_slots(alloc, image.slots())?;
+        Ok(Cpu {
+            counter: 0,
+            registers,
+            memory,
+            slots,
+        })
+    }
+
+    /// The number of the next instruction.
+    pub fn counter(&self) -> usize
+        ensures { result ≡ self.now.counter }
+    {
+        self.counter
+    }
+
+    /// What all registers hold, in their order.
+    pub fn registers(&self) -> &[u64]
+        ensures { result.now ≡ self.now.registers }
+    {
+        &self.registers
+    }
+
+    /// What the register holds.
+    pub fn register(&self, register: Register) -> u64
+        ensures { result ≡ reg self.now register }
+    {
+        self.registers[register.number() as usize]
+    }
+
+    /// The register becomes the value.
+    pub fn set(&mut self, register: Register, value: u64)
+        ensures { self.new ≡ register_set self.old register value }
+    {
+        self.registers[register.number() as usize] = value;
+    }
+
+    /// The register of this number becomes the value, if there is one.
+    pub fn set_number(&mut self, number: usize, value: u64)
+        ensures { self.new ≡ register_set self.old number value }
+    {
+        if number < Register::COUNT {
+            self.registers[number] = value;
+        }
+    }
+
+    /// What the registers of the list hold, in order, and how many they are.
+    pub fn listed(&self, handles: &HandleList) -> ([u64; HandleList::MOST], usize)
+        requires { length handles.now.places ≡ most_handles }
+        ensures values { take result.1 result.0 ≡ map (reg self.now) (used handles.now.places) }
+        ensures within { result.1 ≤ length result.0 }
+    {
+        let mut values = [0; HandleList::MOST];
+        let mut count = 0;
+        for place in 0..HandleList::MOST {
+            let Some(register) = handles.get(place) else {
+                continue;
+            };
+            values[count] = self.register(register);
+            count += 1;
+        }
+        (values, count)
+    }
+
+    /// The registers of the list become 0.
+    pub fn clear(&mut self, handles: &HandleList)
+        requires { length handles.now.places ≡ most_handles }
+        ensures { self.new ≡ record self.old {
+          registers = written self.old.registers (used handles.now.places) [];
+        } }
+    {
+        for place in 0..HandleList::MOST {
+            let Some(register) = handles.get(place) else {
+                continue;
+            };
+            self.set(register, 0);
+        }
+    }
+
+    /// The register of this handle of a process that starts, counted from 0, becomes its value: the
+    /// first is in register 0, the others stand from register 2 on. There are 7 at most.
+    pub fn give(&mut self, number: usize, value: HValue)
+        requires { number < 7 }
+        ensures { self.new ≡ register_set self.old (handle_register number) value }
+    {
+        let register = if number == 0 { 0 } else { number + 1 };
+        self.registers[register] = u64::from(value);
+    }
+
+    /// What a process starts with that a call starts: its one handle in register 0, and the word in
+    /// register 1.
+    pub fn start(&mut self, handle: HValue, word: u64)
+        ensures { self.new ≡ cpu_given (handle ∷ []) word self.old }
+    {
+        self.registers[0] = u64::from(handle);
+        self.registers[1] = word;
+    }
+
+    /// The next instruction is the one behind this, which has a number below 2^32.
+    pub fn advance(&mut self)
+        requires { self.old.counter < 2 ^ 32 }
+        ensures { self.new ≡ record self.old { counter = self.old.counter + 1 } }
+    {
+        self.counter += 1;
+    }
+
+    /// The register becomes the value, and the next instruction is the one behind this.
+    pub(crate) fn assign(&mut self, register: Register, value: u64)
+        requires { self.old.counter < 2 ^ 32 }
+        ensures { self.new ≡ sets self.old register value }
+    {
+        self.set(register, value);
+        self.advance();
+    }
+
+    /// The next instruction is the target.
+    pub(crate) fn go_to(&mut self, target: u32)
+        ensures { self.new ≡ goes_to self.old target }
+    {
+        self.counter = target as usize;
+    }
+
+    /// The next instruction is the target where the test holds, else the one behind this.
+    pub(crate) fn go_if(&mut self, test: bool, target: u32)
+        requires { self.old.counter < 2 ^ 32 }
+        ensures { self.new ≡ goes_if self.old test target }
+    {
+        if test {
+            self.go_to(target);
+        } else {
+            self.advance();
+        }
+    }
+}
+
+/// Slot arrays with 0 in each place.
+fn empty_slots(alloc: Global, arrays: &[SlotArray]) -> Result<Vec<Vec<u64>>, AllocError>
+    ensures { IfOk result (λ slots. map (λ places. places.items) slots.items
+        ≡ map empty_places arrays.now) }
+{
+    let mut slots = Vec::with_capacity(alloc, arrays.len())?;
+    for array in arrays {
+        let places = vec![in alloc; 0; array.length as usize]?;
+        slots.push(places)?;
+    }
+    Ok(slots)
+}

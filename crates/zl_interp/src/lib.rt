@@ -1,0 +1,17 @@
+//! The interpreter: what a process computes with, what stands next for it, and one local step.
+//!
+//! It stands on `zl_verify`, for programs that the verifier accepted, and on `zl_code`, for
+//! instructions, images and the definitions. It promises that `call_at` names a call exactly where
+//! one stands next, and that `local_step` does the local instruction that stands next, or changes
+//! nothing. It knows no world: handles are numbers to it, and calls are done in the crate above.
+#![tactic(auto)]
+
+mod cpu;
+mod memory;
+mod next;
+mod program;
+mod running;
+
+pub use cpu::Cpu;
+pub use next::{call_at, local_step};
+pub use program::{Library, Program};

@@ -1,0 +1,79 @@
+//! What stands next for a Cpu in its program: a system call, or a local instruction, done here.
+
+ghost use Rattle.std.specs.Prelude.{◌≡◌, ◌<◌, None, is_some, IfSome, IfNone, OnSome};
+ghost use Rattle.zl_code.specs.Limits.{most_instructions};
+ghost use Rattle.zl_code.specs.Local.{local_effect};
+ghost use Rattle.zl_code.specs.Request.{site_of};
+ghost use Rattle.zl_code.specs.Steps.{Moves, moves, next_at};
+ghost use Rattle.zl_interp.specs.Next.{IsStuckOrCalls, StandsNext, call_in};
+ghost use Rattle.zl_interp.specs.Program.{program_value};
+
+use crate::cpu::Cpu;
+use crate::program::Program;
+use crate::running::run;
+use zl_code::{CallInstr, LocalInstr};
+
+/// The call that stands next for the Cpu, if one does.
+///
+/// None does where the counter is outside the code, where a local instruction or an unknown one
+/// stands there, and at a call whose range of memory isn't there. Own profile.
+pub fn call_at(program: &Program, cpu: &Cpu) -> Option<CallInstr>
+    ensures found { IfSome result (StandsNext (program_value program.now).image cpu.now) }
+    ensures missing { IfNone result
+        (call_in (next_at (program_value program.now).image cpu.now) ≡ None) }
+    ensures within { OnSome result (cpu.now.counter < most_instructions) }
+{
+    let call = program.image().call_at(cpu.counter())?;
+    if has_its_memory(&call, cpu) {
+        Some(call)
+    } else {
+        None
+    }
+}
+
+/// Whether the range of memory that the call names is there; most calls name none.
+#[tactic(auto, unfolding(zl_code::specs::Request::site_of, zl_code::specs::Instructions::row_of, zl_code::specs::Spells::call_parts))]
+fn has_its_memory(call: &CallInstr, cpu: &Cpu) -> bool
+    ensures { result ≡ is_some (site_of call.now cpu.now) }
+{
+    match call {
+        CallInstr::ChanReadEtc { address, room, .. } => {
+            cpu.bytes(cpu.register(*address), cpu.register(*room))
+                .is_some()
+        }
+        CallInstr::ChanWrite {
+            address,
+            length,
+            ..
+        } => cpu
+            .bytes(cpu.register(*address), cpu.register(*length))
+            .is_some(),
+        _ => true,
+    }
+}
+
+/// Does the local instruction that stands next for the Cpu.
+///
+/// `None`, and nothing changes, where none does or where it can't be done: unless a call stands
+/// next, the process is stuck then. Own profile.
+pub fn local_step(program: &Program, cpu: &mut Cpu) -> Option<()>
+    ensures moves { OnSome result
+        (next_at (program_value program.now).image cpu.old ≡ Moves cpu.new) }
+    ensures stuck { IfNone result
+        (IsStuckOrCalls (next_at (program_value program.now).image cpu.old)) }
+    ensures unchanged { IfNone result (cpu.new ≡ cpu.old) }
+{
+    let local = local_at(program, cpu)?;
+    run(cpu, local)
+}
+
+/// The local instruction that stands next for the Cpu, if one does, be it possible or not.
+fn local_at(program: &Program, cpu: &Cpu) -> Option<LocalInstr>
+    ensures found { IfSome result (λ local. next_at (program_value program.now).image cpu.now
+        ≡ moves (local_effect local cpu.now)) }
+    ensures missing { IfNone result
+        (IsStuckOrCalls (next_at (program_value program.now).image cpu.now)) }
+    ensures within { OnSome result (cpu.now.counter < most_instructions) }
+{
+    program.image().local_at(cpu.counter())
+}

@@ -1,0 +1,106 @@
+//! Programs, checked or not, and the programs of a lab.
+
+ghost use Rattle.std.specs.Prelude.{◌≡◌, ◌==◌, ◌≤◌, ◌++◌, ◌∷◌, [], length, OnOk, OnErr, IfErr, IfSome, IfNone, slice_get, Some, None};
+ghost use Rattle.zl_interp.specs.Program.{program_value};
+
+use std::alloc::{AllocFailed, Global};
+use std::marker::Model;
+use zl_code::Image;
+use zl_verify::Checked;
+
+/// A program as a library lists it.
+///
+/// Source: own profile.
+#[derive(Drop)]
+pub enum Program {
+    /// A program that was not checked; its processes may be refused and may be stuck.
+    Raw(Image),
+    /// A program that the verifier accepted; its processes start only with what it declares.
+    Checked(Checked),
+}
+
+impl Program {
+    /// The image of the program.
+    pub fn image(&self) -> &Image
+        ensures { result.now ≡ (program_value self.now).image }
+    {
+        match self {
+            Program::Raw(image) => image,
+            Program::Checked(accepted) => accepted.image(),
+        }
+    }
+
+    /// Whether the program was checked, so that what it declares counts.
+    pub fn is_checked(&self) -> bool
+        ensures { result ≡ (program_value self.now).checked }
+    {
+        match self {
+            Program::Raw(_) => false,
+            Program::Checked(_) => true,
+        }
+    }
+}
+
+/// The programs of a lab, by their numbers from 0.
+///
+/// Source: own profile.
+#[derive(Drop)]
+pub struct Library {
+    programs: Vec<Program>,
+}
+
+impl Model for Library {
+    ghost use Rattle.std.specs.Prelude.{map};
+    ghost use Rattle.zl_code.specs.Image.{Library as Programs};
+
+    ghost Value = { Programs };
+
+    ghost use Rattle.zl_interp.specs.Program.{program_value};
+
+    ghost view = { λ l. map program_value l.programs.items };
+}
+
+impl Library {
+    /// A library without programs.
+    pub fn new(alloc: Global) -> Library
+        ensures { result ≡ [] }
+    {
+        Library {
+            programs: Vec::new(alloc),
+        }
+    }
+
+    /// How many programs there are.
+    pub fn len(&self) -> usize
+        ensures { result ≡ length self.now }
+    {
+        self.programs.len()
+    }
+
+    /// Whether there is no program.
+    pub fn is_empty(&self) -> bool
+        ensures { result ≡ (length self.now == 0) }
+    {
+        self.programs.is_empty()
+    }
+
+    /// Adds the program, which gets the next number.
+    ///
+    /// Only memory can be refused; then nothing changes, and the program comes back.
+    pub fn push(&mut self, program: Program) -> Result<(), AllocFailed<Program>>
+        ensures added { OnOk result (self.new ≡ self.old ++ program_value program ∷ []) }
+        ensures unchanged { OnErr result (self.new ≡ self.old) }
+        ensures handed_back { IfErr result (λ refused. refused.value ≡ program) }
+    {
+        self.programs.push(program)
+    }
+
+    /// The program of this number, if there is one.
+    pub fn get(&self, number: usize) -> Option<&Program>
+        ensures found { IfSome result
+            (λ program. slice_get self.now number ≡ Some (program_value program.now)) }
+        ensures missing { IfNone result (length self.now ≤ number) }
+    {
+        self.programs.get(number)
+    }
+}

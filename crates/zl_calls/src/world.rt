@@ -113,6 +113,13 @@ impl World {
         self.processes.len()
     }
 
+    /// How many processes are blocked.
+    pub fn blocked_count(&self) -> usize
+        ensures { result ≡ length self.now.world.blocked }
+    {
+        self.blocked.len()
+    }
+
     /// The koid of the n-th process ever made, from 0.
     pub fn process_at(&self, n: usize) -> Option<Pid>
         ensures koid { result ≡ slice_get (map (λ p. p.0) self.now.world.processes) n }

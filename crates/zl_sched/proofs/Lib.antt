@@ -1,6 +1,12 @@
+pub mod StillReady
 pub mod Common
+pub mod Counted
+pub mod Following
+pub mod Fresh
+pub mod Joining
+pub mod Legal
+pub mod Queued
 pub mod ReadyProcess
+pub mod TurnQueued
 pub mod TurnTold
 pub mod Walking
-pub mod Following
-pub mod Legal

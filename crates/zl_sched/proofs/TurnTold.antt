@@ -2,6 +2,7 @@
 use Rattle.zl_sched.proofs.Common.{◌≡◌, ◌∷◌, ◌++◌, List, [], ◌<◌, ◌≤◌, ℕ, Bool, inl, inr, refl, length, if◌then◌else◌, cases_Bool, is_ready_in, Runs, System, Turns}
 use Rattle.zl_code.specs.declared.history.TraceItem.{TraceItem}
 use Rattle.zl_calls.specs.World.{World}
+use Rattle.zl_sched.specs.Ready.{queued_after}
 use Rattle.zl_calls.specs.Steps.{TakesStep}
 use Rattle.zl_sched.specs.declared.system.Stepped.{Stepped}
 use Rattle.zl_sched.specs.declared.system.Stepped.TheVariants as stepped
@@ -23,11 +24,13 @@ module _ (s : System) (pid : ℕ) where
     | inr other ↦ rw other (refl, other)
   ]
 
-  pub step_told : (l2 : World) (items2 : List TraceItem) (x : TraceItem) → TakesStep s.lab pid l2 x → items2 ≡ s.items ++ (x ∷ []) → length s.items < s.limit → Runs s pid (record s { lab = l2; items = items2 })
-  step_told l2 items2 x taken added room = record {
+  pub step_told : (l2 : World) (items2 : List TraceItem) (ready2 : List ℕ) (x : TraceItem) → TakesStep s.lab pid l2 x → items2 ≡ s.items ++ (x ∷ []) → length s.items < s.limit
+      → ready2 ≡ queued_after s.lab.world pid l2.world s.ready → Runs s pid (record s { lab = l2; items = items2; ready = ready2 })
+  step_told l2 items2 ready2 x taken added room queue = record {
     item = x;
     adds = record { programs = taken.steps.programs; items = added; statements = refl; limit = refl };
     step = rw taken.pid_is at taken.steps.step;
     ready = taken.ready;
     room = room;
+    queue = queue;
   }

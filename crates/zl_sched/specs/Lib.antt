@@ -1,2 +1,4 @@
 pub mod Follows
+pub mod Queueing
+pub mod Ready
 pub mod System

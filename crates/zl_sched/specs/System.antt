@@ -1,4 +1,4 @@
--- A lab with its trace, what it was booted from, and what turns do to it.
+-- A lab with its trace, what it was booted from, its ready list, and what turns do to them.
 use Rattle.std.specs.Prelude.{ℕ, ◌≡◌, ◌<◌, ◌≤◌, ◌-◌, false, List, [], ◌∷◌, ◌++◌, length, IsTrue}
 use Rattle.zl_code.specs.Common.{World as WorldValue, Library, Step, IsLegalHistory}
 use Rattle.zl_code.specs.Boot.{IsBooted}
@@ -9,13 +9,16 @@ use Rattle.zl_sched.specs.declared.system.Stepped.{Stepped}
 use Rattle.zl_sched.specs.declared.system.Stepped.TheVariants as stepped
 use Rattle.zl_sched.specs.declared.system.End.{End}
 use Rattle.zl_sched.specs.Follows.{EndsBy}
+use Rattle.zl_sched.specs.Ready.{AreReady, queued_after, ready_by_koid}
 
--- a lab, the items of its steps so far, the statements that it was booted from, and how many items there may be
+-- a lab, the items of its steps so far, the statements that it was booted from, how many items there may be,
+-- and the list of its ready processes
 pub record System : Type 0 where
   pub lab : World
   pub items : List TraceItem
   pub statements : List Statement
   pub limit : ℕ
+  pub ready : List ℕ
 
 -- ---- where it comes from
 
@@ -33,6 +36,12 @@ pub record HasBooted (lib : Library) (statements : List Statement) (limit : ℕ)
   pub items : s.items ≡ []
   pub statements_are : s.statements ≡ statements
   pub limit_is : s.limit ≡ limit
+  pub ready : s.ready ≡ ready_by_koid s.lab.world
+
+-- what is true of every system: its trace is legal, and its list is that of the ready processes
+pub record IsWhole (s : System) : Type 0 where
+  pub legal : IsLegal s
+  pub are_ready : AreReady s.lab.world s.ready
 
 -- ---- what comes to it
 
@@ -52,6 +61,7 @@ pub record Runs (s : System) (pid : ℕ) (s2 : System) : Type 0 where
   pub step : Step s.lab.programs s.lab.world pid item s2.lab.world
   pub ready : IsTrue (is_ready_in s.lab pid)
   pub room : length s.items < s.limit
+  pub queue : s2.ready ≡ queued_after s.lab.world pid s2.lab.world s.ready
 
 -- what a turn does, by its answer: all but a step changes nothing
 abbrev pub Turns : System → ℕ → Stepped → System → Type 0

@@ -1,16 +1,19 @@
 //! A world with its trace, booted from statements and stepped along a schedule.
-ghost use Rattle.std.specs.Prelude.{◌≡◌, ◌≢◌, IfOk, IfErr, replicate, if◌then◌else◌};
+ghost use Rattle.std.specs.Prelude.{◌≡◌, ◌≢◌, ◌≤◌, ◌↔◌, IfOk, IfErr, OnOk, IsTrue, length, replicate, vec_capacity, if◌then◌else◌};
 ghost use Rattle.zl_code.specs.declared.boot.BootCause.TheVariants.{NoMemory};
 ghost use Rattle.zl_code.specs.Boot.{FirstFault};
 ghost use Rattle.zl_calls.specs.Makes.{IsReached};
 ghost use Rattle.zl_calls.specs.World.{is_ready_in};
 ghost use Rattle.zl_sched.specs.Follows.{turns_of};
+ghost use Rattle.zl_sched.specs.Queueing.{leaves_ready as item_leaves_ready};
+ghost use Rattle.zl_sched.specs.Ready.{AreReady, IsIdle};
 ghost use Rattle.zl_sched.specs.System.{HasBooted, IsLegal, Turns, Walks};
 
-use std::alloc::Global;
+use crate::ready::{is_ready, move_last, ready_by_koid, requeue};
+use std::alloc::{AllocError, Global};
 use std::marker::Model;
 use zl_calls::World;
-use zl_code::{Boot, BootFault, ProcState, TraceItem};
+use zl_code::{Boot, BootCause, BootFault, CallName, Outcome, TraceItem};
 use zl_interp::Library;
 use zl_rights::Pid;
 
@@ -50,10 +53,12 @@ pub struct System {
     world: World,
     items: Vec<TraceItem>,
     boot: Boot,
+    // The ready processes, the longest ready first. Each step makes room for all that there are.
+    ready: Vec<Pid>,
 }
 
 impl Model for System {
-    ghost use Rattle.zl_sched.specs.System.{System as SystemValue, IsLegal};
+    ghost use Rattle.zl_sched.specs.System.{System as SystemValue, IsWhole};
 
     ghost Value = { SystemValue };
 
@@ -62,13 +67,15 @@ impl Model for System {
       items = s.items.items;
       statements = s.boot.statements.items;
       limit = s.boot.limit;
+      ready = s.ready.items;
     } };
 
-    ghost invariant = { λ s. IsLegal (record {
+    ghost invariant = { λ s. IsWhole (record {
       lab = s.world;
       items = s.items.items;
       statements = s.boot.statements.items;
       limit = s.boot.limit;
+      ready = s.ready.items;
     }) };
 }
 
@@ -91,7 +98,18 @@ impl System {
         // Room for the whole trace, so that it isn't moved as it grows. Where that is refused, each step
         // asks for its own.
         let _ = items.reserve(boot.limit as usize);
-        Ok(System { world, items, boot })
+        let Ok(ready) = ready_by_koid(alloc, &world) else {
+            return Err(BootFault {
+                statement: 0,
+                cause: BootCause::NoMemory,
+            });
+        };
+        Ok(System {
+            world,
+            items,
+            boot,
+            ready,
+        })
     }
 
     /// The world as it stands.
@@ -99,6 +117,13 @@ impl System {
         ensures { result.now ≡ self.now.lab }
     {
         &self.world
+    }
+
+    /// Whether no process is ready.
+    pub fn idle(&self) -> bool
+        ensures { IsTrue result ↔ IsIdle self.now.lab.world }
+    {
+        self.ready.is_empty()
     }
 
     /// The world alone; the trace is gone.
@@ -121,6 +146,8 @@ impl System {
     ///
     /// `NotReady` comes for a process that isn't ready, whatever else is so; else `Limit` where the
     /// trace is full, and `NoMemory` where room for the item is refused.
+    // A run along a schedule calls it for each turn.
+    #[inline(always)]
     pub fn step(&mut self, pid: Pid) -> Stepped
         ensures { Turns self.old pid result self.new }
     {
@@ -130,15 +157,26 @@ impl System {
         if self.items.reserve(1).is_err() {
             return self.refused(pid, Stepped::NoMemory);
         }
+        if make_room(&mut self.ready, &self.world).is_err() {
+            return self.refused(pid, Stepped::NoMemory);
+        }
+        let blocked = self.world.blocked_count();
         let Some(item) = self.world.step(pid) else {
             return Stepped::NotReady;
         };
         self.items.push(item).unwrap();
+        if leaves_ready(&item) && self.world.blocked_count() == blocked {
+            move_last(&mut self.ready, pid);
+        } else {
+            requeue(&mut self.ready, &self.world, pid);
+        }
         Stepped::Ran
     }
 
     /// The answer to a turn that the trace has no room for, which a process that isn't ready doesn't
     /// need.
+    #[cold]
+    #[inline(never)]
     fn refused(&self, pid: Pid, answer: Stepped) -> Stepped
         ensures { result ≡ (if is_ready_in self.now.lab pid then answer else Stepped.NotReady) }
     {
@@ -181,8 +219,25 @@ impl System {
     }
 }
 
-fn is_ready(world: &World, pid: Pid) -> bool
-    ensures { result ≡ is_ready_in world.now pid }
+/// Room in the list for each process that there is.
+fn make_room(ready: &mut Vec<Pid>, world: &World) -> Result<(), AllocError>
+    ensures room { OnOk result (length world.now.world.processes ≤ vec_capacity ready.new) }
+    ensures items { ready.new.items ≡ ready.old.items }
 {
-    matches!(world.state_of(pid), ProcState::Ready)
+    ready.reserve(world.process_count())
+}
+
+/// Whether the step that the item tells of started and ended no process, and blocked none.
+fn leaves_ready(item: &TraceItem) -> bool
+    ensures { result ≡ item_leaves_ready item.now }
+{
+    match item {
+        TraceItem::Run { .. } => true,
+        TraceItem::Call {
+            call,
+            outcome: Outcome::Answered(_),
+            ..
+        } => { !matches!(call, CallName::ProcessStart | CallName::TaskKill) }
+        _ => false,
+    }
 }

@@ -1,25 +1,64 @@
-use Rattle.zl_sched.proofs.Common.{arith, rules, System}
-use Rattle.zl_sched.proofs.Legal.{legal_more}
-use Rattle.zl_sched.proofs.TurnTold.{limit_told, memory_told, step_told}
+use Rattle.zl_sched.proofs.Common.{◌≡◌, ◌≤◌, ◌∙◌, ◌++◌, ◌∷◌, [], ℕ, List, ap, arith, length, rules, subst, sym, System}
+use Rattle.std.specs.Prelude.{not, ◌==◌, vec_capacity}
+use Rattle.std.specs.List.{filter}
+use Rattle.zl_calls.proofs.BootMaking.{done}
+use Rattle.zl_sched.specs.Queueing.{requeued}
+use Rattle.zl_sched.specs.Ready.{queued_after}
+use Rattle.zl_sched.proofs.TurnTold.{limit_told, step_told}
+use Rattle.zl_sched.proofs.TurnQueued.{by_move, by_requeue, places, still_whole}
 use Rattle.zl_sched.proofs.system.System.step.Goals as goal
 
 pub returns-then-len-self : goal.returns-then-len-self
 returns-then-len-self c =
     rw c.refused.ensures (limit_told c.args.self.now c.args.pid (rw (← c.self.view_is) (omega (arith, c.if-len-self.true, c.len.ensures, c.self.inside.items.ok.0))))
 
-pub returns-then-is_err : goal.returns-then-is_err
-returns-then-is_err c =
-    rw (c.refused-then-is_err.ensures, c.reserve.ensures.items, ← c.self.view_is)
-    (memory_told (record { lab = c.self.inside.world; items = c.self.inside.items.items; statements = c.self.inside.boot.statements.items; limit = c.self.inside.boot.limit }) c.args.pid (omega (arith, c.if-len-self.false, c.len.ensures, c.self.inside.items.ok.0)))
+pub requeue-requires : goal.requeue-requires
+requeue-requires c =
+    let before : System = record { lab = c.self.inside.world; items = c.self.inside.items.items; statements = c.self.inside.boot.statements.items; limit = c.self.inside.boot.limit; ready = c.self.inside.ready.items } in
+    let room : length before.lab.world.processes ≤ vec_capacity c.make_room.new.ready = done _ _ (c.if-is_err-2.ensures {u = tt}).value c.make_room.ensures.room in
+    record {
+      room = subst (λ (ys : List ℕ). length (requeued c.step.new.self.world c.args.pid ys) ≤ vec_capacity c.make_room.new.ready) (sym c.make_room.ensures.items)
+          (omega (arith, room, places before c.self.invariant c.args.pid c.step.new.self c.in-Some.item (c.in-Some.ensures {u = tt}).ran));
+    }
 
-pub invariant_of-self-2 : goal.invariant_of-self-2
-invariant_of-self-2 c =
-    let before : System = record { lab = c.self.inside.world; items = c.self.inside.items.items; statements = c.self.inside.boot.statements.items; limit = c.self.inside.boot.limit } in
-    legal_more before c.args.pid (record before { lab = c.step.new.self; items = c.push.new.self.items }) c.self.invariant
-    (step_told before c.args.pid c.step.new.self c.push.new.self.items c.in-Some.item (c.in-Some.ensures {u = tt}).ran (search rules) (omega (arith, c.if-len-self.false, c.len.ensures, c.self.inside.items.ok.0)))
+-- ---- where the same are ready
 
-pub returns : goal.returns
-returns c =
-    let before : System = record { lab = c.self.inside.world; items = c.self.inside.items.items; statements = c.self.inside.boot.statements.items; limit = c.self.inside.boot.limit } in
+pub invariant_of-self-then-blocked_count-blocked : goal.invariant_of-self-then-blocked_count-blocked
+invariant_of-self-then-blocked_count-blocked c =
+    let before : System = record { lab = c.self.inside.world; items = c.self.inside.items.items; statements = c.self.inside.boot.statements.items; limit = c.self.inside.boot.limit; ready = c.self.inside.ready.items } in
+    let as_long : length c.step.new.self.world.blocked ≡ length before.lab.world.blocked = sym c.blocked_count.ensures ∙ (c.if-blocked_count-blocked.true ∙ c.blocked_count-blocked.ensures) in
+    let queue : c.move_last.new.ready.items ≡ queued_after before.lab.world c.args.pid c.step.new.self.world before.ready
+    = by_move before c.self.invariant c.args.pid c.step.new.self c.in-Some.item (c.in-Some.ensures {u = tt}).ran (sym (c.if-leaves_ready.ensures {u = tt})) as_long c.move_last.new.ready.items
+    (c.move_last.ensures.items ∙ ap (λ (ys : List ℕ). filter (λ q. not (q == c.args.pid)) ys ++ (c.args.pid ∷ [])) c.make_room.ensures.items) in
+    still_whole before c.self.invariant c.args.pid c.step.new.self c.in-Some.item (c.in-Some.ensures {u = tt}).ran c.push.new.self.items c.move_last.new.ready.items
+    (search rules) (omega (arith, c.if-len-self.false, c.len.ensures, c.self.inside.items.ok.0)) queue
+
+pub returns-then-blocked_count-blocked : goal.returns-then-blocked_count-blocked
+returns-then-blocked_count-blocked c =
+    let before : System = record { lab = c.self.inside.world; items = c.self.inside.items.items; statements = c.self.inside.boot.statements.items; limit = c.self.inside.boot.limit; ready = c.self.inside.ready.items } in
+    let as_long : length c.step.new.self.world.blocked ≡ length before.lab.world.blocked = sym c.blocked_count.ensures ∙ (c.if-blocked_count-blocked.true ∙ c.blocked_count-blocked.ensures) in
+    let queue : c.move_last.new.ready.items ≡ queued_after before.lab.world c.args.pid c.step.new.self.world before.ready
+    = by_move before c.self.invariant c.args.pid c.step.new.self c.in-Some.item (c.in-Some.ensures {u = tt}).ran (sym (c.if-leaves_ready.ensures {u = tt})) as_long c.move_last.new.ready.items
+    (c.move_last.ensures.items ∙ ap (λ (ys : List ℕ). filter (λ q. not (q == c.args.pid)) ys ++ (c.args.pid ∷ [])) c.make_room.ensures.items) in
     rw (← c.self.view_is)
-    (step_told before c.args.pid c.step.new.self c.push.new.self.items c.in-Some.item (c.in-Some.ensures {u = tt}).ran (search rules) (omega (arith, c.if-len-self.false, c.len.ensures, c.self.inside.items.ok.0)))
+    (step_told before c.args.pid c.step.new.self c.push.new.self.items c.move_last.new.ready.items c.in-Some.item (c.in-Some.ensures {u = tt}).ran (search rules) (omega (arith, c.if-len-self.false, c.len.ensures, c.self.inside.items.ok.0)) queue)
+
+-- ---- where others may be
+
+pub invariant_of-self-else-leaves_ready : goal.invariant_of-self-else-leaves_ready
+invariant_of-self-else-leaves_ready c =
+    let before : System = record { lab = c.self.inside.world; items = c.self.inside.items.items; statements = c.self.inside.boot.statements.items; limit = c.self.inside.boot.limit; ready = c.self.inside.ready.items } in
+    let queue : c.requeue.new.ready.items ≡ queued_after before.lab.world c.args.pid c.step.new.self.world before.ready
+    = by_requeue before c.self.invariant c.args.pid c.step.new.self c.in-Some.item (c.in-Some.ensures {u = tt}).ran c.requeue.new.ready.items
+    (c.requeue.ensures.items ∙ ap (requeued c.step.new.self.world c.args.pid) c.make_room.ensures.items) in
+    still_whole before c.self.invariant c.args.pid c.step.new.self c.in-Some.item (c.in-Some.ensures {u = tt}).ran c.push.new.self.items c.requeue.new.ready.items
+    (search rules) (omega (arith, c.if-len-self.false, c.len.ensures, c.self.inside.items.ok.0)) queue
+
+pub returns-else-leaves_ready : goal.returns-else-leaves_ready
+returns-else-leaves_ready c =
+    let before : System = record { lab = c.self.inside.world; items = c.self.inside.items.items; statements = c.self.inside.boot.statements.items; limit = c.self.inside.boot.limit; ready = c.self.inside.ready.items } in
+    let queue : c.requeue.new.ready.items ≡ queued_after before.lab.world c.args.pid c.step.new.self.world before.ready
+    = by_requeue before c.self.invariant c.args.pid c.step.new.self c.in-Some.item (c.in-Some.ensures {u = tt}).ran c.requeue.new.ready.items
+    (c.requeue.ensures.items ∙ ap (requeued c.step.new.self.world c.args.pid) c.make_room.ensures.items) in
+    rw (← c.self.view_is)
+    (step_told before c.args.pid c.step.new.self c.push.new.self.items c.requeue.new.ready.items c.in-Some.item (c.in-Some.ensures {u = tt}).ran (search rules) (omega (arith, c.if-len-self.false, c.len.ensures, c.self.inside.items.ok.0)) queue)

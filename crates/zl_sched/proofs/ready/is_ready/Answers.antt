@@ -1,6 +1,6 @@
 use Rattle.zl_sched.proofs.Common.{sym, ◌∙◌}
 use Rattle.zl_sched.proofs.ReadyProcess.{ready_by, busy_by}
-use Rattle.zl_sched.proofs.system.is_ready.Goals as goal
+use Rattle.zl_sched.proofs.ready.is_ready.Goals as goal
 
 pub returns-in-Ready : goal.returns-in-Ready
 returns-in-Ready c = sym (ready_by c.args.world.now c.args.pid (sym c.state_of.ensures ∙ c.in-Ready.is))

@@ -1,0 +1,57 @@
+-- Processes that come to a list one after another, where they pass a test.
+use Rattle.zl_sched.proofs.Common.{◌≡◌, ◌<◌, ◌≤◌, ◌+◌, ◌∙◌, ◌++◌, ◌∷◌, [], ℕ, Bool, List, length, length-append, append_assoc, take, append-nil, true, false, refl, sym, ap, subst, arith, Some, is_process, is_ready}
+use Rattle.std.specs.Prelude.{slice_get}
+use Rattle.std.specs.List.{filter}
+use Rattle.std.proofs.Math.Seq.{take-append_seam}
+use Rattle.zl_code.proofs.Common.{World}
+use Rattle.zl_sched.specs.Ready.{still_ready, itself_ready}
+use Rattle.zl_sched.specs.Queueing.{joining, one_if, requeued}
+use Rattle.zl_sched.proofs.Queued.{filtered_more, fewer_first}
+
+-- those that were there stay in front
+pub stays_front : (a rest items : List ℕ) (n : ℕ) → items ≡ a ++ rest → n ≡ length a → take n items ≡ a
+stays_front a rest items n is long = rw (is, long) (take-append_seam a rest)
+
+-- the n-th process comes, or doesn't
+module _ (f : ℕ → Bool) (a xs : List ℕ) (n x : ℕ) (items : List ℕ) (so_far : items ≡ a ++ filter f (take n xs)) (at : slice_get xs n ≡ Some x) (passes : Bool) (is : passes ≡ f x) where
+  pub comes : (items2 : List ℕ) → items2 ≡ items ++ one_if passes x → items2 ≡ a ++ filter f (take (n + 1) xs)
+  comes items2 added = added ∙ rw (so_far, is) (append_assoc a (filter f (take n xs)) (one_if (f x) x) ∙ ap (λ (ys : List ℕ). a ++ ys) (sym (filtered_more f n x xs at)))
+
+  pub has_place : (places : ℕ) → length (a ++ filter f xs) ≤ places → length items + length (one_if passes x) ≤ places
+  has_place places room =
+      let long : length items + length (one_if passes x) ≡ length (a ++ filter f (take (n + 1) xs)) = sym (length-append items (one_if passes x)) ∙ ap length (comes (items ++ one_if passes x) refl) in
+      omega (arith, long, room, length-append a (filter f (take (n + 1) xs)), length-append a (filter f xs), fewer_first f (n + 1) xs)
+
+-- ---- the parts of a list that has room as a whole
+
+pub front_fits : (xs ys zs : List ℕ) (places : ℕ) → length (xs ++ (ys ++ zs)) ≤ places → length (xs ++ ys) ≤ places
+front_fits xs ys zs places room = omega (arith, room, length-append xs (ys ++ zs), length-append ys zs, length-append xs ys)
+
+pub last_fits : (xs ys : List ℕ) (p places : ℕ) → length (xs ++ (ys ++ (p ∷ []))) ≤ places → length (xs ++ ys) < places
+last_fits xs ys p places room =
+    let one : length (p ∷ []) ≡ 1 = refl in
+    omega (arith, room, one, length-append xs (ys ++ (p ∷ [])), length-append ys (p ∷ []), length-append xs ys)
+
+-- ---- the list after a step, of which some were kept and others joined them
+
+module _ (w : World) (p : ℕ) (list kept joined : List ℕ) (is_kept : kept ≡ still_ready w p list) (is_joined : joined ≡ kept ++ joining w p kept) where
+  joined_is : joined ≡ still_ready w p list ++ joining w p (still_ready w p list)
+  joined_is = is_joined ∙ ap (λ (ys : List ℕ). ys ++ joining w p ys) is_kept
+
+  pub join_fits : (places : ℕ) → length (requeued w p list) ≤ places → length (kept ++ joining w p kept) ≤ places
+  join_fits places room =
+      subst (λ (ys : List ℕ). length ys ≤ places) (sym joined_is ∙ is_joined) (front_fits (still_ready w p list) (joining w p (still_ready w p list)) (itself_ready w p) places room)
+
+  pub push_fits : (places : ℕ) → length (requeued w p list) ≤ places → is_process w is_ready p ≡ true → length joined < places
+  push_fits places room ready =
+      subst (λ (ys : List ℕ). length ys < places) (sym joined_is) (last_fits (still_ready w p list) (joining w p (still_ready w p list)) p places
+      (subst (λ (ys : List ℕ). length (still_ready w p list ++ (joining w p (still_ready w p list) ++ ys)) ≤ places) itself room))
+    where
+      itself : itself_ready w p ≡ p ∷ []
+      itself = rw ready refl
+
+  pub requeued_with : is_process w is_ready p ≡ true → joined ++ (p ∷ []) ≡ requeued w p list
+  requeued_with ready = rw (joined_is, ready) (append_assoc (still_ready w p list) (joining w p (still_ready w p list)) (p ∷ []))
+
+  pub requeued_without : is_process w is_ready p ≡ false → joined ≡ requeued w p list
+  requeued_without busy = rw (joined_is, busy) (ap (λ (ys : List ℕ). still_ready w p list ++ ys) (sym (append-nil (joining w p (still_ready w p list)))))

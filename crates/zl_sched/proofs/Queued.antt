@@ -1,0 +1,213 @@
+-- The ready list after a step: the code's is that of the definitions, holds each ready process once, and has room.
+use Rattle.zl_sched.proofs.Common.{◌-◌, take, drop, take_more, take-append-drop, get_or, ◌≡◌, ◌<◌, ◌≤◌, ◌+◌, ◌∙◌, ℕ, Bool, true, false, List, [], ◌∷◌, ◌++◌, length, refl, sym, ap, subst, arith, inl, inr, cases_Bool, IsTrue, Option, Some, None, if◌then◌else◌, get, is_process, is_ready, state_passes, append-nil, length-append}
+use Rattle.std.specs.Prelude.{◌&&◌, not, ◌==◌, nat_lt}
+use Rattle.std.specs.List.{filter, list_any}
+use Rattle.std.proofs.lemmas.List.Elements.{filter-append}
+use Rattle.std.proofs.lemmas.List.{take_all}
+use Rattle.std.proofs.lemmas.List.Filters.{length-filter_both}
+use Rattle.zl_rights.proofs.Common.{nat_tests, false≢true}
+use Rattle.std.proofs.lemmas.Map.Views.{any-filter_same}
+use Rattle.zl_code.proofs.Common.{World, Process, is_some, has_key, eq-eqb, eqb-true, ne_eqb, IsSound}
+use Rattle.zl_code.proofs.Changes.{times}
+use Rattle.zl_calls.proofs.BlockedLists.{none_filtered}
+use Rattle.zl_sched.specs.Ready.{pids_of, ready_by_koid, AreReady, still_ready, became_ready, itself_ready, queued_after}
+use Rattle.zl_sched.specs.Queueing.{joins, one_if, requeued}
+use Rattle.std.specs.Prelude.{slice_get}
+use Rattle.std.proofs.lemmas.Option.{slice_get_within, get_or_from_slice_get}
+use Rattle.zl_sched.proofs.Counted.{times-filter, times-append, any_counted, key_once, no_longer, one_at_most}
+
+-- who passes is there
+ready_key : (w : World) (k : ℕ) → is_process w is_ready k ≡ true → IsTrue (has_key w.processes k)
+unfolding is_process
+ready_key w k ready = by_process (get w.processes k) ready
+  where
+    by_process : (o : Option Process) → state_passes is_ready o ≡ true → IsTrue (is_some o)
+    by_process (Some x) h = refl
+    by_process None h = absurd (cc)
+
+-- the ready ones by koid are each ready process once
+pub by_koid_ready : (w : World) → IsSound w → AreReady w (ready_by_koid w)
+by_koid_ready w sound k = times-filter (λ q. is_process w is_ready q) k (pids_of w) ∙ by_test (is_process w is_ready k) refl
+  where
+    by_test : (b : Bool) → is_process w is_ready k ≡ b → (if b then times k (pids_of w) else 0) ≡ (if b then 1 else 0)
+    by_test true e = key_once k w.processes sound.handles.processes (ready_key w k e)
+    by_test false e = refl
+
+module _ (w after : World) (p : ℕ) (list : List ℕ) (are : AreReady w list) (ready : is_process w is_ready p ≡ true) where
+  -- ---- what the code makes is what the definitions have
+
+  listed_is : (q : ℕ) → list_any (λ x. x == q) list ≡ is_process w is_ready q
+  listed_is q = any_counted (λ x. x == q) list ∙ (ap (nat_lt 0) (are q) ∙ by_test (is_process w is_ready q))
+    where
+      by_test : (b : Bool) → nat_lt 0 (if b then 1 else 0) ≡ b
+      by_test true = refl
+      by_test false = refl
+
+  joins_is : (q : ℕ) → joins after p (still_ready after p list) q ≡ (is_process after is_ready q && not (is_process w is_ready q))
+  joins_is q = rw (
+    any-filter_same (λ x. x == q) (λ x. is_process after is_ready x && not (x == p)) (is_process after is_ready q && not (q == p))
+        (λ x here. ap (λ y. is_process after is_ready y && not (y == p)) (eqb-true x q here)) list,
+    listed_is q,
+  )
+      (by_tests (is_process after is_ready q) (is_process w is_ready q) (q == p) (λ here. ap (λ y. is_process w is_ready y) (eqb-true q p here) ∙ ready))
+    where
+      by_tests : (now was same : Bool) → (same ≡ true → was ≡ true) → (now && (not ((now && not same) && was) && not same)) ≡ (now && not was)
+      by_tests false was same h = refl
+      by_tests true was true h = rw (h refl) refl
+      by_tests true true false h = refl
+      by_tests true false false h = refl
+
+  pub requeued_is : requeued after p list ≡ queued_after w p after list
+  requeued_is = λ i. still_ready after p list ++ (filter (λ q. joins_is q i) (pids_of after) ++ itself_ready after p)
+
+  -- ---- each ready process is in it once
+
+  itself_other : (k : ℕ) → (p == k) ≡ false → (b : Bool) → times k (if b then p ∷ [] else []) ≡ 0
+  itself_other k apart true = rw apart refl
+  itself_other k apart false = refl
+
+  itself_here : (b : Bool) → times p (if b then p ∷ [] else []) ≡ (if b then 1 else 0)
+  itself_here true = rw (eq-eqb p p refl) refl
+  itself_here false = refl
+
+  parts : (k : ℕ) → times k (queued_after w p after list)
+      ≡ (if is_process after is_ready k && not (k == p) then times k list else 0)
+      + ((if is_process after is_ready k && not (is_process w is_ready k) then times k (pids_of after) else 0) + times k (itself_ready after p))
+  parts k = times-append k (still_ready after p list) _
+      ∙ rw (
+        times-append k (became_ready w after) (itself_ready after p),
+        times-filter (λ q. is_process after is_ready q && not (q == p)) k list,
+        times-filter (λ q. is_process after is_ready q && not (is_process w is_ready q)) k (pids_of after),
+      ) refl
+
+  at_itself : (b : Bool) → (if b && not true then times p list else 0) + ((if b && not true then times p (pids_of after) else 0) + (if b then 1 else 0)) ≡ (if b then 1 else 0)
+  at_itself true = refl
+  at_itself false = refl
+
+  at_other : (now was : Bool) (n m : ℕ) → n ≡ (if was then 1 else 0) → (now ≡ true → m ≡ 1) → (if now && not false then n else 0) + ((if now && not was then m else 0) + 0) ≡ (if now then 1 else 0)
+  at_other false was n m counted once = refl
+  at_other true true n m counted once = omega (arith, counted)
+  at_other true false n m counted once = omega (arith, counted, once refl)
+
+  pub queued_ready : IsSound after → AreReady after (queued_after w p after list)
+  queued_ready sound k = elim (cases_Bool (k == p)) as (λ _. times k (queued_after w p after list) ≡ (if is_process after is_ready k then 1 else 0)) [
+    | inl here ↦ subst (λ (j : ℕ). times j (queued_after w p after list) ≡ (if is_process after is_ready j then 1 else 0)) (sym (eqb-true k p here))
+        (parts p ∙ rw (eq-eqb p p refl, ready, itself_here (is_process after is_ready p)) (at_itself (is_process after is_ready p)))
+    | inr apart ↦ parts k ∙ rw (apart, itself_other k (other_way apart) (is_process after is_ready p))
+        (at_other (is_process after is_ready k) (is_process w is_ready k) (times k list) (times k (pids_of after)) (are k) (λ now. key_once k after.processes sound.handles.processes (ready_key after k now)))
+  ]
+    where
+      other_way : (k == p) ≡ false → (p == k) ≡ false
+      other_way apart = ne_eqb p k (λ same. let no : false ≡ true = sym apart ∙ eq-eqb k p (sym same) in cc)
+
+  -- ---- its room
+
+  pub queued_room : IsSound after → ((q : ℕ) → get w.processes q ≡ None → is_process after is_ready q ≡ false) → length (queued_after w p after list) ≤ length w.processes
+  queued_room sound fresh = no_longer w.processes (queued_after w p after list) (λ k. at_most k (get w.processes k) refl)
+    where
+      at_most : (k : ℕ) (o : Option Process) → get w.processes k ≡ o → times k (queued_after w p after list) ≤ (if is_some o then 1 else 0)
+      at_most k None e = let none : ◌≡◌ {A = ℕ} (if is_process after is_ready k then 1 else 0) 0 = rw (fresh k e) refl in omega (arith, queued_ready sound k, none)
+      at_most k (Some x) e = omega (arith, queued_ready sound k, one_at_most (is_process after is_ready k))
+
+  -- ---- where all others are as ready as before
+
+  module _ (same : (k : ℕ) → is_process after is_ready k ≡ is_process w is_ready k) where
+    stays : (xs : List ℕ) → ((k : ℕ) → 0 < times k xs → is_process w is_ready k ≡ true) → filter (λ q. is_process w is_ready q && not (q == p)) xs ≡ filter (λ q. not (q == p)) xs
+    stays [] all = refl
+    stays (x ∷ xs) all =
+        let first : is_process w is_ready x ≡ true = all x (at_front x) in
+        rw first (by_test (not (x == p)) (stays xs (λ k some. all k (further k some (x == k) refl))))
+      where
+        at_front : (x : ℕ) → 0 < times x (x ∷ xs)
+        at_front x = rw (eq-eqb x x refl) (omega arith)
+
+        further : (k : ℕ) → 0 < times k xs → (b : Bool) → (x == k) ≡ b → 0 < times k (x ∷ xs)
+        further k some true e = rw e (omega arith)
+        further k some false e = rw e some
+
+        by_test : (b : Bool) → filter (λ q. is_process w is_ready q && not (q == p)) xs ≡ filter (λ q. not (q == p)) xs
+            → (if b then x ∷ filter (λ q. is_process w is_ready q && not (q == p)) xs else filter (λ q. is_process w is_ready q && not (q == p)) xs) ≡ (if b then x ∷ filter (λ q. not (q == p)) xs else filter (λ q. not (q == p)) xs)
+        by_test true e = ap (λ (ys : List ℕ). x ∷ ys) e
+        by_test false e = e
+
+    none_joins : (xs : List ℕ) → filter (λ q. is_process w is_ready q && not (is_process w is_ready q)) xs ≡ []
+    none_joins [] = refl
+    none_joins (x ∷ xs) = elim (cases_Bool (is_process w is_ready x)) as (λ _. filter (λ q. is_process w is_ready q && not (is_process w is_ready q)) (x ∷ xs) ≡ []) [
+      | inl now ↦ rw now (none_joins xs)
+      | inr not_now ↦ rw not_now (none_joins xs)
+    ]
+
+    in_list : (k : ℕ) → 0 < times k list → is_process w is_ready k ≡ true
+    in_list k some = by_test (is_process w is_ready k) (subst (λ (n : ℕ). 0 < n) (are k) some)
+      where
+        by_test : (b : Bool) → 0 < (if b then 1 else 0) → b ≡ true
+        by_test true h = refl
+        by_test false h = absurd (omega (arith, h))
+
+    pub moved_is : filter (λ q. not (q == p)) list ++ (p ∷ []) ≡ queued_after w p after list
+    moved_is = sym (rw (still, joined, itself) refl)
+      where
+        still : still_ready after p list ≡ filter (λ q. not (q == p)) list
+        still = (λ i. filter (λ q. same q i && not (q == p)) list) ∙ stays list in_list
+
+        joined : became_ready w after ≡ []
+        joined = (λ i. filter (λ q. same q i && not (is_process w is_ready q)) (pids_of after)) ∙ none_joins (pids_of after)
+
+        itself : itself_ready after p ≡ p ∷ []
+        itself = rw (same p ∙ ready) refl
+
+    pub once_listed : times p list ≡ 1
+    once_listed = are p ∙ rw ready refl
+
+-- the last of a list in which it stands once stays where it is
+pub last_stays : (p : ℕ) (xs : List ℕ) → times p (xs ++ (p ∷ [])) ≡ 1 → xs ++ (p ∷ []) ≡ filter (λ q. not (q == p)) (xs ++ (p ∷ [])) ++ (p ∷ [])
+last_stays p xs once =
+    let here : times p (p ∷ []) ≡ 1 = rw (eq-eqb p p refl) refl in
+    let none : times p xs ≡ 0 = omega (arith, times-append p xs (p ∷ []), here, once) in
+    sym (ap (λ (ys : List ℕ). ys ++ (p ∷ [])) (filter-append (λ q. not (q == p)) xs (p ∷ []) ∙ (rw (none_filtered p xs none, eq-eqb p p refl) (append-nil xs))))
+
+pub last_stays_at : (p : ℕ) (xs : List ℕ) → 0 < length xs → get_or xs (length xs - 1) p ≡ p → times p xs ≡ 1 → xs ≡ filter (λ q. not (q == p)) xs ++ (p ∷ [])
+last_stays_at p xs some is once =
+    let ends : xs ≡ take (length xs - 1) xs ++ (p ∷ []) = sym (take_all (length xs - 1 + 1) xs (omega (arith, some))) ∙ (take_more xs (length xs - 1) p (omega (arith, some)) ∙ ap (λ (x : ℕ). take (length xs - 1) xs ++ (x ∷ [])) is) in
+    subst (λ (ys : List ℕ). ys ≡ filter (λ q. not (q == p)) ys ++ (p ∷ [])) (sym ends) (last_stays p (take (length xs - 1) xs) (ap (times p) (sym ends) ∙ once))
+
+-- one place more than are left without p
+pub room_left : (p : ℕ) (xs : List ℕ) → times p xs ≡ 1 → length (filter (λ q. not (q == p)) xs) + 1 ≡ length xs
+room_left p xs once =
+    let both : times p xs + length (filter (λ q. not (q == p)) xs) ≡ length xs = length-filter_both (λ q. q == p) (λ q. not (q == p)) (λ q. refl) xs in
+    omega (arith, both, once)
+
+-- one element more passes, or doesn't
+pub filtered_more : (f : ℕ → Bool) (n x : ℕ) (xs : List ℕ) → slice_get xs n ≡ Some x → filter f (take (n + 1) xs) ≡ filter f (take n xs) ++ one_if (f x) x
+filtered_more f n x xs at =
+    let bound : n < length xs = slice_get_within xs n x at in
+    ap (filter f) (take_more xs n x bound ∙ ap (λ (y : ℕ). take n xs ++ (y ∷ [])) (get_or_from_slice_get xs n x x at)) ∙ (filter-append f (take n xs) (x ∷ []) ∙ ap (λ (ys : List ℕ). filter f (take n xs) ++ ys) (alone (f x) refl))
+  where
+    alone : (b : Bool) → f x ≡ b → filter f (x ∷ []) ≡ one_if b x
+    alone true e = rw e refl
+    alone false e = rw e refl
+
+-- no more pass among the first than among all
+pub fewer_first : (f : ℕ → Bool) (n : ℕ) (xs : List ℕ) → length (filter f (take n xs)) ≤ length (filter f xs)
+fewer_first f n xs =
+    let both : length (filter f (take n xs)) + length (filter f (drop n xs)) ≡ length (filter f xs)
+    = sym (length-append (filter f (take n xs)) (filter f (drop n xs))) ∙ (sym (ap length (filter-append f (take n xs) (drop n xs))) ∙ ap (λ (ys : List ℕ). length (filter f ys)) (take-append-drop n xs)) in
+    omega (arith, both)
+
+-- no process is ready where the list is empty, and only there
+pub idle_by : (w : World) (list : List ℕ) → AreReady w list → (is_idle : Bool) → is_idle ≡ (length list == 0) → (IsTrue is_idle → (k : ℕ) → is_process w is_ready k ≡ false) × (((k : ℕ) → is_process w is_ready k ≡ false) → IsTrue is_idle)
+idle_by w [] are is_idle is = ((λ _ k. by_test (is_process w is_ready k) (are k)), (λ _. rw is refl))
+  where
+    by_test : (b : Bool) → ◌≡◌ {A = ℕ} 0 (if b then 1 else 0) → b ≡ false
+    by_test true h = absurd (omega (arith, h))
+    by_test false h = refl
+idle_by w (x ∷ list) are is_idle is = ((λ yes. absurd (false≢true (sym no ∙ yes))), (λ none. absurd (counted none)))
+  where
+    no : is_idle ≡ false
+    no = rw is (grind (arith, nat_tests))
+
+    counted : ((k : ℕ) → is_process w is_ready k ≡ false) → ⊥
+    counted none =
+        let there : times x (x ∷ list) ≡ times x list + 1 = rw (eq-eqb x x refl) (omega arith) in
+        let is_none : ◌≡◌ {A = ℕ} (if is_process w is_ready x then 1 else 0) 0 = rw (none x) refl in
+        absurd (omega (arith, are x, there, is_none))

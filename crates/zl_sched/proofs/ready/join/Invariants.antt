@@ -1,0 +1,11 @@
+use Rattle.zl_sched.proofs.Common.{◌≡◌, ◌++◌, length, take}
+use Rattle.std.specs.Prelude.{vec_capacity}
+use Rattle.std.specs.List.{filter}
+use Rattle.zl_sched.specs.Ready.{pids_of}
+use Rattle.zl_sched.specs.Queueing.{joins}
+use Rattle.zl_sched.proofs.ready.join.Given as goal
+
+abbrev pub invariant-loop-n : goal.invariant-loop-n
+invariant-loop-n l =
+    (l.ready.items ≡ l.initial.ready.items ++ filter (λ q. joins l.world.world l.pid l.initial.ready.items q) (take l.n (pids_of l.world.world)))
+    × (vec_capacity l.ready ≡ vec_capacity l.initial.ready) × (l.stayed ≡ length l.initial.ready.items)

@@ -1,0 +1,101 @@
+//! The list of the processes that are ready, the longest ready first.
+
+ghost use Rattle.std.specs.Prelude.{IfOk, ◌≡◌, ◌==◌, ◌≤◌, ◌+◌, ◌++◌, ◌∷◌, [], not, length, vec_capacity};
+ghost use Rattle.std.specs.List.{filter};
+ghost use Rattle.zl_calls.specs.World.{is_ready_in};
+ghost use Rattle.zl_sched.specs.Queueing.{joining, joins, one_if, requeued};
+ghost use Rattle.zl_sched.specs.Ready.{ready_by_koid as are_ready_by_koid};
+
+use std::alloc::{AllocError, Global};
+use zl_calls::World;
+use zl_code::ProcState;
+use zl_rights::Pid;
+
+/// Whether the process is there and ready.
+pub fn is_ready(world: &World, pid: Pid) -> bool
+    ensures { result ≡ is_ready_in world.now pid }
+{
+    matches!(world.state_of(pid), ProcState::Ready)
+}
+
+/// The ready processes, by koid.
+pub fn ready_by_koid(alloc: Global, world: &World) -> Result<Vec<Pid>, AllocError>
+    ensures { IfOk result (λ ready. ready.items ≡ are_ready_by_koid world.now.world) }
+{
+    let mut ready = Vec::new(alloc);
+    ready.reserve(world.process_count())?;
+    for n in 0..world.process_count() {
+        let Some(pid) = world.process_at(n) else {
+            unreachable!()
+        };
+        push_if(&mut ready, is_ready(world, pid), pid);
+    }
+    Ok(ready)
+}
+
+/// The process leaves its place in the list and goes last. Nothing is moved where it is the last.
+pub fn move_last(ready: &mut Vec<Pid>, pid: Pid)
+    requires once { length (filter (λ q. q == pid) ready.old.items) ≡ 1 }
+    requires room { length ready.old.items ≤ vec_capacity ready.old }
+    ensures items { ready.new.items
+        ≡ filter (λ q. not (q == pid)) ready.old.items ++ pid ∷ [] }
+{
+    let len = ready.len();
+    if len > 0 && ready[len - 1] == pid {
+        return;
+    }
+    ready.retain(|other| *other != pid);
+    ready.push_reserved(pid);
+}
+
+/// The list after a step of the process: those that aren't ready leave it, and the process itself its
+/// place; those that are new in it go last by koid, and then the process, if it is ready.
+// Apart from the steps that leave the same ready, which are nearly all.
+#[inline(never)]
+pub fn requeue(ready: &mut Vec<Pid>, world: &World, pid: Pid)
+    requires room { length (requeued world.now.world pid ready.old.items)
+        ≤ vec_capacity ready.old }
+    ensures items { ready.new.items ≡ requeued world.now.world pid ready.old.items }
+{
+    ready.retain(|other| is_ready(world, *other) && *other != pid);
+    join(ready, world, pid);
+    if is_ready(world, pid) {
+        ready.push_reserved(pid);
+    }
+}
+
+/// The ready processes that aren't in the list come to it by koid, but for this one.
+fn join(ready: &mut Vec<Pid>, world: &World, pid: Pid)
+    requires room { length (ready.old.items ++ joining world.now.world pid ready.old.items)
+        ≤ vec_capacity ready.old }
+    ensures items { ready.new.items
+        ≡ ready.old.items ++ joining world.now.world pid ready.old.items }
+    ensures capacity { vec_capacity ready.new ≡ vec_capacity ready.old }
+{
+    let stayed = ready.len();
+    for n in 0..world.process_count() {
+        let Some(other) = world.process_at(n) else {
+            unreachable!()
+        };
+        let joins = is_new(&ready[..stayed], world, pid, other);
+        push_if(ready, joins, other);
+    }
+}
+
+/// The process comes last, where that is so. There is a place for it.
+fn push_if(ready: &mut Vec<Pid>, is_so: bool, pid: Pid)
+    requires room { length ready.old.items + length (one_if is_so pid) ≤ vec_capacity ready.old }
+    ensures items { ready.new.items ≡ ready.old.items ++ one_if is_so pid }
+    ensures capacity { vec_capacity ready.new ≡ vec_capacity ready.old }
+{
+    if is_so {
+        ready.push_reserved(pid);
+    }
+}
+
+/// Whether the other process is ready, and neither this one nor among those that stayed in the list.
+fn is_new(stayed: &[Pid], world: &World, pid: Pid, other: Pid) -> bool
+    ensures { result ≡ joins world.now.world pid stayed.now other }
+{
+    is_ready(world, other) && !stayed.contains(&other) && other != pid
+}

@@ -1,4 +1,5 @@
-//! Tests of `zl_code`, `zl_asm` and `zl_calls`, of what none of their clauses says.
+//! Tests of `zl_code`, `zl_asm`, `zl_calls` and `zl_sched`, of what none of their clauses says, and a
+//! run of a checked process through each call, worked out by the definitions.
 //!
 //! It stands on them and has nothing of its own: a crate with tests is proved twice, with them and
 //! without, and nothing waits for this one.
@@ -10,5 +11,7 @@ mod boot_object_tests;
 mod boot_tests;
 #[cfg(test)]
 mod image_tests;
+#[cfg(test)]
+mod system_tests;
 #[cfg(test)]
 mod text_tests;

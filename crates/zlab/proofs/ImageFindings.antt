@@ -1,5 +1,5 @@
 -- What is found in what is read of an image, and is true of all its bytes.
-use Rattle.zlab.proofs.Common.{◌+◌, ◌∷◌, ◌≡◌, ◌<◌, ◌≤◌, ℕ, List, length, take, Option, None, Some, Result, Ok, Err, refl, sym, subst, ap, ◌∙◌, inl, inr, ◌⊎◌, arith, length-take, Image, Spells, header_fault, first_fault}
+use Rattle.zlab.proofs.Common.{◌+◌, ◌∷◌, ◌≡◌, ◌≤◌, ℕ, List, length, Option, None, Some, Result, Err, refl, sym, subst, ap, ◌∙◌, inl, inr, ◌⊎◌, arith, length-take, Image, Spells, header_fault, first_fault}
 use Rattle.std.specs.Prelude.{MatchResult, ◌≢◌}
 use Rattle.zl_code.proofs.Common.{take_all, leb-true, first_some}
 use Rattle.zl_code.proofs.ImageWhole.{spells_no_fault}

@@ -1,5 +1,5 @@
 -- What has been read so far, of a reader that may tell its bytes.
-use Rattle.zlab.proofs.Common.{ℕ, ◌≡◌, ◌+◌, ◌<◌, ◌≤◌, List, [], ◌++◌, length, take, Option, None, Some, refl, sym, ap, ◌∙◌, subst, arith, append-nil, length-append, length-take, Consumes, MOST_INPUT, IsInputOf}
+use Rattle.zlab.proofs.Common.{ℕ, ◌≡◌, ◌+◌, ◌<◌, ◌≤◌, List, ◌++◌, length, take, Option, None, Some, refl, sym, ap, ◌∙◌, arith, append-nil, length-take, Consumes, MOST_INPUT, IsInputOf}
 use Rattle.std.specs.Io.KnownBytes.{IsAtEnd}
 use Rattle.zl_code.proofs.Common.{take_all, take_at}
 use Rattle.zlab.specs.Input.{IsFrontOf}

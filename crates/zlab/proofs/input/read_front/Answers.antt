@@ -1,6 +1,6 @@
 use Rattle.zlab.proofs.Common.{◌++◌, take, arith, length-append, length-take}
 use Rattle.std.proofs.KnownBytes.{Consumes-trans}
-use Rattle.zlab.proofs.KnownInput.{front_ended, front_full}
+use Rattle.zlab.proofs.KnownInput.{front_full}
 use Rattle.zlab.proofs.input.read_front.Goals as goal
 
 pub returns-then-is_err-clause-taken : goal.returns-then-is_err-clause-taken

@@ -1,5 +1,5 @@
 -- From what the parts of the engine do to the answer to a text.
-use Rattle.zlab.proofs.Common.{◌≡◌, ℕ, List, [], ◌++◌, length, Option, Some, None, Result, Ok, Err, refl, sym, ap, ◌∙◌, subst, arith, IfOk, OnOk, IsLegalHistory, Appends, states_of, IsRunOf, IsFirstFault, too_long, IsAnswer, trace, refusal, Answers, BeginsAnswer, nothing, beginning, IsTextOf, AnswersReader, BeginsReader, IsStart, IsRun, WritesRun, BeginsRun, no_line, some_lines, turns_of, EndsBy, IsInputOf, AppendsBeginning, System, Walks, room_of, history_text, cause_name, refused_line}
+use Rattle.zlab.proofs.Common.{◌≡◌, ℕ, List, [], ◌++◌, length, Option, Some, None, Result, Ok, Err, refl, sym, ap, ◌∙◌, subst, arith, IfOk, OnOk, IsLegalHistory, Appends, states_of, IsRunOf, IsFirstFault, too_long, IsAnswer, trace, refusal, Answers, BeginsAnswer, nothing, beginning, IsTextOf, AnswersInput, AnswersSome, BeginsInput, BeginsReader, BeginsSome, Holds, IsBounded, IsStart, IsRun, WritesRun, BeginsRun, no_line, some_lines, turns_of, EndsBy, AppendsBeginning, System, Walks, room_of, history_text, cause_name, refused_line}
 use Rattle.std.specs.Prelude.{OnErr}
 use Rattle.zl_code.specs.declared.history.TraceItem.{TraceItem}
 use Rattle.zlab.specs.declared.fault.Cause.TheVariants as cause
@@ -81,20 +81,33 @@ module _ (text : List ℕ) (fault : LineFault) (first : IsFirstFault text fault)
 abbrev TOO_LONG : LineFault
 TOO_LONG = record { line = 0; cause = cause.Limit }
 
-module _ (told : Option (List ℕ)) (read : Input) (is : IsInputOf told read) where
-  pub long_answers : (v : Verdict) (old new : Option (List ℕ)) → read ≡ input.TooLong → v ≡ verdict.Refused → Appends old new (refused_line 0 (cause_name cause.Limit)) → AnswersReader told v old new
-  long_answers v old new long refused wrote = record {
-    text = is.bytes;
-    is_text = record { those_told = is.those_told };
-    answers = refusal_answers is.bytes TOO_LONG (too_long (rw long at is.holds)) v old new refused wrote;
-  }
+module _ (read : Input) (old new : Option (List ℕ)) where
+  pub long_answers : (v : Verdict) → read ≡ input.TooLong → v ≡ verdict.Refused → Appends old new (refused_line 0 (cause_name cause.Limit)) → AnswersInput read v old new
+  long_answers v long refused wrote text holds = refusal_answers text TOO_LONG (too_long (rw long at holds)) v old new refused wrote
 
-  pub long_begins : (old new : Option (List ℕ)) → read ≡ input.TooLong → AppendsBeginning old new (refused_line 0 (cause_name cause.Limit)) → BeginsReader told old new
-  long_begins old new long begun = record {
-    text = is.bytes;
-    is_text = record { those_told = is.those_told };
-    begins = refusal_begins is.bytes TOO_LONG (too_long (rw long at is.holds)) old new begun;
-  }
+  pub long_begins : read ≡ input.TooLong → AppendsBeginning old new (refused_line 0 (cause_name cause.Limit)) → BeginsInput read old new
+  long_begins long begun text holds = refusal_begins text TOO_LONG (too_long (rw long at holds)) old new begun
+
+-- of a text that isn't
+module _ (read : Input) (items : List ℕ) (same : (text : List ℕ) → Holds text read → items ≡ text) (old new : Option (List ℕ)) where
+  pub text_answers : (v : Verdict) → Answers items v old new → AnswersInput read v old new
+  text_answers v answers text holds = subst (λ t. Answers t v old new) (same text holds) answers
+
+  pub text_begins : BeginsAnswer items old new → BeginsInput read old new
+  text_begins begun text holds = subst (λ t. BeginsAnswer t old new) (same text holds) begun
+
+-- a text that was read is bounded
+pub is_bounded : (text : List ℕ) (read : Input) → Holds text read → IsBounded read
+is_bounded text (input.Text bytes) holds = rw holds.0 holds.1
+is_bounded text input.TooLong holds = tt
+
+-- where the answer to what was read is known, so is that to the text of which it was read
+module _ {IsSource : List ℕ → Type 0} (text : List ℕ) (read : Input) (is_text : IsSource text) (holds : Holds text read) (old new : Option (List ℕ)) where
+  pub source_answers : (v : Verdict) → AnswersInput read v old new → AnswersSome IsSource v old new
+  source_answers v answers = record { text = text; is_text = is_text; answers = answers text holds }
+
+  pub source_begins : BeginsInput read old new → BeginsSome IsSource old new
+  source_begins begins = record { text = text; is_text = is_text; begins = begins text holds }
 
 -- the text that a reader had, or any where it tells none
 abbrev text_of : Option (List ℕ) → List ℕ

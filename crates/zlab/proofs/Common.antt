@@ -13,9 +13,9 @@ pub use Rattle.zl_sched.specs.Follows.{EndsBy, turns_of}
 pub use Rattle.zl_sched.specs.System.{System, Walks, room_of}
 pub use Rattle.zl_trace.specs.Output.{AppendsBeginning}
 pub use Rattle.zl_trace.specs.Text.{history_text, states_of, trace_text}
-pub use Rattle.zlab.specs.Engine.{Answers, AnswersReader, BeginsAnswer, BeginsReader, BeginsRun, InEachWorld, IsAnswer, IsFirstFault, IsRun, IsRunOf, IsStart, IsTextOf, Starts, WritesRun, beginning, line_cause, no_line, nothing, of_reading, of_statement, refusal, some_lines, too_long, trace}
+pub use Rattle.zlab.specs.Engine.{Answers, AnswersInput, AnswersSome, BeginsAnswer, BeginsInput, BeginsReader, BeginsRun, BeginsSome, InEachWorld, IsAnswer, IsFirstFault, IsRun, IsRunOf, IsStart, IsTextOf, Starts, WritesRun, beginning, line_cause, no_line, nothing, of_reading, of_statement, refusal, some_lines, too_long, trace}
 unfoldable pub use Rattle.zlab.specs.Handles.{handle_of, rights_named}
-pub use Rattle.zlab.specs.Input.{FitsInput, IsInputOf, MOST_INPUT}
+pub use Rattle.zlab.specs.Input.{FitsInput, Holds, IsBounded, IsInputOf, MOST_INPUT}
 pub use Rattle.zlab.specs.Lines.{both, decimal_digit_of, decimal_value, hex_digit_of, hex_digits_of_byte, is_comment, is_decimal_digit, is_number, words_of}
 unfoldable pub use Rattle.zlab.specs.Lines.{bytes_of_digits, digits_of, number_of}
 pub use Rattle.zlab.specs.Scenario.{Asm, Block, BlocksAreWhole, Body, DigitsAreWhole, Hex, IsInOrder, Listed, MOST_PROGRAMS, Part, Place, Reading, Rises, Scenario, Schedule, Statements, TextIsWhole, after_block, at, bytes_said, digits_said, fault_at_end, joined, object_said, onto, onto_block, opened_by, opening, part_said, reading_of, refused_at, start, text_spelled, told_line, with_program, with_statement}

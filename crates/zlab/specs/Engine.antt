@@ -14,9 +14,10 @@ use Rattle.zlab.specs.declared.fault.Cause.TheVariants as cause
 use Rattle.zlab.specs.declared.fault.LineFault.{LineFault}
 use Rattle.zlab.specs.declared.fault.Verdict.{Verdict}
 use Rattle.zlab.specs.declared.fault.Verdict.TheVariants as verdict
+use Rattle.zlab.specs.declared.input.Input.{Input}
 use Rattle.zl_sched.specs.declared.system.End.{End}
 use Rattle.zl_sched.specs.Follows.{turns_of, EndsBy}
-use Rattle.zlab.specs.Input.{MOST_INPUT, FitsInput}
+use Rattle.zlab.specs.Input.{MOST_INPUT, FitsInput, Holds}
 use Rattle.zl_trace.specs.Output.{AppendsBeginning}
 use Rattle.zlab.specs.Reading.{Lists, AreAccepted}
 use Rattle.zlab.specs.Reads.{IsRead}
@@ -94,19 +95,35 @@ pub data BeginsAnswer (text : List ℕ) (old : Option (List ℕ)) : Option (List
   nothing : BeginsAnswer text old old
   beginning : (v : Verdict) (lines : List ℕ) (new : Option (List ℕ)) → IsAnswer text v lines → AppendsBeginning old new lines → BeginsAnswer text old new
 
--- the same for what a reader had
-pub record AnswersReader (told : Option (List ℕ)) (v : Verdict) (old new : Option (List ℕ)) : Type 0 where
+-- the writer got an answer to a text of which it is known where it comes from
+pub record AnswersSome (IsSource : List ℕ → Type 0) (v : Verdict) (old new : Option (List ℕ)) : Type 0 where
   pub text : List ℕ
-  pub is_text : IsTextOf told text
+  pub is_text : IsSource text
   pub answers : Answers text v old new
 
--- the writer got a beginning of an answer to what a reader had, or nothing
-pub record BeginsReader (told old new : Option (List ℕ)) : Type 0 where
+-- the writer got a beginning of an answer to such a text, or nothing
+pub record BeginsSome (IsSource : List ℕ → Type 0) (old new : Option (List ℕ)) : Type 0 where
   pub text : List ℕ
-  pub is_text : IsTextOf told text
+  pub is_text : IsSource text
   pub begins : BeginsAnswer text old new
 
+-- the writer got an answer to what a reader had
+abbrev pub AnswersReader : (told : Option (List ℕ)) → Verdict → (old new : Option (List ℕ)) → Type 0
+AnswersReader told = AnswersSome (IsTextOf told)
+
+-- the writer got a beginning of such an answer, or nothing
+abbrev pub BeginsReader : (told old new : Option (List ℕ)) → Type 0
+BeginsReader told = BeginsSome (IsTextOf told)
+
 -- ---- what the parts of the engine do
+
+-- the writer got an answer to what was read, whichever text that is
+abbrev pub AnswersInput : Input → Verdict → (old new : Option (List ℕ)) → Type 0
+AnswersInput read v old new = (text : List ℕ) → Holds text read → Answers text v old new
+
+-- the writer got a beginning of such an answer, or nothing
+abbrev pub BeginsInput : Input → (old new : Option (List ℕ)) → Type 0
+BeginsInput read old new = (text : List ℕ) → Holds text read → BeginsAnswer text old new
 
 -- the system stands before the first turn of the text's schedule
 pub record IsStart (text : List ℕ) (s : System) (pairs : List (ℕ × ℕ)) : Type 0 where

@@ -17,6 +17,11 @@ abbrev pub Holds : List ℕ → Input → Type 0
 Holds bytes (input.Text text) = (text.items ≡ bytes) × FitsInput bytes
 Holds bytes input.TooLong = MOST_INPUT < length bytes
 
+-- a text that was read isn't too long
+abbrev pub IsBounded : Input → Type 0
+IsBounded (input.Text text) = FitsInput text.items
+IsBounded input.TooLong = Unit {0}
+
 -- the input is that of a reader, which may tell the bytes that it has left
 pub record IsInputOf (told : Option (List ℕ)) (read : Input) : Type 0 where
   pub bytes : List ℕ

@@ -1,8 +1,8 @@
 //! The engine: an input is read, and its answer written.
 ghost use Rattle.std.specs.Prelude.{◌≡◌, ◌≢◌, slice_index_or, Some, IfOk, IfErr, OnOk, OnErr};
 ghost use Rattle.std.specs.Io.KnownBytes.{Appends};
-ghost use Rattle.zlab.specs.Engine.{AnswersReader, BeginsReader, Answers, BeginsAnswer, Starts, WritesRun, BeginsRun, line_cause};
-ghost use Rattle.zlab.specs.Input.{FitsInput, TakesNoMore};
+ghost use Rattle.zlab.specs.Engine.{AnswersReader, BeginsReader, AnswersInput, BeginsInput, Answers, BeginsAnswer, Starts, WritesRun, BeginsRun, line_cause};
+ghost use Rattle.zlab.specs.Input.{FitsInput, IsBounded, TakesNoMore};
 ghost use Rattle.zlab.specs.Text.{cause_name, refused_line};
 ghost use Rattle.zl_trace.specs.Output.{AppendsBeginning};
 
@@ -41,7 +41,25 @@ pub fn step_engine<R: Read, W: Write>(
         ≡ W.contents writer.old) }
     ensures taken { TakesNoMore (R.remaining reader.old) (R.remaining reader.new) }
 {
-    match read_input(alloc, reader)? {
+    let input = read_input(alloc, reader)?;
+    answer_input(alloc, writer, hints, input)
+}
+
+/// Answers what was read.
+pub(crate) fn answer_input<W: Write>(
+    alloc: Global,
+    writer: &mut W,
+    hints: &mut String,
+    input: Input,
+) -> Result<Verdict, EngineFault>
+    requires { IsBounded input }
+    ensures ok { IfOk result (λ verdict. AnswersInput input verdict (W.contents writer.old)
+        (W.contents writer.new)) }
+    ensures err { OnErr result (BeginsInput input (W.contents writer.old)
+        (W.contents writer.new)) }
+    ensures fault { IfErr result (λ fault. fault ≢ EngineFault.Read) }
+{
+    match input {
         Input::Text(text) => answer(alloc, writer, hints, text.as_slice()),
         Input::TooLong => {
             let ended = write_refusal(alloc, writer, TOO_LONG);

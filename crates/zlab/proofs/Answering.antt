@@ -1,5 +1,5 @@
 -- From what the parts of the engine do to the answer to a text.
-use Rattle.zlab.proofs.Common.{◌≡◌, ℕ, List, [], ◌++◌, length, Option, Some, None, Result, Ok, Err, refl, sym, ap, ◌∙◌, subst, arith, IfOk, OnOk, IsLegalHistory, Appends, states_of, IsRunOf, IsFirstFault, too_long, IsAnswer, trace, refusal, Answers, BeginsAnswer, nothing, beginning, IsTextOf, AnswersInput, AnswersSome, BeginsInput, BeginsReader, BeginsSome, Holds, IsBounded, IsStart, IsRun, WritesRun, BeginsRun, no_line, some_lines, turns_of, EndsBy, AppendsBeginning, System, Walks, room_of, history_text, cause_name, refused_line}
+use Rattle.zlab.proofs.Common.{◌≡◌, ℕ, List, [], ◌++◌, length, Option, Some, None, Result, Ok, Err, refl, sym, ap, ◌∙◌, subst, arith, IfOk, OnOk, IsLegalHistory, Appends, states_of, IsRunOf, IsFirstFault, too_long, IsAnswer, trace, refusal, Answers, BeginsAnswer, nothing, beginning, IsTextOf, AnswersInput, AnswersSome, BeginsInput, BeginsReader, BeginsSome, BeginsFiles, joined_files, Holds, IsBounded, IsStart, IsRun, WritesRun, BeginsRun, no_line, some_lines, turns_of, EndsBy, AppendsBeginning, System, Walks, room_of, history_text, cause_name, refused_line}
 use Rattle.std.specs.Prelude.{OnErr}
 use Rattle.zl_code.specs.declared.history.TraceItem.{TraceItem}
 use Rattle.zlab.specs.declared.fault.Cause.TheVariants as cause
@@ -122,6 +122,14 @@ is_text_of (Some left) = record { those_told = refl }
 -- where nothing is written, it is a beginning of an answer
 pub reader_unanswered : (told old : Option (List ℕ)) → BeginsReader told old old
 reader_unanswered told old = record { text = text_of told; is_text = is_text_of told; begins = nothing }
+
+-- the same with two readers
+pub files_unanswered : (told_scenario told_schedule old : Option (List ℕ)) → BeginsFiles told_scenario told_schedule old old
+files_unanswered told_scenario told_schedule old = record {
+  text = joined_files (text_of told_scenario) (text_of told_schedule);
+  is_text = record { scenario = text_of told_scenario; schedule = text_of told_schedule; is_scenario = is_text_of told_scenario; is_schedule = is_text_of told_schedule; is_joined = refl };
+  begins = nothing;
+}
 
 -- the same with two writers
 pub text_unanswered : (told old_image old_line : Option (List ℕ)) → BeginsAssembly told old_image old_image old_line old_line

@@ -1,5 +1,5 @@
 -- What clap finds in the words that it takes for the program's commands.
-use Rattle.zlab.proofs.Common.{◌≡◌, ◌∙◌, ◌&&◌, ◌||◌, Bool, true, false, not, cond, refl, sym, ap, true≢false, List, [], ◌∷◌, ◌++◌, ℕ, codes, Option, Some, None, IfSome, IsSome, is_some, Result, Err, Ok, IfErr, ◌⊎◌, inl, inr, subst, slice_get, find, option_and_then, unwrap_or, App, Shape, built, entered, filled, names_of, rows_at, with_index, fault_of, subcommand_of, IsErrAnd, FaultOf, MayAskForHelp, HasItsValues, HasValue, HasValues, commands, needed}
+use Rattle.zlab.proofs.Common.{◌≡◌, ◌∙◌, ◌&&◌, ◌||◌, Bool, true, false, not, cond, refl, sym, ap, true≢false, List, [], ◌∷◌, ◌++◌, ℕ, codes, Option, Some, None, IfSome, IsSome, is_some, Result, Err, Ok, IfErr, ◌⊎◌, inl, inr, subst, slice_get, find, option_and_then, unwrap_or, App, Shape, built, entered, filled, names_of, rows_at, with_index, fault_of, subcommand_of, IsErrAnd, FaultOf, MayAskForHelp, HasValue, HasValues, commands, needed}
 use Rattle.std.proofs.Common.{option_map}
 use Rattle.std.specs.Option.{option_map_or}
 use Rattle.std.specs.Str.{bytes_eq}
@@ -74,14 +74,20 @@ asm_shape = shape_at 0
 abbrev check_shape : Shape
 check_shape = shape_at 1
 
+abbrev step_shape : Shape
+step_shape = shape_at 2
+
 abbrev help_shape : Shape
-help_shape = shape_at 2
+help_shape = shape_at 3
 
 asm_filled : Each (KeepsRows asm_shape.rules asm_shape.args_override_self IsFilled) asm_shape.rules
 asm_filled = (needed_keeps asm_shape.rules asm_shape.args_override_self (codes "IN") 1, (needed_keeps asm_shape.rules asm_shape.args_override_self (codes "OUT") 2, ((λ values rows e filled_rows. filled_rows), tt)))
 
 check_filled : Each (KeepsRows check_shape.rules check_shape.args_override_self IsFilled) check_shape.rules
 check_filled = (needed_keeps check_shape.rules check_shape.args_override_self (codes "IMAGE") 1, ((λ values rows e filled_rows. filled_rows), tt))
+
+step_filled : Each (KeepsRows step_shape.rules step_shape.args_override_self IsFilled) step_shape.rules
+step_filled = (needed_keeps step_shape.rules step_shape.args_override_self (codes "SCENARIO") 1, (needed_keeps step_shape.rules step_shape.args_override_self (codes "SCHEDULE") 2, ((λ values rows e filled_rows. filled_rows), tt)))
 
 both_given : (a b : Bool) → check_kinds false false (not a || (not b || false)) ≡ [] → (a ≡ true) × (b ≡ true)
 both_given true true e = (refl, refl)
@@ -102,6 +108,12 @@ check_values : (words : List Text) → level_fault check_shape [] nothing_held w
 check_values words e =
     let end = level_fits check_shape [] IsFilled check_filled (λ _. Unit {0}) (λ name word h none. tt) words false [] (refl, (refl, tt)) e in
     given_first (codes "IMAGE") _ end.0 (one_given _ end.3)
+
+step_values : (words : List Text) → level_fault step_shape [] nothing_held words false [] ≡ [] → HasValue (rows_after step_shape.rules [] words) (codes "SCENARIO") × HasValue (rows_after step_shape.rules [] words) (codes "SCHEDULE")
+step_values words e =
+    let end = level_fits step_shape [] IsFilled step_filled (λ _. Unit {0}) (λ name word h none. tt) words false [] (refl, (refl, (refl, tt))) e in
+    let given = both_given _ _ end.3 in
+    (given_first (codes "SCENARIO") _ end.0 given.0, given_first (codes "SCHEDULE") _ end.0 given.1)
 
 -- ---- the program's level
 
@@ -134,22 +146,25 @@ any_row : (rules : List Rule) (again : Bool) (all : List Rule) → Each (KeepsRo
 any_row rules again [] = tt
 any_row rules again (a ∷ rest) = ((λ values rows e r. no_fact (used a values rows)), any_row rules again rest)
 
-abbrev found_shape : (is_asm is_check is_help : Bool) → Option Shape
-found_shape is_asm is_check is_help = cond is_asm (Some asm_shape) (cond is_check (Some check_shape) (cond is_help (Some help_shape) None))
+abbrev found_shape : (is_asm is_check is_step is_help : Bool) → Option Shape
+found_shape is_asm is_check is_step is_help = cond is_asm (Some asm_shape) (cond is_check (Some check_shape) (cond is_step (Some step_shape) (cond is_help (Some help_shape) None)))
 
 entered_values : (stop : Option (Text × List Text)) → IfSome stop (λ p. IsNoHelp p.0) → entered_fault (built commands) stop ≡ [] → HasValues (entered (built commands) stop)
 entered_values None named e = tt
-entered_values (Some p) named e = go (bytes_eq (codes "asm") p.0 || false) (bytes_eq (codes "check") p.0 || false) (bytes_eq (codes "help") p.0 || false) named e
+entered_values (Some p) named e = go (bytes_eq (codes "asm") p.0 || false) (bytes_eq (codes "check") p.0 || false) (bytes_eq (codes "step") p.0 || false) (bytes_eq (codes "help") p.0 || false) named e
   where
-    go : (is_asm is_check is_help : Bool) → is_help ≡ false
-        → option_map_or (λ s. level_fault s [] nothing_held p.1 false []) (found_shape is_asm is_check is_help) [] ≡ []
-        → HasValues (option_map (λ s. rows_at s p.1) (found_shape is_asm is_check is_help))
-    go true is_check is_help none e =
+    go : (is_asm is_check is_step is_help : Bool) → is_help ≡ false
+        → option_map_or (λ s. level_fault s [] nothing_held p.1 false []) (found_shape is_asm is_check is_step is_help) [] ≡ []
+        → HasValues (option_map (λ s. rows_at s p.1) (found_shape is_asm is_check is_step is_help))
+    go true is_check is_step is_help none e =
         let values = asm_values p.1 e in
         inl (refl, values.0, values.1)
-    go false true is_help none e = inr (refl, check_values p.1 e)
-    go false false true none e = absurd (true≢false none)
-    go false false false none e = tt
+    go false true is_step is_help none e = inr (inl (refl, check_values p.1 e))
+    go false false true is_help none e =
+        let values = step_values p.1 e in
+        inr (inr (refl, values.0, values.1))
+    go false false false true none e = absurd (true≢false none)
+    go false false false false none e = tt
 
 -- where clap finds no fault, a subcommand that it finds has its values
 pub found_values : (words : List Text) → fault_of commands words ≡ [] → HasValues (subcommand_of commands words)

@@ -15,6 +15,7 @@ pub use Rattle.zl_trace.specs.Output.{AppendsBeginning}
 pub use Rattle.zl_trace.specs.Text.{history_text, states_of, trace_text}
 pub use Rattle.zlab.specs.Engine.{Answers, AnswersInput, AnswersSome, BeginsAnswer, BeginsInput, BeginsReader, BeginsRun, BeginsSome, InEachWorld, IsAnswer, IsFirstFault, IsRun, IsRunOf, IsStart, IsTextOf, Starts, WritesRun, beginning, line_cause, no_line, nothing, of_reading, of_statement, refusal, some_lines, too_long, trace}
 unfoldable pub use Rattle.zlab.specs.Handles.{handle_of, rights_named}
+pub use Rattle.zlab.specs.Files.{BeginsFiles, joined_files}
 pub use Rattle.zlab.specs.Input.{FitsInput, Holds, IsBounded, IsInputOf, MOST_INPUT}
 pub use Rattle.zlab.specs.Lines.{both, decimal_digit_of, decimal_value, hex_digit_of, hex_digits_of_byte, is_comment, is_decimal_digit, is_number, words_of}
 unfoldable pub use Rattle.zlab.specs.Lines.{bytes_of_digits, digits_of, number_of}
@@ -24,4 +25,4 @@ pub use Rattle.zlab.specs.Accepted.{AcceptsImage, HasNoStepBound, HasStepBound, 
 pub use Rattle.zlab.specs.Reads.{IsPassed, IsRead, IsStopped, Reads, TextsAreReadAsSaid, TextsAreReadOnce, at_end, line_faulty, line_taken, listed, program_refused}
 unfoldable pub use Rattle.zlab.specs.Reads.{whole_at, whole_in}
 pub use Rattle.zlab.specs.Text.{cause_name, refused_line}
-pub use Rattle.zlab.specs.Words.{FaultOf, HasItsValues, HasValue, HasValues, MayAskForHelp, assembling, checking, commands, needed, program}
+pub use Rattle.zlab.specs.Words.{FaultOf, HasItsValues, HasValue, HasValues, MayAskForHelp, assembling, checking, commands, needed, program, stepping}

@@ -17,4 +17,5 @@ pub mod WholeBlocks
 pub mod WalkKeeps
 pub mod CommandLine
 pub mod RowsWords
+pub mod RowsFiles
 pub mod ImageFindings

@@ -10,6 +10,9 @@ files words = option_map (λ found. (found.0, first_of (codes "IN") found.1, fir
 abbrev image : List Text → Option (Text × Option Text)
 image words = option_map (λ found. (found.0, first_of (codes "IMAGE") found.1)) (subcommand_of commands words)
 
+abbrev turns : List Text → Option (Text × Option Text × Option Text)
+turns words = option_map (λ found. (found.0, first_of (codes "SCENARIO") found.1, first_of (codes "SCHEDULE") found.1)) (subcommand_of commands words)
+
 clap_defines_them : is_simple_and_free commands ≡ true
 clap_defines_them = refl
 
@@ -45,7 +48,19 @@ two_images : fault_of commands (codes "check" ∷ codes "a" ∷ codes "b" ∷ []
 unfolding clap_on_literals
 two_images = refl
 
-not_built : fault_of commands (codes "step" ∷ codes "a" ∷ []) ≡ kind.UnknownArgument ∷ kind.InvalidSubcommand ∷ []
+a_schedule : turns (codes "step" ∷ codes "a" ∷ codes "b" ∷ []) ≡ Some (codes "step", Some (codes "a"), Some (codes "b"))
+unfolding clap_on_literals
+a_schedule = refl
+
+no_schedule : fault_of commands (codes "step" ∷ codes "a" ∷ []) ≡ kind.MissingRequiredArgument ∷ []
+unfolding clap_on_literals
+no_schedule = refl
+
+two_schedules : fault_of commands (codes "step" ∷ codes "a" ∷ codes "b" ∷ codes "c" ∷ []) ≡ kind.UnknownArgument ∷ []
+unfolding clap_on_literals
+two_schedules = refl
+
+not_built : fault_of commands (codes "run" ∷ codes "a" ∷ []) ≡ kind.UnknownArgument ∷ kind.InvalidSubcommand ∷ []
 unfolding clap_on_literals
 not_built = refl
 

@@ -10,3 +10,4 @@ pub mod Reading
 pub mod Words
 pub mod Assembling
 pub mod Checking
+pub mod Files

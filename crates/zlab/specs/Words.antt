@@ -4,7 +4,7 @@ use Rattle.clap.specs.Words.{App, IsAmong, Kinds, Row, Rule, Text, first_of, new
 use Rattle.clap.specs.declared.error.kind.ErrorKind.{ErrorKind}
 use Rattle.clap.specs.declared.error.kind.ErrorKind.TheVariants.{DisplayHelp, DisplayVersion, OutOfMemory}
 use Rattle.zlab.specs.declared.words.Task.{Task}
-use Rattle.zlab.specs.declared.words.Task.TheVariants.{Assemble, Check, Input}
+use Rattle.zlab.specs.declared.words.Task.TheVariants.{Assemble, Check, Input, Step}
 use Rattle.zlab.specs.declared.words.WordFault.{WordFault}
 use Rattle.zlab.specs.declared.words.WordFault.TheVariants.{Usage, NoMemory}
 
@@ -31,9 +31,13 @@ assembling = command_of (codes "asm") (codes "IN" ∷ codes "OUT" ∷ [])
 abbrev pub checking : App
 checking = command_of (codes "check") (codes "IMAGE" ∷ [])
 
+-- step SCENARIO SCHEDULE
+abbrev pub stepping : App
+stepping = command_of (codes "step") (codes "SCENARIO" ∷ codes "SCHEDULE" ∷ [])
+
 -- the command set: no words, or those of one of the commands
 abbrev pub commands : App
-commands = with_subcommand (with_subcommand program assembling.top) checking.top
+commands = with_subcommand (with_subcommand (with_subcommand program assembling.top) checking.top) stepping.top
 
 -- clap finds a value of this name
 abbrev pub HasValue : List Row → Text → Type 0
@@ -43,7 +47,8 @@ HasValue rows name = IsSome (first_of name rows)
 abbrev pub HasItsValues : Text → List Row → Type 0
 HasItsValues name rows =
     ((name ≡ codes "asm") × HasValue rows (codes "IN") × HasValue rows (codes "OUT"))
-    ⊎ ((name ≡ codes "check") × HasValue rows (codes "IMAGE"))
+    ⊎ (((name ≡ codes "check") × HasValue rows (codes "IMAGE"))
+    ⊎ ((name ≡ codes "step") × HasValue rows (codes "SCENARIO") × HasValue rows (codes "SCHEDULE")))
 
 -- clap finds no subcommand, or one of the command set with its values
 abbrev pub HasValues : Option (Text × List Row) → Type 0
@@ -58,6 +63,9 @@ AsksFor (Some found) (Assemble text image) = (found.0 ≡ codes "asm")
     × (first_of (codes "OUT") found.1 ≡ Some image.now)
 AsksFor (Some found) (Check image) = (found.0 ≡ codes "check")
     × (first_of (codes "IMAGE") found.1 ≡ Some image.now)
+AsksFor (Some found) (Step scenario schedule) = (found.0 ≡ codes "step")
+    × (first_of (codes "SCENARIO") found.1 ≡ Some scenario.now)
+    × (first_of (codes "SCHEDULE") found.1 ≡ Some schedule.now)
 AsksFor _ _ = ⊥
 
 -- what an error of clap is to the program

@@ -1,17 +1,19 @@
-//! The program: its command line, the trace of standard input, the assembler and the verifier over
-//! files, what standard error says, and its exit status.
+//! The program: its command line, the trace of standard input or of two files, the assembler and
+//! the verifier over files, what standard error says, and its exit status.
 //!
 //! It stands on `zl_sched` for a run along a schedule and on `zl_trace` for its text, on `zl_calls` for
 //! the world, on `zl_asm` for the assembler and for what is told of texts, images and stuck processes,
 //! on `zl_verify` and `zl_abs` for the verifier, on `zl_code` and `zl_rights` for what these speak of,
-//! and on `clap` and `thiserror`. It promises, by the contracts of `step_engine`, `asm_engine`,
-//! `check_engine` and `words`, that what is written is the answer to what was read.
+//! and on `clap` and `thiserror`. It promises, by the contracts of `step_engine`,
+//! `step_files_engine`, `asm_engine`, `check_engine` and `words`, that what is written is the answer
+//! to what was read.
 #![tactic(auto)]
 
 mod assembling;
 mod checking;
 mod engine;
 mod fault;
+mod files;
 mod hints;
 mod input;
 mod scenario;
@@ -23,6 +25,7 @@ use assembling::asm_engine;
 use checking::check_engine;
 use engine::step_engine;
 use fault::{EngineFault, Verdict};
+use files::step_files_engine;
 use hints::{explain_failure, explain_words};
 use std::alloc::AllocError;
 use std::fs::OpenFile;
@@ -93,6 +96,7 @@ fn run<R: AllocGlobal + Env + Files + Input + Print>(
         Ok(Task::Input) => Ok(step(rt, hints)?),
         Ok(Task::Assemble { text, image }) => Ok(assemble(rt, hints, text, image)?),
         Ok(Task::Check { image }) => Ok(check(rt, hints, image)?),
+        Ok(Task::Step { scenario, schedule }) => Ok(step_files(rt, hints, scenario, schedule)?),
         Err(fault) => {
             if fault == WordFault::Usage {
                 explain_words(hints, rt.alloc(), words);
@@ -131,13 +135,7 @@ fn assemble<R: AllocGlobal + Files + Print>(
     let _input = fs::open(rt, "/dev/null");
     let _output = fs::open(rt, "/dev/null");
     let _errors = fs::open(rt, "/dev/null");
-    let source = match fs::open(rt, text) {
-        Ok(source) => source,
-        Err(reason) => {
-            explain_failure(hints, text, Some(reason));
-            return Err(EngineFault::Read);
-        }
-    };
+    let source = open(rt, hints, text)?;
     if text == image || is_same_file(rt, &source, image) {
         explain_failure(hints, "IN and OUT are one file, which stays as it is", None);
         return Err(EngineFault::Write);
@@ -167,14 +165,7 @@ fn check<R: AllocGlobal + Files + Print>(
     hints: &mut String,
     image: &str,
 ) -> Result<Verdict, EngineFault> {
-    let file = match fs::open(rt, image) {
-        Ok(file) => file,
-        Err(reason) => {
-            explain_failure(hints, image, Some(reason));
-            return Err(EngineFault::Read);
-        }
-    };
-    let mut reader = Told::new(file);
+    let mut reader = Told::new(open(rt, hints, image)?);
     let mut writer = Told::new(io::writer(rt));
     let ended = check_engine(rt.alloc(), &mut reader, &mut writer, hints);
     match &ended {
@@ -183,6 +174,39 @@ fn check<R: AllocGlobal + Files + Print>(
         _ => {}
     }
     ended
+}
+
+/// Answers the scenario and the schedule in the two files on standard output.
+fn step_files<R: AllocGlobal + Files + Print>(
+    rt: &R,
+    hints: &mut String,
+    scenario: &str,
+    schedule: &str,
+) -> Result<Verdict, EngineFault> {
+    let mut first = Told::new(open(rt, hints, scenario)?);
+    let mut second = Told::new(open(rt, hints, schedule)?);
+    let mut writer = Told::new(io::writer(rt));
+    let ended = step_files_engine(rt.alloc(), &mut first, &mut second, &mut writer, hints);
+    match (&ended, first.reason()) {
+        (Err(EngineFault::Read), None) => explain_failure(hints, schedule, second.reason()),
+        (Err(EngineFault::Read), reason) => explain_failure(hints, scenario, reason),
+        (Err(EngineFault::Write), _) => {
+            explain_failure(hints, "standard output", writer.reason())
+        }
+        _ => {}
+    }
+    ended
+}
+
+/// Opens the file to be read.
+fn open<R: Files>(rt: &R, hints: &mut String, path: &str) -> Result<R::File, EngineFault> {
+    match fs::open(rt, path) {
+        Ok(file) => Ok(file),
+        Err(reason) => {
+            explain_failure(hints, path, Some(reason));
+            Err(EngineFault::Read)
+        }
+    }
 }
 
 /// Whether the open file is a plain one that the path names too.

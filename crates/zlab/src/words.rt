@@ -2,7 +2,7 @@
 ghost use Rattle.std.specs.Prelude.{◌≡◌, ◌≢◌, Some, IsSome, IfOk, IfErr, map, false, [], ◌∷◌};
 ghost use Rattle.clap.specs.Takes.{takes};
 ghost use Rattle.clap.specs.Words.{app_of, fault_of, first_of, found_of, kind_of, rows_of, rule_of, subcommand_of, subcommand_rows_of};
-ghost use Rattle.zlab.specs.Words.{AsksFor, FaultOf, HasItsValues, HasValue, HasValues, MayAskForHelp, assembling, checking, commands, needed};
+ghost use Rattle.zlab.specs.Words.{AsksFor, FaultOf, HasItsValues, HasValue, HasValues, MayAskForHelp, assembling, checking, commands, needed, stepping};
 ghost use Rattle.zlab.specs.declared.words.WordFault.TheVariants.{NoMemory, Usage};
 
 mod texts;
@@ -30,16 +30,22 @@ pub enum Task<'a> {
         /// The path of the image.
         image: &'a str,
     },
+    /// `step SCENARIO SCHEDULE`: a scenario runs along a schedule, and its trace is written.
+    Step {
+        /// The path of the scenario.
+        scenario: &'a str,
+        /// The path of the schedule.
+        schedule: &'a str,
+    },
 }
 
 /// Why a command line asks for no task.
 #[derive(Clone, Copy, PartialEq, Eq, Debug, Error)]
 pub enum WordFault {
     /// The words are in none of the forms.
-    #[error("the forms are `zlab < INPUT`, `zlab asm IN OUT` and `zlab check IMAGE`; not built \
-             yet: `zlab step SCENARIO SCHEDULE`, \
-             `zlab run SCENARIO --workers N --limit M`, `zlab replay SCENARIO TRACE`; \
-             `zlab --help` says more")]
+    #[error("the forms are `zlab < INPUT`, `zlab step SCENARIO SCHEDULE`, `zlab asm IN OUT` and \
+             `zlab check IMAGE`; not built yet: `zlab run SCENARIO --workers N --limit M`, \
+             `zlab replay SCENARIO TRACE`; `zlab --help` says more")]
     Usage,
     /// Memory was refused.
     #[error("out of memory")]
@@ -102,6 +108,11 @@ fn task_of_command<'a>(name: &str, values: &ArgMatches<'a>) -> Task<'a>
             text: value(values, "IN"),
             image: value(values, "OUT"),
         }
+    } else if name == "step" {
+        Task::Step {
+            scenario: value(values, "SCENARIO"),
+            schedule: value(values, "SCHEDULE"),
+        }
     } else {
         Task::Check {
             image: value(values, "IMAGE"),
@@ -128,7 +139,8 @@ fn command<'a>(alloc: Global) -> Result<Command<'a>, AllocError>
         .about(texts::ABOUT)
         .after_help(texts::FORMS)
         .subcommand(assembling(alloc)?)?
-        .subcommand(checking(alloc)?)
+        .subcommand(checking(alloc)?)?
+        .subcommand(stepping(alloc)?)
 }
 
 fn assembling<'a>(alloc: Global) -> Result<Command<'a>, AllocError>
@@ -146,6 +158,15 @@ fn checking<'a>(alloc: Global) -> Result<Command<'a>, AllocError>
     Command::new(alloc, "check")
         .about("Says whether the verifier accepts the image in the file IMAGE")
         .arg(needed(alloc, "IMAGE", "The file of the image"))
+}
+
+fn stepping<'a>(alloc: Global) -> Result<Command<'a>, AllocError>
+    ensures { IfOk result (λ made. app_of made ≡ stepping) }
+{
+    Command::new(alloc, "step")
+        .about("Runs the scenario in the file SCENARIO along the schedule in the file SCHEDULE")
+        .arg(needed(alloc, "SCENARIO", "The file of the scenario"))?
+        .arg(needed(alloc, "SCHEDULE", "The file of the schedule"))
 }
 
 /// A word that must be there.

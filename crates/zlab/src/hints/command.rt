@@ -5,10 +5,10 @@ use std::convert::AsStr;
 use zl_asm::hints::{Word, push_nearest};
 
 /// The commands that come later.
-const LATER: [&str; 3] = ["step", "run", "replay"];
+const LATER: [&str; 2] = ["run", "replay"];
 
 /// The commands that there are, and those that come later.
-const COMMANDS: [&str; 6] = ["asm", "check", "help", "step", "run", "replay"];
+const COMMANDS: [&str; 6] = ["asm", "check", "step", "help", "run", "replay"];
 
 /// A command whose words are files.
 #[derive(Clone, Copy)]
@@ -35,6 +35,13 @@ const CHECK: Form = Form {
     next: "second",
 };
 
+const STEP: Form = Form {
+    command: "step",
+    files: "two files, SCENARIO and SCHEDULE",
+    count: 2,
+    next: "third",
+};
+
 const OPTIONS: [&str; 4] = ["--help", "--version", "-h", "-V"];
 
 /// Adds which of the words, those behind the program's name, wasn't understood.
@@ -55,11 +62,14 @@ fn push_words<S: AsStr>(hint: &mut String, alloc: Global, words: &[S]) -> Result
     if word == "check" {
         return push_files(hint, CHECK, rest);
     }
+    if word == "step" {
+        return push_files(hint, STEP, rest);
+    }
     if LATER.contains(&word) {
         return write!(hint, "{word} isn't built yet");
     }
     if word == "help" {
-        return hint.push_str("help knows the words asm and check alone");
+        return hint.push_str("help knows the words asm, check and step alone");
     }
     if word.starts_with('-') {
         return push_option(hint, alloc, word.as_bytes());

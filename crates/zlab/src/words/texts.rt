@@ -12,6 +12,10 @@ The forms of a command line:
       Without words, reads standard input: a scenario, a line `--` and a schedule. Runs the scenario
       along the schedule and writes the trace, or `refused LINE CAUSE` for the first faulty line.
       Example: zlab < examples/event.zls
+  zlab step SCENARIO SCHEDULE
+      Does the same with the scenario and the schedule in two files, joined by a line `--`; lines are
+      counted in what is joined.
+      Example: zlab step pair.zls turns.txt
   zlab asm IN OUT
       Assembles the text in the file IN, and writes the image to the file OUT, or
       `refused LINE CAUSE`. OUT is emptied before IN is read, so let it be another file.
@@ -22,9 +26,6 @@ The forms of a command line:
       Example: zlab check ping.zli
 
 Not built yet (a wrong command line for now):
-  zlab step SCENARIO SCHEDULE
-      Does what zlab does without words, with the scenario and the schedule in two files.
-      Example: zlab step pair.zls turns.txt
   zlab run SCENARIO --workers N --limit M
       Runs the scenario on N threads, for at most M items of trace.
       Example: zlab run pair.zls --workers 4 --limit 1000

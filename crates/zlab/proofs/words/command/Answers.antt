@@ -1,4 +1,4 @@
-use Rattle.zlab.proofs.Common.{ap, ◌≡◌, ◌∙◌, true, ap₂, app_of, with_subcommand, app_of_fields, on_top, assembling, checking, program}
+use Rattle.zlab.proofs.Common.{ap, ◌≡◌, ◌∙◌, true, ap₂, app_of, with_subcommand, app_of_fields, on_top, assembling, checking, program, stepping}
 use Rattle.std.proofs.lemmas.Result.{IfOk-weaker}
 use Rattle.clap.proofs.SimpleLemmas.{plain_fields}
 use Rattle.zlab.proofs.words.command.Goals as goal
@@ -15,4 +15,7 @@ returns c =
     let first : app_of c.in_ok-subcommand.field-0 ≡ with_subcommand program assembling.top = c.in_ok-subcommand.ensures.shape local ∙ ap₂ with_subcommand program_is (ap (λ a. a.top) assembling_is) in
     let checking_is : app_of c.in_ok-checking.field-0 ≡ checking = c.in_ok-checking.ensures in
     let local_too = (plain_fields c.in_ok-checking.field-0 (ap (λ a. a.top.is_plain) checking_is)).globals in
-    IfOk-weaker c.subcommand-2.result _ _ (λ made added. added.shape local_too ∙ ap₂ with_subcommand first (ap (λ a. a.top) checking_is)) c.subcommand-2.ensures
+    let second : app_of c.in_ok-subcommand-2.field-0 ≡ with_subcommand (with_subcommand program assembling.top) checking.top = c.in_ok-subcommand-2.ensures.shape local_too ∙ ap₂ with_subcommand first (ap (λ a. a.top) checking_is) in
+    let stepping_is : app_of c.in_ok-stepping.field-0 ≡ stepping = c.in_ok-stepping.ensures in
+    let local_last = (plain_fields c.in_ok-stepping.field-0 (ap (λ a. a.top.is_plain) stepping_is)).globals in
+    IfOk-weaker c.subcommand-3.result _ _ (λ made added. added.shape local_last ∙ ap₂ with_subcommand second (ap (λ a. a.top) stepping_is)) c.subcommand-3.ensures

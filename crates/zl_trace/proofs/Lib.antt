@@ -1,5 +1,12 @@
 pub mod Common
+pub mod Digits
 pub mod KnownOutput
+pub mod Named
+pub mod Numbered
 pub mod States
 pub mod Pieces
+pub mod ReadOn
+pub mod Replayed
+pub mod RowsReading
 pub mod StoredRun
+pub mod WordsOfLines

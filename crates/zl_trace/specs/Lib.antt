@@ -1,2 +1,5 @@
+pub mod Lines
 pub mod Output
+pub mod Reading
+pub mod Replaying
 pub mod Text

@@ -1,7 +1,10 @@
 ghost use Rattle.std.specs.Prelude.{◌≡◌};
-ghost use Rattle.zl_trace.specs.declared.fault.TextFault.TheVariants.{NoMemory};
+ghost use Rattle.zl_trace.specs.declared.fault.ReadFault.TheVariants as read;
+ghost use Rattle.zl_trace.specs.declared.fault.ReplayFault.TheVariants as replay;
+ghost use Rattle.zl_trace.specs.declared.fault.TextFault.TheVariants as text;
 
 use std::alloc::AllocError;
+use zl_code::BootFault;
 
 /// Why a text can't be written to its end.
 ///
@@ -15,9 +18,47 @@ pub enum TextFault {
 }
 
 impl From<AllocError> for TextFault {
-    ghost from_gives = { λ _ fault. fault ≡ NoMemory };
+    ghost from_gives = { λ _ fault. fault ≡ text.NoMemory };
 
     fn from(_refused: AllocError) -> TextFault {
         TextFault::NoMemory
+    }
+}
+
+/// Why a trace text can't be read.
+///
+/// Source: own profile.
+#[derive(Clone, Copy, PartialEq, Eq, Debug)]
+pub enum ReadFault {
+    /// The line of this number, from 1, has to be that of an item and isn't.
+    Syntax(u64),
+    /// Memory was refused.
+    NoMemory,
+}
+
+impl From<AllocError> for ReadFault {
+    ghost from_gives = { λ _ fault. fault ≡ read.NoMemory };
+
+    fn from(_refused: AllocError) -> ReadFault {
+        ReadFault::NoMemory
+    }
+}
+
+/// Why the items of a trace can't be replayed.
+///
+/// Source: own profile.
+#[derive(Clone, Copy)]
+pub enum ReplayFault {
+    /// The statements can't be done.
+    Boot(BootFault),
+    /// The item of this place, from 1, can't come after those before it.
+    At(usize),
+}
+
+impl From<BootFault> for ReplayFault {
+    ghost from_gives = { λ lost fault. fault ≡ replay.Boot lost };
+
+    fn from(lost: BootFault) -> ReplayFault {
+        ReplayFault::Boot(lost)
     }
 }

@@ -1,18 +1,30 @@
-//! The text of a trace: a line for each item, for the state of each process, and for the end.
+//! The text of a trace: a line for each item, for the state of each process, and for the end; the same
+//! read back; and its items done again.
 //!
-//! It stands on `zl_sched`, for the system whose trace it is and for how its run ended, on `zl_calls`,
-//! `zl_code` and `zl_rights`, for the world, items and statuses, and on `itoa`. It promises that
-//! `push_item`, `push_state` and `push_end` add just the line of the definitions, and that `text`
-//! writes the whole text, or a beginning of it and says why. `write_all` and `empty_block` are how it
-//! writes, and serve other texts too.
+//! It stands on `zl_sched`, for the system whose trace it is and for how its run ended, on `zl_calls`
+//! and `zl_interp`, for the world and its programs, on `zl_code` and `zl_rights`, for items and
+//! statuses, and on `itoa`. It promises that `push_item`, `push_state` and `push_end` add just the line
+//! of the definitions, and that `text` writes the whole text, or a beginning of it and says why; that
+//! `read_text` gives the items whose lines a text has, or names the first line that is none; and that
+//! `replay` gives the world to which such items lead, where they are a legal history, or names the first
+//! that can't come. `laws` proves of the definitions that what is written is what is read. `write_all` and `empty_block` are how it writes, `is_comment` and `split_words` how
+//! it reads, and serve other texts too.
 #![tactic(auto)]
 
 mod fault;
+mod item_words;
+pub mod laws;
 mod lines;
 mod output;
+mod reading;
+mod replaying;
+mod words;
 mod writing;
 
-pub use fault::TextFault;
+pub use fault::{ReadFault, ReplayFault, TextFault};
 pub use lines::{push_end, push_item, push_state};
 pub use output::{empty_block, write_all};
+pub use reading::{read_bytes, read_text};
+pub use replaying::replay;
+pub use words::{is_comment, split_words};
 pub use writing::text;

@@ -1,0 +1,142 @@
+-- A status or a system call that is found by its name.
+use Rattle.zl_trace.proofs.Common.{◌≡◌, ◌==◌, ℕ, Bool, true, List, [], ◌∷◌, Option, None, Some, slice_get, zero, suc, refl, sym, ap, ◌∙◌, subst, eq-eqb, eqb-true, and_parts, cases_Bool, inl, inr, call_name}
+use Rattle.std.specs.Prelude.{IfSome, IfNone, ◌≢◌}
+use Rattle.std.specs.List.{find}
+use Rattle.std.specs.Cmp.Lexicographic.{pointwise}
+use Rattle.zl_rights.specs.declared.status.Status.{Status}
+use Rattle.zl_rights.specs.declared.status.Status.TheVariants as status
+use Rattle.zl_code.specs.declared.history.CallName.{CallName}
+use Rattle.zl_code.specs.declared.history.CallName.TheVariants as call
+
+-- all statuses
+abbrev pub statuses : List Status
+statuses = status.Ok ∷ status.NotSupported ∷ status.NoResources ∷ status.NoMemory ∷ status.InvalidArgs ∷ status.BadHandle
+    ∷ status.WrongType ∷ status.OutOfRange ∷ status.BufferTooSmall ∷ status.BadState ∷ status.TimedOut ∷ status.ShouldWait
+    ∷ status.PeerClosed ∷ status.NotFound ∷ status.AlreadyExists ∷ status.AccessDenied ∷ []
+
+-- all system calls
+abbrev pub calls : List CallName
+calls = call.Close ∷ call.Dup ∷ call.Replace ∷ call.ChanCreate ∷ call.ChanWrite ∷ call.ChanReadEtc ∷ call.EventCreate
+    ∷ call.Signal ∷ call.SignalPeer ∷ call.WaitOne ∷ call.WaitPoll ∷ call.WaitAsync ∷ call.PortCreate ∷ call.PortQueue
+    ∷ call.PortWait ∷ call.PortPoll ∷ call.PortCancel ∷ call.ProcessCreate ∷ call.ProcessStart ∷ call.ProcessExit
+    ∷ call.TaskKill ∷ call.JobCreate ∷ call.JobSetPolicy ∷ []
+
+same_to : (xs ys : List ℕ) → pointwise ◌==◌ xs ys ≡ true → xs ≡ ys
+same_to [] [] h = refl
+same_to [] (y ∷ ys) h = absurd cc
+same_to (x ∷ xs) [] h = absurd cc
+same_to (x ∷ xs) (y ∷ ys) h =
+    let p = and_parts (x == y) (pointwise ◌==◌ xs ys) h in
+    λ i. eqb-true x y p.0 i ∷ same_to xs ys p.1 i
+
+same_refl : (xs : List ℕ) → pointwise ◌==◌ xs xs ≡ true
+same_refl [] = refl
+same_refl (x ∷ xs) = rw (eq-eqb x x refl, same_refl xs) refl
+
+passes : {X : Type 0} (test : X → Bool) (xs : List X) (x : X) → find test xs ≡ Some x → test x ≡ true
+passes test [] x e = absurd cc
+passes test (y ∷ xs) x e =
+    elim (cases_Bool (test y)) as (λ _. test x ≡ true) [
+      | inl here ↦ let same : y ≡ x = cc in subst (λ z. test z ≡ true) same here
+      | inr other ↦ passes test xs x cc
+    ]
+
+-- nothing passes, where nothing is found
+none_at : {X : Type 0} (test : X → Bool) (xs : List X) (i : ℕ) (x : X) → find test xs ≡ None → slice_get xs i ≡ Some x → test x ≡ true → ⊥
+none_at test [] i x e here passed = absurd (cc)
+none_at test (y ∷ xs) zero x e here passed =
+    let same : y ≡ x = cc in
+    let first : test y ≡ true = subst (λ z. test z ≡ true) (sym same) passed in
+    absurd (cc)
+none_at test (y ∷ xs) (suc i) x e here passed =
+    elim (cases_Bool (test y)) as (λ _. ⊥) [
+      | inl first ↦ absurd (cc)
+      | inr other ↦ none_at test xs i x (cc) here passed
+    ]
+
+module _ {X : Type 0} (name_of : X → List ℕ) (all : List X) (name : List ℕ) where
+  abbrev pub by_name : X → Bool
+  by_name x = pointwise ◌==◌ (name_of x) name
+
+  -- what is found has the name
+  pub found : (r : Option X) → r ≡ find by_name all → IfSome r (λ x. name ≡ name_of x)
+  found None e = tt
+  found (Some x) e = sym (same_to (name_of x) name (passes by_name all x (sym e)))
+
+  -- where nothing is found, nothing has it
+  pub missing : ((x : X) → (i : ℕ) × (slice_get all i ≡ Some x)) → (r : Option X) → r ≡ find by_name all → IfNone r ((x : X) → name ≢ name_of x)
+  missing among None e = λ x same. none_at by_name all (among x).0 x (sym e) (among x).1 (subst (λ n. pointwise ◌==◌ (name_of x) n ≡ true) (sym same) (same_refl (name_of x)))
+  missing among (Some x) e = tt
+
+pub status_among : (s : Status) → (i : ℕ) × (slice_get statuses i ≡ Some s)
+status_among status.Ok = (0, refl)
+status_among status.NotSupported = (1, refl)
+status_among status.NoResources = (2, refl)
+status_among status.NoMemory = (3, refl)
+status_among status.InvalidArgs = (4, refl)
+status_among status.BadHandle = (5, refl)
+status_among status.WrongType = (6, refl)
+status_among status.OutOfRange = (7, refl)
+status_among status.BufferTooSmall = (8, refl)
+status_among status.BadState = (9, refl)
+status_among status.TimedOut = (10, refl)
+status_among status.ShouldWait = (11, refl)
+status_among status.PeerClosed = (12, refl)
+status_among status.NotFound = (13, refl)
+status_among status.AlreadyExists = (14, refl)
+status_among status.AccessDenied = (15, refl)
+
+pub call_among : (c : CallName) → (i : ℕ) × (slice_get calls i ≡ Some c)
+call_among call.Close = (0, refl)
+call_among call.Dup = (1, refl)
+call_among call.Replace = (2, refl)
+call_among call.ChanCreate = (3, refl)
+call_among call.ChanWrite = (4, refl)
+call_among call.ChanReadEtc = (5, refl)
+call_among call.EventCreate = (6, refl)
+call_among call.Signal = (7, refl)
+call_among call.SignalPeer = (8, refl)
+call_among call.WaitOne = (9, refl)
+call_among call.WaitPoll = (10, refl)
+call_among call.WaitAsync = (11, refl)
+call_among call.PortCreate = (12, refl)
+call_among call.PortQueue = (13, refl)
+call_among call.PortWait = (14, refl)
+call_among call.PortPoll = (15, refl)
+call_among call.PortCancel = (16, refl)
+call_among call.ProcessCreate = (17, refl)
+call_among call.ProcessStart = (18, refl)
+call_among call.ProcessExit = (19, refl)
+call_among call.TaskKill = (20, refl)
+call_among call.JobCreate = (21, refl)
+call_among call.JobSetPolicy = (22, refl)
+
+-- each call is the first of its name
+first_named : (c : CallName) → find (by_name call_name calls (call_name c)) calls ≡ Some c
+first_named call.Close = refl
+first_named call.Dup = refl
+first_named call.Replace = refl
+first_named call.ChanCreate = refl
+first_named call.ChanWrite = refl
+first_named call.ChanReadEtc = refl
+first_named call.EventCreate = refl
+first_named call.Signal = refl
+first_named call.SignalPeer = refl
+first_named call.WaitOne = refl
+first_named call.WaitPoll = refl
+first_named call.WaitAsync = refl
+first_named call.PortCreate = refl
+first_named call.PortQueue = refl
+first_named call.PortWait = refl
+first_named call.PortPoll = refl
+first_named call.PortCancel = refl
+first_named call.ProcessCreate = refl
+first_named call.ProcessStart = refl
+first_named call.ProcessExit = refl
+first_named call.TaskKill = refl
+first_named call.JobCreate = refl
+first_named call.JobSetPolicy = refl
+
+-- no two have one name
+pub call_injective : (c d : CallName) → call_name c ≡ call_name d → c ≡ d
+call_injective c d same = let one : Some c ≡ Some d = sym (first_named c) ∙ ap (λ (name : List ℕ). find (by_name call_name calls name) calls) same ∙ first_named d in cc

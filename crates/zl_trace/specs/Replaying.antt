@@ -1,0 +1,47 @@
+-- What the replay of a trace tells.
+use Rattle.std.specs.Prelude.{ℕ, ◌≡◌, ◌≢◌, ◌+◌, true, false, ◌⊎◌, List, ◌∷◌, ◌++◌, length}
+use Rattle.zl_code.specs.Common.{World as WorldValue, is_process, is_ready, Library, MOST_ITEMS, Step, IsLegalHistory, single, pid_of}
+use Rattle.zl_code.specs.Boot.{IsBooted}
+use Rattle.zl_code.specs.Steps.{Runs, has_count}
+use Rattle.zl_code.specs.declared.boot.Statement.{Statement}
+use Rattle.zl_code.specs.declared.history.TraceItem.{TraceItem}
+use Rattle.zl_calls.specs.World.{World}
+
+-- the items are a legal history from a boot world of the statements to the world of this lab
+pub record IsReplayed (lib : Library) (statements : List Statement) (limit : ℕ) (items : List TraceItem) (l : World) : Type 0 where
+  pub programs : l.programs ≡ lib
+  pub boot : WorldValue
+  pub boots : IsBooted lib statements limit boot
+  pub legal : IsLegalHistory lib boot items l.world
+
+-- ---- one item
+
+-- the steps for which the item stands lead from one lab to the other
+pub record Repeats (l : World) (x : TraceItem) (l2 : World) : Type 0 where
+  pub programs : l2.programs ≡ l.programs
+  pub count : has_count x ≡ true
+  pub runs : Runs l.programs l.world (single x) l2.world
+
+-- where a step of this item is to come, the process isn't ready, or a step of it has another item
+pub data StepDiffers (lib : Library) (w : WorldValue) (x : TraceItem) : Type 0 where
+  not_ready : is_process w is_ready (pid_of x) ≡ false → StepDiffers lib w x
+  another : (own : TraceItem) (after : WorldValue) → Step lib w (pid_of x) own after → own ≢ x → StepDiffers lib w x
+
+-- the item stands for no step; or some of its steps can be done, and where the next is to come, it differs
+pub data Differs (lib : Library) (w : WorldValue) (x : TraceItem) : Type 0 where
+  for_none : has_count x ≡ false → Differs lib w x
+  at_step : (done : List TraceItem) (mid : WorldValue) (next : TraceItem) (left : List TraceItem)
+      → single x ≡ done ++ (next ∷ left) → Runs lib w done mid → StepDiffers lib mid next → Differs lib w x
+
+-- ---- many items
+
+-- the items before number n, from 1, can be replayed; item n then differs, or is one past the most that a trace has
+pub record DiffersAt (lib : Library) (statements : List Statement) (limit : ℕ) (items : List TraceItem) (n : ℕ) : Type 0 where
+  pub before : List TraceItem
+  pub item : TraceItem
+  pub after : List TraceItem
+  pub are_all : items ≡ before ++ (item ∷ after)
+  pub number : n ≡ length before + 1
+  pub lab : World
+  pub replayed : IsReplayed lib statements limit before lab
+  pub differs : Differs lib lab.world item ⊎ (length before ≡ MOST_ITEMS)

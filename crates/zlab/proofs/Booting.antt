@@ -8,6 +8,7 @@ use Rattle.zl_code.specs.declared.boot.Statement.{Statement}
 use Rattle.zlab.specs.declared.fault.Cause.{Cause}
 use Rattle.zlab.specs.declared.fault.LineFault.{LineFault}
 use Rattle.zlab.specs.declared.scenario.Scenario.{Scenario as Made}
+use Rattle.zlab.specs.Engine.{IsFirstFaultBy}
 use Rattle.zlab.specs.Reading.{IsScenario}
 
 -- only a want of memory has no line
@@ -18,9 +19,9 @@ module _ (text : List ℕ) (fits : FitsInput text) (scenario : Made) (reading : 
   line_at : (n line : ℕ) → n < length reading.said.statements → line ≡ slice_index_or scenario.lines.items n 0 → slice_get reading.said.lines n ≡ Some line
   line_at n line some read = slice_get-get_or reading.said.lines n 0 (omega (arith, some, order.placed)) ∙ ap (λ (x : ℕ). Some x) (sym (read ∙ ap (λ (xs : List ℕ). get_or xs n 0) is.lines))
 
-  pub statement_fault : (n : ℕ) (found : BootCause) (fault : LineFault)
+  pub statement_fault : {fault_of : Reading → Option LineFault} (n : ℕ) (found : BootCause) (fault : LineFault)
       → ((found ≡ boot.NoMemory → ⊥) → FirstFault scenario.library scenario.boot.statements.items scenario.boot.limit n found)
-      → line_cause found ≡ Some fault.cause → fault.line ≡ slice_index_or scenario.lines.items n 0 → IsFirstFault text fault
+      → line_cause found ≡ Some fault.cause → fault.line ≡ slice_index_or scenario.lines.items n 0 → IsFirstFaultBy fault_of text fault
   statement_fault n found fault first named read =
       let faulty : FirstFault scenario.library reading.said.statements reading.said.limit n found
       = subst (λ (limit : ℕ). FirstFault scenario.library reading.said.statements limit n found) is.limit

@@ -77,8 +77,11 @@ check_shape = shape_at 1
 abbrev step_shape : Shape
 step_shape = shape_at 2
 
+abbrev replay_shape : Shape
+replay_shape = shape_at 3
+
 abbrev help_shape : Shape
-help_shape = shape_at 3
+help_shape = shape_at 4
 
 asm_filled : Each (KeepsRows asm_shape.rules asm_shape.args_override_self IsFilled) asm_shape.rules
 asm_filled = (needed_keeps asm_shape.rules asm_shape.args_override_self (codes "IN") 1, (needed_keeps asm_shape.rules asm_shape.args_override_self (codes "OUT") 2, ((λ values rows e filled_rows. filled_rows), tt)))
@@ -88,6 +91,9 @@ check_filled = (needed_keeps check_shape.rules check_shape.args_override_self (c
 
 step_filled : Each (KeepsRows step_shape.rules step_shape.args_override_self IsFilled) step_shape.rules
 step_filled = (needed_keeps step_shape.rules step_shape.args_override_self (codes "SCENARIO") 1, (needed_keeps step_shape.rules step_shape.args_override_self (codes "SCHEDULE") 2, ((λ values rows e filled_rows. filled_rows), tt)))
+
+replay_filled : Each (KeepsRows replay_shape.rules replay_shape.args_override_self IsFilled) replay_shape.rules
+replay_filled = (needed_keeps replay_shape.rules replay_shape.args_override_self (codes "SCENARIO") 1, (needed_keeps replay_shape.rules replay_shape.args_override_self (codes "TRACE") 2, ((λ values rows e filled_rows. filled_rows), tt)))
 
 both_given : (a b : Bool) → check_kinds false false (not a || (not b || false)) ≡ [] → (a ≡ true) × (b ≡ true)
 both_given true true e = (refl, refl)
@@ -114,6 +120,12 @@ step_values words e =
     let end = level_fits step_shape [] IsFilled step_filled (λ _. Unit {0}) (λ name word h none. tt) words false [] (refl, (refl, (refl, tt))) e in
     let given = both_given _ _ end.3 in
     (given_first (codes "SCENARIO") _ end.0 given.0, given_first (codes "SCHEDULE") _ end.0 given.1)
+
+replay_values : (words : List Text) → level_fault replay_shape [] nothing_held words false [] ≡ [] → HasValue (rows_after replay_shape.rules [] words) (codes "SCENARIO") × HasValue (rows_after replay_shape.rules [] words) (codes "TRACE")
+replay_values words e =
+    let end = level_fits replay_shape [] IsFilled replay_filled (λ _. Unit {0}) (λ name word h none. tt) words false [] (refl, (refl, (refl, tt))) e in
+    let given = both_given _ _ end.3 in
+    (given_first (codes "SCENARIO") _ end.0 given.0, given_first (codes "TRACE") _ end.0 given.1)
 
 -- ---- the program's level
 
@@ -146,25 +158,28 @@ any_row : (rules : List Rule) (again : Bool) (all : List Rule) → Each (KeepsRo
 any_row rules again [] = tt
 any_row rules again (a ∷ rest) = ((λ values rows e r. no_fact (used a values rows)), any_row rules again rest)
 
-abbrev found_shape : (is_asm is_check is_step is_help : Bool) → Option Shape
-found_shape is_asm is_check is_step is_help = cond is_asm (Some asm_shape) (cond is_check (Some check_shape) (cond is_step (Some step_shape) (cond is_help (Some help_shape) None)))
+abbrev found_shape : (is_asm is_check is_step is_replay is_help : Bool) → Option Shape
+found_shape is_asm is_check is_step is_replay is_help = cond is_asm (Some asm_shape) (cond is_check (Some check_shape) (cond is_step (Some step_shape) (cond is_replay (Some replay_shape) (cond is_help (Some help_shape) None))))
 
 entered_values : (stop : Option (Text × List Text)) → IfSome stop (λ p. IsNoHelp p.0) → entered_fault (built commands) stop ≡ [] → HasValues (entered (built commands) stop)
 entered_values None named e = tt
-entered_values (Some p) named e = go (bytes_eq (codes "asm") p.0 || false) (bytes_eq (codes "check") p.0 || false) (bytes_eq (codes "step") p.0 || false) (bytes_eq (codes "help") p.0 || false) named e
+entered_values (Some p) named e = go (bytes_eq (codes "asm") p.0 || false) (bytes_eq (codes "check") p.0 || false) (bytes_eq (codes "step") p.0 || false) (bytes_eq (codes "replay") p.0 || false) (bytes_eq (codes "help") p.0 || false) named e
   where
-    go : (is_asm is_check is_step is_help : Bool) → is_help ≡ false
-        → option_map_or (λ s. level_fault s [] nothing_held p.1 false []) (found_shape is_asm is_check is_step is_help) [] ≡ []
-        → HasValues (option_map (λ s. rows_at s p.1) (found_shape is_asm is_check is_step is_help))
-    go true is_check is_step is_help none e =
+    go : (is_asm is_check is_step is_replay is_help : Bool) → is_help ≡ false
+        → option_map_or (λ s. level_fault s [] nothing_held p.1 false []) (found_shape is_asm is_check is_step is_replay is_help) [] ≡ []
+        → HasValues (option_map (λ s. rows_at s p.1) (found_shape is_asm is_check is_step is_replay is_help))
+    go true is_check is_step is_replay is_help none e =
         let values = asm_values p.1 e in
         inl (refl, values.0, values.1)
-    go false true is_step is_help none e = inr (inl (refl, check_values p.1 e))
-    go false false true is_help none e =
+    go false true is_step is_replay is_help none e = inr (inl (refl, check_values p.1 e))
+    go false false true is_replay is_help none e =
         let values = step_values p.1 e in
-        inr (inr (refl, values.0, values.1))
-    go false false false true none e = absurd (true≢false none)
-    go false false false false none e = tt
+        inr (inr (inl (refl, values.0, values.1)))
+    go false false false true is_help none e =
+        let values = replay_values p.1 e in
+        inr (inr (inr (refl, values.0, values.1)))
+    go false false false false true none e = absurd (true≢false none)
+    go false false false false false none e = tt
 
 -- where clap finds no fault, a subcommand that it finds has its values
 pub found_values : (words : List Text) → fault_of commands words ≡ [] → HasValues (subcommand_of commands words)

@@ -17,12 +17,13 @@ pub use Rattle.zlab.specs.Engine.{Answers, AnswersInput, AnswersSome, BeginsAnsw
 unfoldable pub use Rattle.zlab.specs.Handles.{handle_of, rights_named}
 pub use Rattle.zlab.specs.Files.{BeginsFiles, joined_files}
 pub use Rattle.zlab.specs.Input.{FitsInput, Holds, IsBounded, IsInputOf, MOST_INPUT}
-pub use Rattle.zlab.specs.Lines.{both, decimal_digit_of, decimal_value, hex_digit_of, hex_digits_of_byte, is_comment, is_decimal_digit, is_number, words_of}
+pub use Rattle.zlab.specs.Lines.{both, decimal_digit_of, decimal_value, hex_digit_of, hex_digits_of_byte, is_decimal_digit, is_number}
+pub use Rattle.zl_trace.specs.Lines.{is_comment, words_of}
 unfoldable pub use Rattle.zlab.specs.Lines.{bytes_of_digits, digits_of, number_of}
-pub use Rattle.zlab.specs.Scenario.{Asm, Block, BlocksAreWhole, Body, DigitsAreWhole, Hex, IsInOrder, Listed, MOST_PROGRAMS, Part, Place, Reading, Rises, Scenario, Schedule, Statements, TextIsWhole, after_block, at, bytes_said, digits_said, fault_at_end, joined, object_said, onto, onto_block, opened_by, opening, part_said, reading_of, refused_at, start, text_spelled, told_line, with_program, with_statement}
+pub use Rattle.zlab.specs.Scenario.{Asm, Block, BlocksAreWhole, Body, DigitsAreWhole, Hex, IsInOrder, Listed, MOST_PROGRAMS, Part, Place, Reading, Rises, Scenario, Schedule, Statements, TextIsWhole, after_block, at, bytes_said, digits_said, fault_at_end, joined, object_said, onto, onto_block, opened_by, opening, part_said, reading_of, refused_at, start, text_spelled, told_line, with_program, with_schedule, with_statement}
 unfoldable pub use Rattle.zlab.specs.Scenario.{block_said, body_named, body_said, digits_in, digits_spelled, is_end, limit_said, line_said, mark_named, object_named, pair_said, process_said, program_said, reading_from, statement_said, text_in, turns_said}
 pub use Rattle.zlab.specs.Accepted.{AcceptsImage, HasNoStepBound, HasStepBound, RefusesImage, SpellOneThat}
 pub use Rattle.zlab.specs.Reads.{IsPassed, IsRead, IsStopped, Reads, TextsAreReadAsSaid, TextsAreReadOnce, at_end, line_faulty, line_taken, listed, program_refused}
 unfoldable pub use Rattle.zlab.specs.Reads.{whole_at, whole_in}
 pub use Rattle.zlab.specs.Text.{cause_name, refused_line}
-pub use Rattle.zlab.specs.Words.{FaultOf, HasItsValues, HasValue, HasValues, MayAskForHelp, assembling, checking, commands, needed, program, stepping}
+pub use Rattle.zlab.specs.Words.{FaultOf, HasItsValues, HasValue, HasValues, MayAskForHelp, assembling, checking, commands, needed, program, replaying, stepping}

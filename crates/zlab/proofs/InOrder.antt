@@ -1,5 +1,5 @@
 -- What a text says stands in the order of its lines, and before the first fault.
-use Rattle.zlab.proofs.Common.{◌≡◌, ℕ, ◌+◌, ◌≤◌, Bool, true, false, ltb, cond, List, [], ◌∷◌, ◌++◌, length, Option, Some, None, Result, Ok, Err, refl, subst, arith, length-append, nat_tests, MOST_ITEMS, words_of, Scenario, Body, Part, Statements, Block, Schedule, Place, at, start, onto, opened_by, body_named, object_named, object_said, onto_block, bytes_said, body_said, with_program, MOST_PROGRAMS, with_statement, process_said, limit_said, statement_said, program_said, block_said, pair_said, turns_said, part_said, line_said, told_line, Reading, refused_at, fault_at_end, Rises, IsInOrder, mark_named, lines_of, IsRead, Reads, at_end, line_taken, line_faulty, program_refused}
+use Rattle.zlab.proofs.Common.{◌≡◌, ℕ, ◌+◌, ◌≤◌, Bool, true, false, ltb, cond, List, [], ◌∷◌, ◌++◌, length, Option, Some, None, Result, Ok, Err, refl, subst, arith, length-append, nat_tests, MOST_ITEMS, words_of, Scenario, Body, Part, Statements, Block, Schedule, Place, at, start, onto, opened_by, body_named, object_named, object_said, onto_block, bytes_said, body_said, with_program, MOST_PROGRAMS, with_schedule, with_statement, process_said, limit_said, statement_said, program_said, block_said, pair_said, turns_said, part_said, line_said, told_line, Reading, refused_at, fault_at_end, Rises, IsInOrder, mark_named, lines_of, IsRead, Reads, at_end, line_taken, line_faulty, program_refused}
 use Rattle.zl_code.specs.declared.boot.Grant.{Grant}
 use Rattle.zl_code.specs.declared.boot.Statement.{Statement}
 use Rattle.zl_code.specs.declared.boot.Statement.TheVariants as statement
@@ -126,8 +126,10 @@ unfolding statement_said
 statement_placed n said [] next h e = next_line n Statements next said refl (below_more n (n + 1) said h (omega arith)) (cc)
 statement_placed n said (name ∷ []) next h e = alone _ e
   where
-    alone : (t : Bool) → cond t (Ok (at said Schedule)) (onto Statements (object_said n said (object_named name))) ≡ Ok next → IsPlaced (n + 1) next
-    alone true e = next_line n Schedule next said refl (below_more n (n + 1) said h (omega arith)) (cc)
+    alone : (t : Bool) → cond t (Ok (at (with_schedule said n) Schedule)) (onto Statements (object_said n said (object_named name))) ≡ Ok next → IsPlaced (n + 1) next
+    alone true e =
+        let below = below_more n (n + 1) said h (omega arith) in
+        next_line n Schedule next (with_schedule said n) refl (record { limit = below.limit; placed = below.placed; rising = below.rising }) (cc)
     alone false e =
         let read = onto_ok Statements _ next e in
         next_line n Statements next read.0 refl (object_below n said read.0 _ h read.1) read.2

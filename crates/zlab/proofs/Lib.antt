@@ -6,6 +6,7 @@ pub mod Booting
 pub mod RunOutput
 pub mod SoundWorlds
 pub mod Answering
+pub mod ReplayFound
 pub mod RowsScenario
 pub mod Programs
 pub mod LineDigits

@@ -34,7 +34,7 @@ module _ (text : List ℕ) (fits : FitsInput text) (scenario : Made) (reading : 
 
     pub comes_of : (trace : List ℕ) (items : List TraceItem) (found : Replayed) → HasItems trace items
         → Comes scenario.library scenario.boot.statements.items scenario.boot.limit scenario.lines.items items found → IsTrueOf text trace found
-    comes_of trace items (replayed.All n) has (count, boot, last, boots, legal) =
+    comes_of trace items (replayed.All n) has (count, (boot, last, boots, legal)) =
         (items, has, count, record { library = scenario.library; statements = scenario.boot.statements.items; scenario = scenario_of; boot = boot; boots = boots; last = last; legal = legal })
     comes_of trace items (replayed.Differs n) has differs =
         (items, has, record { library = scenario.library; statements = scenario.boot.statements.items; scenario = scenario_of; limit = scenario.boot.limit; differs = differs })

@@ -1,5 +1,5 @@
 -- Scenarios and schedules, joined and read, by computation.
-use Rattle.zlab.proofs.Common.{◌≡◌, ℕ, List, [], ◌∷◌, None, codes, refl, joined_files, is_word, number_of, Scenario, Reading, refused_at, reading_of, reading_from, line_said, statement_said, turns_said, body_named, limit_said, process_said, pair_said, mark_named}
+use Rattle.zlab.proofs.Common.{◌≡◌, ℕ, List, [], ◌∷◌, None, Some, codes, refl, joined_files, is_word, number_of, Scenario, Reading, refused_at, reading_of, reading_from, line_said, statement_said, turns_said, body_named, limit_said, process_said, pair_said, mark_named}
 use Rattle.zlab.specs.declared.fault.Cause.TheVariants as cause
 
 -- ---- joined
@@ -20,19 +20,20 @@ rows_of_nothing = (refl, refl, refl)
 
 -- ---- and read
 
-abbrev said : ℕ → List (ℕ × ℕ) → Scenario
-said limit schedule = record { programs = []; statements = []; lines = []; limit = limit; schedule = schedule }
+-- a limit, and a schedule whose line `--` is this one
+abbrev said : ℕ → ℕ → List (ℕ × ℕ) → Scenario
+said limit line schedule = record { programs = []; statements = []; lines = []; limit = limit; schedule_line = Some line; schedule = schedule }
 
 abbrev whole : Scenario → Reading
 whole s = record { said = s; fault = None }
 
-both_are_read : reading_of (joined_files (codes "limit 5") (codes "2 20")) ≡ whole (said 5 ((2, 20) ∷ []))
+both_are_read : reading_of (joined_files (codes "limit 5") (codes "2 20")) ≡ whole (said 5 2 ((2, 20) ∷ []))
 unfolding reading_from line_said statement_said mark_named body_named limit_said process_said turns_said pair_said is_word number_of
 both_are_read = refl
 
 -- a line `--` of one of them is a second one
 second_dashes :
-    (reading_of (joined_files (codes "limit 5\n--\n") (codes "2 20")) ≡ refused_at (said 5 []) 3 cause.Syntax)
-    × (reading_of (joined_files [] (codes "--\n2 20")) ≡ refused_at (said 1000 []) 2 cause.Syntax)
+    (reading_of (joined_files (codes "limit 5\n--\n") (codes "2 20")) ≡ refused_at (said 5 2 []) 3 cause.Syntax)
+    × (reading_of (joined_files [] (codes "--\n2 20")) ≡ refused_at (said 1000 1 []) 2 cause.Syntax)
 unfolding reading_from line_said statement_said mark_named body_named limit_said process_said turns_said pair_said is_word number_of
 second_dashes = (refl, refl)

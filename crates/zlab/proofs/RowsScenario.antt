@@ -14,7 +14,11 @@ abbrev raw : List ℕ → Listed
 raw bytes = record { checked = false; bytes = bytes }
 
 abbrev said : List Listed → List Statement → List ℕ → ℕ → List (ℕ × ℕ) → Scenario
-said programs statements lines limit schedule = record { programs = programs; statements = statements; lines = lines; limit = limit; schedule = schedule }
+said programs statements lines limit schedule = record { programs = programs; statements = statements; lines = lines; limit = limit; schedule_line = None; schedule = schedule }
+
+-- the same with a schedule, which this line begins
+abbrev scheduled : ℕ → Scenario → Scenario
+scheduled line s = record s { schedule_line = Some line }
 
 -- nothing is said, and no line is at fault
 abbrev nothing : Scenario
@@ -41,7 +45,7 @@ last_limit_counts : reading_of (codes "limit 1000000\n  limit   0010  \n\nlimit 
 unfolding reading_from line_said statement_said mark_named body_named limit_said process_said is_word number_of
 last_limit_counts = refl
 
-turns : reading_of (codes "--\n2 20\n\n# no turn\n  9 0 \n18446744073709551615 1000000") ≡ whole (said [] [] [] 1000 ((2, 20) ∷ (9, 0) ∷ (18446744073709551615, 1000000) ∷ []))
+turns : reading_of (codes "--\n2 20\n\n# no turn\n  9 0 \n18446744073709551615 1000000") ≡ whole (scheduled 1 (said [] [] [] 1000 ((2, 20) ∷ (9, 0) ∷ (18446744073709551615, 1000000) ∷ [])))
 unfolding reading_from line_said statement_said mark_named body_named limit_said process_said turns_said pair_said is_word number_of
 turns = refl
 
@@ -98,7 +102,7 @@ eight_handles = refl
 
 -- the stored run
 stored_run : reading_of (codes "program raw hex\n5a4c41420101080000000000640000000000 0000\n46020300000000000000000000000000\n01050000000000000800000000000000\n47020300050000000000000000000000\n41020304000000000000008000000000\n40020300000000000000000000000000\n40020400000000000000000000000000\n40020400000000000000000000000000\n53000000000000000000000000000000\nend\nprocess 1 0 0\n--\n2 20\n")
-    ≡ whole (said (raw bytes ∷ []) (statement.Process 1 0 0 [] ∷ []) (12 ∷ []) 1000 ((2, 20) ∷ []))
+    ≡ whole (scheduled 13 (said (raw bytes ∷ []) (statement.Process 1 0 0 [] ∷ []) (12 ∷ []) 1000 ((2, 20) ∷ [])))
 unfolding reading_from line_said statement_said mark_named body_named limit_said process_said all_of block_said is_end program_said digits_spelled body_said turns_said pair_said is_word number_of digits_of bytes_of_digits first_fault header_fault instr_fault row_of pieces
 stored_run = refl
 
@@ -194,15 +198,15 @@ rows_of_wrong_openings :
 unfolding reading_from line_said statement_said mark_named body_named limit_said job_said process_said is_word number_of
 rows_of_wrong_openings = (refl, refl, refl)
 
-second_dashes : reading_of (codes "--\n2 1\n--\n") ≡ fails (said [] [] [] 1000 ((2, 1) ∷ [])) 3 cause.Syntax
+second_dashes : reading_of (codes "--\n2 1\n--\n") ≡ fails (scheduled 1 (said [] [] [] 1000 ((2, 1) ∷ []))) 3 cause.Syntax
 unfolding reading_from line_said statement_said mark_named body_named limit_said process_said turns_said pair_said is_word number_of
 second_dashes = refl
 
-statement_in_schedule : reading_of (codes "--\nlimit 1\n") ≡ fails nothing 2 cause.Syntax
+statement_in_schedule : reading_of (codes "--\nlimit 1\n") ≡ fails (scheduled 1 nothing) 2 cause.Syntax
 unfolding reading_from line_said statement_said mark_named body_named limit_said process_said turns_said pair_said is_word number_of
 statement_in_schedule = refl
 
-many_turns : reading_of (codes "--\n2 1000001\n") ≡ fails nothing 2 cause.Syntax
+many_turns : reading_of (codes "--\n2 1000001\n") ≡ fails (scheduled 1 nothing) 2 cause.Syntax
 unfolding reading_from line_said statement_said mark_named body_named limit_said process_said turns_said pair_said is_word number_of
 many_turns = refl
 

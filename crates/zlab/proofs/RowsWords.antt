@@ -13,6 +13,9 @@ image words = option_map (λ found. (found.0, first_of (codes "IMAGE") found.1))
 abbrev turns : List Text → Option (Text × Option Text × Option Text)
 turns words = option_map (λ found. (found.0, first_of (codes "SCENARIO") found.1, first_of (codes "SCHEDULE") found.1)) (subcommand_of commands words)
 
+abbrev history : List Text → Option (Text × Option Text × Option Text)
+history words = option_map (λ found. (found.0, first_of (codes "SCENARIO") found.1, first_of (codes "TRACE") found.1)) (subcommand_of commands words)
+
 clap_defines_them : is_simple_and_free commands ≡ true
 clap_defines_them = refl
 
@@ -71,3 +74,11 @@ asks_help = (refl, refl)
 asks_version : fault_of commands (codes "--version" ∷ []) ≡ kind.DisplayVersion ∷ []
 unfolding clap_on_literals
 asks_version = refl
+
+a_trace : history (codes "replay" ∷ codes "a" ∷ codes "b" ∷ []) ≡ Some (codes "replay", Some (codes "a"), Some (codes "b"))
+unfolding clap_on_literals
+a_trace = refl
+
+no_trace : fault_of commands (codes "replay" ∷ codes "a" ∷ []) ≡ kind.MissingRequiredArgument ∷ []
+unfolding clap_on_literals
+no_trace = refl

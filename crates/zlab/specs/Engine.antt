@@ -62,16 +62,24 @@ line_cause boot.Unknown = Some cause.Unknown
 line_cause boot.BadState = Some cause.BadState
 line_cause boot.Conflict = Some cause.Conflict
 
+-- the fault of reading: the first of the text's own, such as a checked program that the rules refuse
+abbrev pub fault_read : Reading → Option LineFault
+fault_read reading = reading.fault
+
 -- The first fault of the text: too many bytes; or, in a text that isn't too long, a statement that can't be done, before any fault of
--- reading, such as a checked program that the rules refuse, where all statements before it can be done.
-pub data IsFirstFault (text : List ℕ) : LineFault → Type 0 where
-  too_long : MOST_INPUT < length text → IsFirstFault text (record { line = 0; cause = cause.Limit })
+-- reading, where all statements before it can be done.
+pub data IsFirstFaultBy (fault_of : Reading → Option LineFault) (text : List ℕ) : LineFault → Type 0 where
+  too_long : MOST_INPUT < length text → IsFirstFaultBy fault_of text (record { line = 0; cause = cause.Limit })
   of_statement : (reading : Reading) (library : Library) (n : ℕ) (found : BootCause) (fault : LineFault)
       → FitsInput text → IsRead text reading → Lists reading.said.programs library → FirstFault library reading.said.statements reading.said.limit n found
-      → slice_get reading.said.lines n ≡ Some fault.line → line_cause found ≡ Some fault.cause → IsFirstFault text fault
+      → slice_get reading.said.lines n ≡ Some fault.line → line_cause found ≡ Some fault.cause → IsFirstFaultBy fault_of text fault
   of_reading : (reading : Reading) (library : Library) (w : World) (fault : LineFault)
       → FitsInput text → IsRead text reading → Lists reading.said.programs library → IsBoot library reading.said.statements w
-      → reading.fault ≡ Some fault → IsFirstFault text fault
+      → fault_of reading ≡ Some fault → IsFirstFaultBy fault_of text fault
+
+-- that of a scenario with its schedule
+abbrev pub IsFirstFault : List ℕ → LineFault → Type 0
+IsFirstFault = IsFirstFaultBy fault_read
 
 -- ---- the answer
 

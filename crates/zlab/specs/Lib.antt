@@ -6,6 +6,7 @@ pub mod Handles
 pub mod Scenario
 pub mod Accepted
 pub mod Reads
+pub mod Replay
 pub mod Reading
 pub mod Words
 pub mod Assembling

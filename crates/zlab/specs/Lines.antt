@@ -1,16 +1,6 @@
--- Words, numbers and digits of a scenario. Its lines are cut as those of the assembler's text (`lines_of` of `zl_asm`).
-use Rattle.std.specs.Prelude.{ℕ, Bool, ◌+◌, ◌-◌, ◌*◌, ◌/◌, ◌%◌, ◌^◌, ◌&&◌, not, ◌==◌, nat_lt, nat_le, List, [], ◌∷◌, codes, length, filter, fold, Option, Some, None, if◌then◌else◌}
-use Rattle.std.specs.List.{list_all, starts_with, slice_split}
-
--- ---- words
-
--- the first byte is `#`
-abbrev pub is_comment : List ℕ → Bool
-is_comment line = starts_with ◌==◌ line (codes "#")
-
--- the parts of a line between spaces that aren't empty
-abbrev pub words_of : List ℕ → List (List ℕ)
-words_of line = filter (λ word. not (length word == 0)) (slice_split (λ byte. byte == 32) line)
+-- Numbers and digits of a scenario. Its lines are cut into words as those of a trace (`words_of` of `zl_trace`).
+use Rattle.std.specs.Prelude.{ℕ, Bool, ◌+◌, ◌-◌, ◌*◌, ◌/◌, ◌%◌, ◌^◌, ◌&&◌, not, ◌==◌, nat_lt, nat_le, List, [], ◌∷◌, length, fold, Option, Some, None, if◌then◌else◌}
+use Rattle.std.specs.List.{list_all}
 
 -- ---- numbers
 

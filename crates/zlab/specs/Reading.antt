@@ -37,6 +37,7 @@ pub record IsScenario (said : Scenario) (scenario : Made) : Type 0 where
   pub statements : scenario.boot.statements.items ≡ said.statements
   pub lines : scenario.lines.items ≡ said.lines
   pub limit : scenario.boot.limit ≡ said.limit
+  pub schedule_line : scenario.schedule_line ≡ said.schedule_line
   pub schedule : scenario.schedule.items ≡ said.schedule
   pub accepted : AreAccepted scenario.library
 
@@ -60,6 +61,7 @@ said_by s = record {
   statements = s.boot.statements.items;
   lines = s.lines.items;
   limit = s.boot.limit;
+  schedule_line = s.schedule_line;
   schedule = s.schedule.items;
 }
 

@@ -4,7 +4,7 @@ use Rattle.zl_asm.specs.Words.{lines_of, is_ascii}
 use Rattle.zlab.specs.declared.fault.Cause.{Cause}
 use Rattle.zlab.specs.declared.fault.Cause.TheVariants as cause
 use Rattle.zlab.specs.Accepted.{AcceptsImage, RefusesImage, SpellOneThat}
-use Rattle.zlab.specs.Lines.{is_comment, words_of}
+use Rattle.zl_trace.specs.Lines.{is_comment, words_of}
 use Rattle.zlab.specs.Scenario.{Listed, Part, Block, Place, Reading, start, bytes_said, is_end, line_said, told_line, refused_at, fault_at_end, reading_of}
 
 -- ---- whole programs

@@ -22,7 +22,7 @@ use Rattle.zlab.specs.Input.{FitsInput, TakesAtMost}
 use Rattle.zlab.specs.Reading.{Lists, AreAccepted}
 use Rattle.zlab.specs.Reads.{IsRead}
 use Rattle.zlab.specs.Scenario.{Reading}
-use Rattle.zlab.specs.Text.{cause_name, refused_line}
+use Rattle.zlab.specs.Text.{cause_name, refused_line, refused_trace_line}
 
 -- ---- the two inputs
 
@@ -108,7 +108,7 @@ abbrev pub replayed_line : Replayed → List ℕ
 replayed_line (replayed.All n) = codes "replayed " ++ (decimal n ++ codes "\n")
 replayed_line (replayed.Differs n) = codes "differs " ++ (decimal n ++ codes "\n")
 replayed_line (replayed.Refused fault) = refused_line fault.line (cause_name fault.cause)
-replayed_line (replayed.RefusedTrace fault) = codes "refused trace " ++ (decimal fault.line ++ (codes " " ++ (cause_name fault.cause ++ codes "\n")))
+replayed_line (replayed.RefusedTrace fault) = refused_trace_line fault.line (cause_name fault.cause)
 
 -- how the engine ends then
 abbrev pub verdict_of : Replayed → Verdict

@@ -14,7 +14,8 @@ use Rattle.zl_asm.specs.Words.{lines_of, is_ascii, is_word}
 use Rattle.zlab.specs.declared.fault.Cause.{Cause}
 use Rattle.zlab.specs.declared.fault.Cause.TheVariants as cause
 use Rattle.zlab.specs.declared.fault.LineFault.{LineFault}
-use Rattle.zlab.specs.Lines.{is_comment, words_of, number_of, digits_of, bytes_of_digits}
+use Rattle.zl_trace.specs.Lines.{is_comment, words_of}
+use Rattle.zlab.specs.Lines.{number_of, digits_of, bytes_of_digits}
 use Rattle.zlab.specs.Handles.{handles_of}
 
 -- a program of a scenario: whether it is marked as checked, and its bytes
@@ -31,6 +32,8 @@ pub record Scenario : Type 0 where
   pub lines : List ℕ
   -- the limit of the trace
   pub limit : ℕ
+  -- the line `--` between the statements and the schedule, if there is one
+  pub schedule_line : Option ℕ
   -- pairs of a process and a number of turns
   pub schedule : List (ℕ × ℕ)
 
@@ -57,7 +60,7 @@ at said part = record { said = said; part = part }
 
 -- before the first line; a trace has 1,000 items at most where no line says another limit
 abbrev pub start : Place
-start = at (record { programs = []; statements = []; lines = []; limit = 1000; schedule = [] }) Statements
+start = at (record { programs = []; statements = []; lines = []; limit = 1000; schedule_line = None; schedule = [] }) Statements
 
 -- what follows where nothing is at fault
 abbrev pub onto : Part → Result Scenario Cause → Result Place Cause
@@ -126,10 +129,14 @@ abbrev pub opened_by : ℕ → Scenario → Option Bool → Option Body → Resu
 opened_by n said (Some checked) (Some body) = Ok (at said (Block n checked body))
 opened_by n said _ _ = Err cause.Syntax
 
+-- line n parts the statements from the schedule
+abbrev pub with_schedule : Scenario → ℕ → Scenario
+with_schedule said n = record said { schedule_line = Some n }
+
 -- the words of line n, which stands among the statements
 unfoldable pub statement_said : ℕ → Scenario → List (List ℕ) → Result Place Cause
 statement_said n said [] = Ok (at said Statements)
-statement_said n said (name ∷ []) = if is_word name (codes "--") then Ok (at said Schedule) else onto Statements (object_said n said (object_named name))
+statement_said n said (name ∷ []) = if is_word name (codes "--") then Ok (at (with_schedule said n) Schedule) else onto Statements (object_said n said (object_named name))
 statement_said n said (name ∷ most ∷ []) =
     if is_word name (codes "limit") then onto Statements (limit_said said (number_of most))
     else (if is_word name (codes "job") then onto Statements (job_said n said (number_of most)) else Err cause.Syntax)

@@ -24,6 +24,10 @@ cause_name cause.Limit = codes "Limit"
 abbrev pub refused_line : ℕ → List ℕ → List ℕ
 refused_line line name = codes "refused " ++ (decimal line ++ (codes " " ++ (name ++ codes "\n")))
 
+-- the same of a refused trace
+abbrev pub refused_trace_line : ℕ → List ℕ → List ℕ
+refused_trace_line line name = codes "refused trace " ++ (decimal line ++ (codes " " ++ (name ++ codes "\n")))
+
 -- why an engine can't go on where a text can't be written
 abbrev pub engine_fault : TextFault → EngineFault
 engine_fault lost.Write = engine.Write

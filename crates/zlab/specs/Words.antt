@@ -4,7 +4,7 @@ use Rattle.clap.specs.Words.{App, IsAmong, Kinds, Row, Rule, Text, first_of, new
 use Rattle.clap.specs.declared.error.kind.ErrorKind.{ErrorKind}
 use Rattle.clap.specs.declared.error.kind.ErrorKind.TheVariants.{DisplayHelp, DisplayVersion, OutOfMemory}
 use Rattle.zlab.specs.declared.words.Task.{Task}
-use Rattle.zlab.specs.declared.words.Task.TheVariants.{Assemble, Check, Input, Step}
+use Rattle.zlab.specs.declared.words.Task.TheVariants.{Assemble, Check, Input, Step, Replay}
 use Rattle.zlab.specs.declared.words.WordFault.{WordFault}
 use Rattle.zlab.specs.declared.words.WordFault.TheVariants.{Usage, NoMemory}
 
@@ -35,9 +35,13 @@ checking = command_of (codes "check") (codes "IMAGE" ∷ [])
 abbrev pub stepping : App
 stepping = command_of (codes "step") (codes "SCENARIO" ∷ codes "SCHEDULE" ∷ [])
 
+-- replay SCENARIO TRACE
+abbrev pub replaying : App
+replaying = command_of (codes "replay") (codes "SCENARIO" ∷ codes "TRACE" ∷ [])
+
 -- the command set: no words, or those of one of the commands
 abbrev pub commands : App
-commands = with_subcommand (with_subcommand (with_subcommand program assembling.top) checking.top) stepping.top
+commands = with_subcommand (with_subcommand (with_subcommand (with_subcommand program assembling.top) checking.top) stepping.top) replaying.top
 
 -- clap finds a value of this name
 abbrev pub HasValue : List Row → Text → Type 0
@@ -48,7 +52,8 @@ abbrev pub HasItsValues : Text → List Row → Type 0
 HasItsValues name rows =
     ((name ≡ codes "asm") × HasValue rows (codes "IN") × HasValue rows (codes "OUT"))
     ⊎ (((name ≡ codes "check") × HasValue rows (codes "IMAGE"))
-    ⊎ ((name ≡ codes "step") × HasValue rows (codes "SCENARIO") × HasValue rows (codes "SCHEDULE")))
+    ⊎ (((name ≡ codes "step") × HasValue rows (codes "SCENARIO") × HasValue rows (codes "SCHEDULE"))
+    ⊎ ((name ≡ codes "replay") × HasValue rows (codes "SCENARIO") × HasValue rows (codes "TRACE"))))
 
 -- clap finds no subcommand, or one of the command set with its values
 abbrev pub HasValues : Option (Text × List Row) → Type 0
@@ -66,6 +71,9 @@ AsksFor (Some found) (Check image) = (found.0 ≡ codes "check")
 AsksFor (Some found) (Step scenario schedule) = (found.0 ≡ codes "step")
     × (first_of (codes "SCENARIO") found.1 ≡ Some scenario.now)
     × (first_of (codes "SCHEDULE") found.1 ≡ Some schedule.now)
+AsksFor (Some found) (Replay scenario trace) = (found.0 ≡ codes "replay")
+    × (first_of (codes "SCENARIO") found.1 ≡ Some scenario.now)
+    × (first_of (codes "TRACE") found.1 ≡ Some trace.now)
 AsksFor _ _ = ⊥
 
 -- what an error of clap is to the program

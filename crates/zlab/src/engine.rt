@@ -69,7 +69,8 @@ pub(crate) fn answer_input<W: Write>(
     }
 }
 
-const TOO_LONG: LineFault = LineFault {
+/// The fault of an input of too many bytes.
+pub const TOO_LONG: LineFault = LineFault {
     line: 0,
     cause: Cause::Limit,
 };
@@ -121,6 +122,7 @@ fn boot(alloc: Global, text: &[u8]) -> Result<Booted, EngineFault>
         boot,
         lines,
         schedule,
+        ..
     } = scenario;
     match System::boot(alloc, library, boot) {
         Err(refused) => Ok(Booted::Refused(fault_of_boot(lines.as_slice(), refused)?)),
@@ -132,7 +134,7 @@ fn boot(alloc: Global, text: &[u8]) -> Result<Booted, EngineFault>
 }
 
 /// The fault of the line of a statement, by the lines of all statements.
-fn fault_of_boot(lines: &[u64], refused: BootFault) -> Result<LineFault, EngineFault>
+pub fn fault_of_boot(lines: &[u64], refused: BootFault) -> Result<LineFault, EngineFault>
     ensures cause { IfOk result (λ fault. line_cause refused.cause ≡ Some fault.cause) }
     ensures line { IfOk result (λ fault.
         fault.line ≡ slice_index_or lines.now refused.statement 0) }

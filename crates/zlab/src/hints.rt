@@ -14,9 +14,11 @@ mod handles;
 mod jobs;
 mod numbers;
 mod refusal;
+mod replay;
 mod scenario;
 
 pub use command::explain_words;
 pub use failing::{explain_failure, explain_trace};
 pub use refusal::explain_refusal;
+pub use replay::{explain_difference, explain_line};
 pub use scenario::explain_scenario;

@@ -1,11 +1,11 @@
-//! The program: its command line, the trace of standard input or of two files, the assembler and
-//! the verifier over files, what standard error says, and its exit status.
+//! The program: its command line, the trace of standard input or of two files, the replay of a
+//! trace, the assembler and the verifier over files, what standard error says, and its exit status.
 //!
 //! It stands on `zl_sched` for a run along a schedule and on `zl_trace` for its text, on `zl_calls` for
 //! the world, on `zl_asm` for the assembler and for what is told of texts, images and stuck processes,
 //! on `zl_verify` and `zl_abs` for the verifier, on `zl_code` and `zl_rights` for what these speak of,
 //! and on `clap` and `thiserror`. It promises, by the contracts of `step_engine`,
-//! `step_files_engine`, `asm_engine`, `check_engine` and `words`, that what is written is the answer
+//! `step_files_engine`, `replay_engine`, `asm_engine`, `check_engine` and `words`, that what is written is the answer
 //! to what was read.
 #![tactic(auto)]
 
@@ -16,6 +16,7 @@ mod fault;
 mod files;
 mod hints;
 mod input;
+mod replaying;
 mod scenario;
 mod text;
 mod told;
@@ -27,6 +28,7 @@ use engine::step_engine;
 use fault::{EngineFault, Verdict};
 use files::step_files_engine;
 use hints::{explain_failure, explain_words};
+use replaying::replay_engine;
 use std::alloc::AllocError;
 use std::fs::OpenFile;
 use std::os::unix::fs::MetadataExt;
@@ -97,6 +99,7 @@ fn run<R: AllocGlobal + Env + Files + Input + Print>(
         Ok(Task::Assemble { text, image }) => Ok(assemble(rt, hints, text, image)?),
         Ok(Task::Check { image }) => Ok(check(rt, hints, image)?),
         Ok(Task::Step { scenario, schedule }) => Ok(step_files(rt, hints, scenario, schedule)?),
+        Ok(Task::Replay { scenario, trace }) => Ok(replay(rt, hints, scenario, trace)?),
         Err(fault) => {
             if fault == WordFault::Usage {
                 explain_words(hints, rt.alloc(), words);
@@ -189,6 +192,28 @@ fn step_files<R: AllocGlobal + Files + Print>(
     let ended = step_files_engine(rt.alloc(), &mut first, &mut second, &mut writer, hints);
     match (&ended, first.reason()) {
         (Err(EngineFault::Read), None) => explain_failure(hints, schedule, second.reason()),
+        (Err(EngineFault::Read), reason) => explain_failure(hints, scenario, reason),
+        (Err(EngineFault::Write), _) => {
+            explain_failure(hints, "standard output", writer.reason())
+        }
+        _ => {}
+    }
+    ended
+}
+
+/// Says on standard output whether the scenario in one file can have the trace in the other.
+fn replay<R: AllocGlobal + Files + Print>(
+    rt: &R,
+    hints: &mut String,
+    scenario: &str,
+    trace: &str,
+) -> Result<Verdict, EngineFault> {
+    let mut first = Told::new(open(rt, hints, scenario)?);
+    let mut second = Told::new(open(rt, hints, trace)?);
+    let mut writer = Told::new(io::writer(rt));
+    let ended = replay_engine(rt.alloc(), &mut first, &mut second, &mut writer, hints);
+    match (&ended, first.reason()) {
+        (Err(EngineFault::Read), None) => explain_failure(hints, trace, second.reason()),
         (Err(EngineFault::Read), reason) => explain_failure(hints, scenario, reason),
         (Err(EngineFault::Write), _) => {
             explain_failure(hints, "standard output", writer.reason())

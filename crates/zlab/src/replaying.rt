@@ -4,7 +4,7 @@ ghost use Rattle.std.specs.Prelude.{ℕ, ◌≡◌, ◌≢◌, ◌++◌, List, I
 ghost use Rattle.std.specs.Io.KnownBytes.{Appends};
 ghost use Rattle.zl_trace.specs.Output.{AppendsBeginning};
 ghost use Rattle.zl_code.specs.Common.{IsBoot, World as WorldValue};
-ghost use Rattle.zlab.specs.Input.{FitsInput, Holds, TakesNoMore};
+ghost use Rattle.zlab.specs.Input.{FitsInput, Holds, IsBounded, TakesNoMore};
 ghost use Rattle.zlab.specs.Replay.{AnswersReplay, AreItems, BeginsReplay, Comes, IsStatementFault, IsTrueOf, TakesTrace, alone as fault_where_alone, replayed_line, trace_front, verdict_of as ends};
 
 use crate::engine::{TOO_LONG, fault_of_boot};
@@ -12,7 +12,7 @@ use crate::fault::{Cause, EngineFault, LineFault, Verdict};
 use crate::hints::{explain_difference, explain_line, explain_scenario};
 use crate::input::{Input, read_front, read_input};
 use crate::scenario::{Reading, Scenario, read_scenario};
-use crate::text::push_refusal;
+use crate::text::{push_refusal, push_trace_refusal};
 use std::alloc::{AllocError, Global};
 use std::io::{Read, Write};
 use zl_calls::World;
@@ -83,6 +83,7 @@ fn found_in(
     front: &[u8],
     hints: &mut String,
 ) -> Result<Replayed, EngineFault>
+    requires bounded { IsBounded input.now }
     ensures ok { IfOk result (λ found. (text trace : List ℕ) → Holds text input.now
         → front.now ≡ trace_front trace → IsTrueOf text trace found) }
     ensures err { IfErr result (λ fault. fault ≡ EngineFault.NoMemory) }
@@ -120,18 +121,18 @@ fn compare(alloc: Global, text: &[u8], front: &[u8]) -> Result<Replayed, EngineF
     ensures err { IfErr result (λ fault. fault ≡ EngineFault.NoMemory) }
 {
     let Reading { scenario, fault } = read_scenario(alloc, text)?;
-    if let Some(fault) = alone(scenario.schedule_line, fault) {
-        return Ok(match statement_fault(alloc, scenario)? {
+    match alone(scenario.schedule_line, fault) {
+        Some(fault) => Ok(match statement_fault(alloc, scenario)? {
             Some(earlier) => Replayed::Refused(earlier),
             None => Replayed::Refused(fault),
-        });
-    }
-    match read_items(alloc, front)? {
-        Items::Faulty(fault) => Ok(match statement_fault(alloc, scenario)? {
-            Some(first) => Replayed::Refused(first),
-            None => Replayed::RefusedTrace(fault),
         }),
-        Items::All(items) => replay_items(alloc, scenario, items.as_slice()),
+        None => match read_items(alloc, front)? {
+            Items::Faulty(fault) => Ok(match statement_fault(alloc, scenario)? {
+                Some(first) => Replayed::Refused(first),
+                None => Replayed::RefusedTrace(fault),
+            }),
+            Items::All(items) => replay_items(alloc, scenario, items.as_slice()),
+        },
     }
 }
 
@@ -224,11 +225,7 @@ fn verdict_of(found: Replayed) -> Verdict
 }
 
 /// Writes the line of what was found.
-fn write_found<W: Write>(
-    alloc: Global,
-    writer: &mut W,
-    found: Replayed,
-) -> Result<(), EngineFault>
+fn write_found<W: Write>(alloc: Global, writer: &mut W, found: Replayed) -> Result<(), EngineFault>
     ensures ok { OnOk result (Appends (W.contents writer.old) (W.contents writer.new)
         (replayed_line found)) }
     ensures err { OnErr result (AppendsBeginning (W.contents writer.old) (W.contents writer.new)
@@ -250,9 +247,7 @@ fn push_found(text: &mut String, found: Replayed) -> Result<(), AllocError>
         Replayed::Differs(number) => write!(text, "differs {number}\n"),
         Replayed::Refused(fault) => push_refusal(text, fault.line, fault.cause.name()),
         Replayed::RefusedTrace(fault) => {
-            let line = fault.line;
-            let name = fault.cause.name();
-            write!(text, "refused trace {line} {name}\n")
+            push_trace_refusal(text, fault.line, fault.cause.name())
         }
     }
 }

@@ -33,6 +33,8 @@ pub struct Scenario {
     pub boot: Boot,
     /// The number of the line of each statement, from 1.
     pub lines: Vec<u64>,
+    /// The number of the line `--` between the statements and the schedule, if there is one.
+    pub schedule_line: Option<u64>,
     /// Pairs of a process and a number of turns, at most 1,000,000 each.
     pub schedule: Vec<(Pid, u32)>,
 }

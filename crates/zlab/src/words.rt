@@ -2,7 +2,7 @@
 ghost use Rattle.std.specs.Prelude.{◌≡◌, ◌≢◌, Some, IsSome, IfOk, IfErr, map, false, [], ◌∷◌};
 ghost use Rattle.clap.specs.Takes.{takes};
 ghost use Rattle.clap.specs.Words.{app_of, fault_of, first_of, found_of, kind_of, rows_of, rule_of, subcommand_of, subcommand_rows_of};
-ghost use Rattle.zlab.specs.Words.{AsksFor, FaultOf, HasItsValues, HasValue, HasValues, MayAskForHelp, assembling, checking, commands, needed, stepping};
+ghost use Rattle.zlab.specs.Words.{AsksFor, FaultOf, HasItsValues, HasValue, HasValues, MayAskForHelp, assembling, checking, commands, needed, replaying, stepping};
 ghost use Rattle.zlab.specs.declared.words.WordFault.TheVariants.{NoMemory, Usage};
 
 mod texts;
@@ -37,15 +37,22 @@ pub enum Task<'a> {
         /// The path of the schedule.
         schedule: &'a str,
     },
+    /// `replay SCENARIO TRACE`: whether a scenario can have a trace.
+    Replay {
+        /// The path of the scenario.
+        scenario: &'a str,
+        /// The path of the trace.
+        trace: &'a str,
+    },
 }
 
 /// Why a command line asks for no task.
 #[derive(Clone, Copy, PartialEq, Eq, Debug, Error)]
 pub enum WordFault {
     /// The words are in none of the forms.
-    #[error("the forms are `zlab < INPUT`, `zlab step SCENARIO SCHEDULE`, `zlab asm IN OUT` and \
-             `zlab check IMAGE`; not built yet: `zlab run SCENARIO --workers N --limit M`, \
-             `zlab replay SCENARIO TRACE`; `zlab --help` says more")]
+    #[error("the forms are `zlab < INPUT`, `zlab step SCENARIO SCHEDULE`, \
+             `zlab replay SCENARIO TRACE`, `zlab asm IN OUT` and `zlab check IMAGE`; not built yet: \
+             `zlab run SCENARIO --workers N --limit M`; `zlab --help` says more")]
     Usage,
     /// Memory was refused.
     #[error("out of memory")]
@@ -113,6 +120,11 @@ fn task_of_command<'a>(name: &str, values: &ArgMatches<'a>) -> Task<'a>
             scenario: value(values, "SCENARIO"),
             schedule: value(values, "SCHEDULE"),
         }
+    } else if name == "replay" {
+        Task::Replay {
+            scenario: value(values, "SCENARIO"),
+            trace: value(values, "TRACE"),
+        }
     } else {
         Task::Check {
             image: value(values, "IMAGE"),
@@ -140,7 +152,8 @@ fn command<'a>(alloc: Global) -> Result<Command<'a>, AllocError>
         .after_help(texts::FORMS)
         .subcommand(assembling(alloc)?)?
         .subcommand(checking(alloc)?)?
-        .subcommand(stepping(alloc)?)
+        .subcommand(stepping(alloc)?)?
+        .subcommand(replaying(alloc)?)
 }
 
 fn assembling<'a>(alloc: Global) -> Result<Command<'a>, AllocError>
@@ -167,6 +180,17 @@ fn stepping<'a>(alloc: Global) -> Result<Command<'a>, AllocError>
         .about("Runs the scenario in the file SCENARIO along the schedule in the file SCHEDULE")
         .arg(needed(alloc, "SCENARIO", "The file of the scenario"))?
         .arg(needed(alloc, "SCHEDULE", "The file of the schedule"))
+}
+
+fn replaying<'a>(alloc: Global) -> Result<Command<'a>, AllocError>
+    ensures { IfOk result (λ made. app_of made ≡ replaying) }
+{
+    Command::new(alloc, "replay")
+        .about(
+            "Says whether the scenario in the file SCENARIO can have the trace in the file TRACE",
+        )
+        .arg(needed(alloc, "SCENARIO", "The file of the scenario"))?
+        .arg(needed(alloc, "TRACE", "The file of the trace"))
 }
 
 /// A word that must be there.

@@ -5,10 +5,10 @@ use std::convert::AsStr;
 use zl_asm::hints::{Word, push_nearest};
 
 /// The commands that come later.
-const LATER: [&str; 2] = ["run", "replay"];
+const LATER: [&str; 1] = ["run"];
 
 /// The commands that there are, and those that come later.
-const COMMANDS: [&str; 6] = ["asm", "check", "step", "help", "run", "replay"];
+const COMMANDS: [&str; 6] = ["asm", "check", "step", "replay", "help", "run"];
 
 /// A command whose words are files.
 #[derive(Clone, Copy)]
@@ -42,6 +42,13 @@ const STEP: Form = Form {
     next: "third",
 };
 
+const REPLAY: Form = Form {
+    command: "replay",
+    files: "two files, SCENARIO and TRACE",
+    count: 2,
+    next: "third",
+};
+
 const OPTIONS: [&str; 4] = ["--help", "--version", "-h", "-V"];
 
 /// Adds which of the words, those behind the program's name, wasn't understood.
@@ -65,11 +72,14 @@ fn push_words<S: AsStr>(hint: &mut String, alloc: Global, words: &[S]) -> Result
     if word == "step" {
         return push_files(hint, STEP, rest);
     }
+    if word == "replay" {
+        return push_files(hint, REPLAY, rest);
+    }
     if LATER.contains(&word) {
         return write!(hint, "{word} isn't built yet");
     }
     if word == "help" {
-        return hint.push_str("help knows the words asm, check and step alone");
+        return hint.push_str("help knows the words asm, check, step and replay alone");
     }
     if word.starts_with('-') {
         return push_option(hint, alloc, word.as_bytes());

@@ -3,7 +3,7 @@ ghost use Rattle.std.specs.Prelude.{◌≡◌, IsTrue, length, OnOk};
 ghost use Rattle.zl_interp.specs.Program.{program_value};
 ghost use Rattle.zl_code.specs.Spells.{spelling};
 ghost use Rattle.zlab.specs.Accepted.{AcceptsImage};
-ghost use Rattle.zlab.specs.Scenario.{start, with_program, with_statement, with_turns};
+ghost use Rattle.zlab.specs.Scenario.{start, with_program, with_schedule, with_statement, with_turns};
 ghost use Rattle.zlab.specs.Reading.{IsScenario, has_ranges, said_by};
 
 use crate::scenario::Scenario;
@@ -46,6 +46,7 @@ impl Draft {
                     limit: USUAL_LIMIT,
                 },
                 lines: Vec::new(alloc),
+                schedule_line: None,
                 schedule: Vec::new(alloc),
             },
         }
@@ -84,6 +85,13 @@ impl Draft {
         ensures { self.new ≡ record self.old { limit = limit } }
     {
         self.scenario.boot.limit = limit;
+    }
+
+    /// This line parts the statements from the schedule.
+    pub fn open_schedule(&mut self, line: u64)
+        ensures { self.new ≡ with_schedule self.old line }
+    {
+        self.scenario.schedule_line = Some(line);
     }
 
     /// Adds so many turns of the process.

@@ -15,9 +15,10 @@ use crate::scenario::fault::Fault;
 use crate::scenario::part::Part;
 use crate::scenario::schedule::read_turns;
 use crate::scenario::statements::read_statement;
-use crate::scenario::words::{is_ascii, is_comment, split_words};
+use crate::scenario::words::is_ascii;
 use std::alloc::Global;
 use std::marker::Model;
+use zl_trace::{is_comment, split_words};
 
 /// What was read so far, and what the next line belongs to.
 #[derive(Drop)]

@@ -37,7 +37,10 @@ pub fn read_statement(
 {
     match words {
         [] => Ok(Part::Statements),
-        [name] if is(name, b"--") => Ok(Part::Schedule),
+        [name] if is(name, b"--") => {
+            draft.open_schedule(line);
+            Ok(Part::Schedule)
+        }
         [name] => {
             let Some(statement) = object_named(name) else {
                 return Err(Fault::Refused(Cause::Syntax));

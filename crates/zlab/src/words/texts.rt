@@ -16,6 +16,11 @@ The forms of a command line:
       Does the same with the scenario and the schedule in two files, joined by a line `--`; lines are
       counted in what is joined.
       Example: zlab step pair.zls turns.txt
+  zlab replay SCENARIO TRACE
+      Does the steps of the trace in the file TRACE again, from the scenario in the file SCENARIO,
+      which has no schedule. Writes `replayed N` for the number of its items, `differs N` for the
+      first that can't come, or `refused LINE CAUSE`, with `trace` before the line of a trace.
+      Example: zlab replay pair.zls pair.trace
   zlab asm IN OUT
       Assembles the text in the file IN, and writes the image to the file OUT, or
       `refused LINE CAUSE`. OUT is emptied before IN is read, so let it be another file.
@@ -29,13 +34,10 @@ Not built yet (a wrong command line for now):
   zlab run SCENARIO --workers N --limit M
       Runs the scenario on N threads, for at most M items of trace.
       Example: zlab run pair.zls --workers 4 --limit 1000
-  zlab replay SCENARIO TRACE
-      Says whether the scenario can have a trace, or which of its items can't come.
-      Example: zlab replay pair.zls pair.trace
 
 Exit status:
-  0  the trace, the image or the help is written, or the image is accepted
-  1  the input is refused, and its first faulty line or instruction named
+  0  the trace, the image or the help is written, the trace replayed, or the image accepted
+  1  the input is refused, and its first faulty line, item or instruction named
   2  the words are in none of the forms
   3  reading or writing failed
   4  memory was refused

@@ -1,4 +1,4 @@
-use Rattle.zlab.proofs.Common.{ap, ◌≡◌, ◌∙◌, true, ap₂, app_of, with_subcommand, app_of_fields, on_top, assembling, checking, program, stepping}
+use Rattle.zlab.proofs.Common.{ap, ◌≡◌, ◌∙◌, true, ap₂, app_of, with_subcommand, app_of_fields, on_top, assembling, checking, program, replaying, stepping}
 use Rattle.std.proofs.lemmas.Result.{IfOk-weaker}
 use Rattle.clap.proofs.SimpleLemmas.{plain_fields}
 use Rattle.zlab.proofs.words.command.Goals as goal
@@ -17,5 +17,9 @@ returns c =
     let local_too = (plain_fields c.in_ok-checking.field-0 (ap (λ a. a.top.is_plain) checking_is)).globals in
     let second : app_of c.in_ok-subcommand-2.field-0 ≡ with_subcommand (with_subcommand program assembling.top) checking.top = c.in_ok-subcommand-2.ensures.shape local_too ∙ ap₂ with_subcommand first (ap (λ a. a.top) checking_is) in
     let stepping_is : app_of c.in_ok-stepping.field-0 ≡ stepping = c.in_ok-stepping.ensures in
-    let local_last = (plain_fields c.in_ok-stepping.field-0 (ap (λ a. a.top.is_plain) stepping_is)).globals in
-    IfOk-weaker c.subcommand-3.result _ _ (λ made added. added.shape local_last ∙ ap₂ with_subcommand second (ap (λ a. a.top) stepping_is)) c.subcommand-3.ensures
+    let local_third = (plain_fields c.in_ok-stepping.field-0 (ap (λ a. a.top.is_plain) stepping_is)).globals in
+    let third : app_of c.in_ok-subcommand-3.field-0 ≡ with_subcommand (with_subcommand (with_subcommand program assembling.top) checking.top) stepping.top
+    = c.in_ok-subcommand-3.ensures.shape local_third ∙ ap₂ with_subcommand second (ap (λ a. a.top) stepping_is) in
+    let replaying_is : app_of c.in_ok-replaying.field-0 ≡ replaying = c.in_ok-replaying.ensures in
+    let local_last = (plain_fields c.in_ok-replaying.field-0 (ap (λ a. a.top.is_plain) replaying_is)).globals in
+    IfOk-weaker c.subcommand-4.result _ _ (λ made added. added.shape local_last ∙ ap₂ with_subcommand third (ap (λ a. a.top) replaying_is)) c.subcommand-4.ensures

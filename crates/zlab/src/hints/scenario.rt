@@ -114,6 +114,9 @@ fn push_statement(
         [name, rest @ ..] if is(name, b"limit") => push_limit(hint, rest),
         [name, rest @ ..] if is(name, b"program") => push_opening(hint, alloc, rest),
         [name, ..] if is_among(name, &OBJECTS) && cause == "Limit" => { push_no_koid(hint, above) }
+        [name] if is(name, b"--") => {
+            hint.push_str("a scenario that a trace is replayed from has no schedule")
+        }
         [name, ..] if is(name, b"--") || is_among(name, &OBJECTS) => {
             write!(hint, "{} stands alone on its line", Word(name))
         }

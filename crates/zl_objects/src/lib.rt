@@ -23,6 +23,3 @@ mod waits;
 pub use object::{Body, Life, Object};
 pub use objects::Objects;
 pub use wait::Wait;
-
-#[cfg(test)]
-mod tests;

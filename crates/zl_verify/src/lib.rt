@@ -23,6 +23,3 @@ mod way;
 pub use checked::{Checked, check};
 pub use refusal::{Refusal, RefusalCause};
 pub use seen::{Seen, seen_in};
-
-#[cfg(test)]
-mod tests;

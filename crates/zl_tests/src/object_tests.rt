@@ -1,9 +1,10 @@
-use crate::releasing::has_reserved;
-use crate::{Body, Life, Objects, Wait};
+//! Objects by themselves: which of them go, their waits, and jobs that are killed.
+
 use bitflags::Flags;
 use std::alloc::{AllocError, Global};
 use std::test::Fail;
 use zl_channel::{Handles, Message};
+use zl_objects::{Body, Life, Objects, Wait};
 use zl_port::{Packet, Source};
 use zl_rights::{Action, Condition, Entry, Kind, Koid, Mode, Rights, Signals};
 use zl_signals::Watch;
@@ -264,24 +265,16 @@ fn a_port_that_goes_leaves_no_wait(rt: HostRuntime) -> Result<(), Fail> {
     Ok(())
 }
 
-/// Whether a place is reserved at the port.
-fn reserved(objects: &Objects, port: Koid) -> bool {
-    has_reserved(&objects.by_koid, port)
-}
-
 #[test]
-fn an_object_that_goes_gives_its_places_back(rt: HostRuntime) -> Result<(), Fail> {
+fn an_object_that_goes_takes_its_own_waits_along(rt: HostRuntime) -> Result<(), Fail> {
     let mut objects = Objects::new(rt.alloc())?;
     let (first, second) = new_channel(&mut objects)?;
     let port = new_port(&mut objects)?;
-    assert!(rt; !reserved(&objects, port));
     watch(&mut objects, wait_for(first, port, Signals::USER_0, 5))?;
     watch(&mut objects, wait_for(second, port, Signals::USER_0, 6))?;
     watch(&mut objects, wait_for(first, port, Signals::USER_0, 7))?;
     objects.release(first);
-    assert!(rt; reserved(&objects, port));
     assert_eq!(rt; key(objects.unwatch_port(second, port)), Some(6));
-    assert!(rt; !reserved(&objects, port));
     assert!(rt; objects.pop(port).is_none());
     Ok(())
 }
@@ -328,9 +321,7 @@ fn waits_end_with_a_port_in_a_queue(rt: HostRuntime) -> Result<(), Fail> {
     objects.release(second);
     assert!(rt; objects.kind_of(port).is_none());
     assert!(rt; objects.unwatch_port(first, port).is_none());
-    assert!(rt; reserved(&objects, other));
     assert_eq!(rt; key(objects.unwatch_port(first, other)), Some(6));
-    assert!(rt; !reserved(&objects, other));
     Ok(())
 }
 

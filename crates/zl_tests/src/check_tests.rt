@@ -1,8 +1,10 @@
-use crate::{Refusal, RefusalCause, check};
+//! Which programs `check` refuses, where and why, and the image that a refusal hands back.
+
 use std::alloc::{AllocError, Global};
 use std::test::Fail;
 use zl_abs::Cause;
 use zl_code::{DecodeFault, Image, decode, encode};
+use zl_verify::{Refusal, RefusalCause, check};
 
 /// An event with its default rights, with which a process starts.
 const EVENT: [u8; 8] = [5, 0, 0, 0, 0x03, 0xd0, 0, 0];

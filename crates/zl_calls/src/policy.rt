@@ -42,6 +42,7 @@ pub enum Verdict {
 /// policy denies it, and its caller is killed where the policy kills for it. It takes no memory.
 /// Source: the page "zx_job_set_policy" of the Fuchsia documentation; that it denies no bad handle is
 /// own profile.
+#[inline(always)]
 pub fn by_policy(
     alloc: Global,
     process: &mut Process,
@@ -67,6 +68,7 @@ pub fn by_policy(
 }
 
 /// How the policy of the process's job ends the call, if it does.
+#[inline(always)]
 fn judge(process: &Process, objects: &Objects, call: &CallInstr) -> Option<Verdict>
     ensures { IfSome (site_of call.now process.now.cpu) (λ s. result
         ≡ verdict_on process.now.table.entries objects.now.objects process.now.pid s.request) }

@@ -35,6 +35,7 @@ use zl_table::Table;
 const KILLED: i32 = -1024;
 
 /// Does the call of the process at this place, if it is one that reaches other processes.
+#[inline(always)]
 #[tactic(auto, unfolding(zl_code::specs::Request::site_of, zl_code::specs::Instructions::row_of, zl_code::specs::Spells::call_parts))]
 pub fn reach(
     alloc: Global,

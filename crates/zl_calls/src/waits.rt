@@ -52,6 +52,7 @@ pub fn cancel_waits(objects: &mut Objects, pid: Pid, value: HValue, port: Koid, 
 }
 
 /// The waits end whose handle, object or port is gone. It takes no memory.
+#[inline(always)]
 pub fn end_unheld(processes: &[Process], objects: &mut Objects)
     requires { IsConsistent processes.now objects.old }
     ensures { EndsUnheld processes.now objects.old objects.new }
@@ -68,6 +69,7 @@ pub fn end_unheld(processes: &[Process], objects: &mut Objects)
 
 /// Each wait that holds, in the order of registration, gives its packet and is gone. It takes no
 /// memory.
+#[inline(always)]
 pub fn fire_waits(processes: &[Process], objects: &mut Objects)
     requires { IsConsistent processes.now objects.old }
     ensures { FiresWaits processes.now objects.old objects.new }

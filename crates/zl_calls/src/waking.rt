@@ -24,6 +24,7 @@ use zl_rights::{Koid, Pid};
 
 /// Each blocked process in turn, the longest blocked first: where what it waits for is there, it
 /// gets its answer and leaves the list. It takes no memory.
+#[inline(always)]
 pub fn wake(processes: &mut Vec<Process>, objects: &mut Objects, blocked: &mut Vec<Pid>)
     requires lab { IsConsistent processes.old.items objects.old }
     requires list { AreBlocked processes.old.items blocked.old.items }

@@ -179,6 +179,8 @@ impl World {
     ///
     /// Nothing where the process isn't ready, or there is none of this koid.
     /// Source: that of `perform` and `local`.
+    // A run along a schedule calls it for each turn.
+    #[inline(always)]
     pub fn step(&mut self, pid: Pid) -> Option<TraceItem>
         ensures ran { IfSome result (TakesStep self.old pid self.new) }
         ensures not_ready { IfNone result (is_ready_in self.old pid ≡ false) }

@@ -17,6 +17,7 @@ use zl_code::{CallInstr, LocalInstr};
 ///
 /// None does where the counter is outside the code, where a local instruction or an unknown one
 /// stands there, and at a call whose range of memory isn't there. Own profile.
+#[inline(always)]
 pub fn call_at(program: &Program, cpu: &Cpu) -> Option<CallInstr>
     ensures found { IfSome result (StandsNext (program_value program.now).image cpu.now) }
     ensures missing { IfNone result
@@ -56,6 +57,7 @@ fn has_its_memory(call: &CallInstr, cpu: &Cpu) -> bool
 ///
 /// `None`, and nothing changes, where none does or where it can't be done: unless a call stands
 /// next, the process is stuck then. Own profile.
+#[inline(always)]
 pub fn local_step(program: &Program, cpu: &mut Cpu) -> Option<()>
     ensures moves { OnSome result
         (next_at (program_value program.now).image cpu.old ≡ Moves cpu.new) }
@@ -68,6 +70,7 @@ pub fn local_step(program: &Program, cpu: &mut Cpu) -> Option<()>
 }
 
 /// The local instruction that stands next for the Cpu, if one does, be it possible or not.
+#[inline(always)]
 fn local_at(program: &Program, cpu: &Cpu) -> Option<LocalInstr>
     ensures found { IfSome result (λ local. next_at (program_value program.now).image cpu.now
         ≡ moves (local_effect local cpu.now)) }

@@ -137,6 +137,8 @@ fn has(value: u64, bits: u32) -> bool
 
 /// Does the local instruction. Where it can't be done, nothing changes.
 #[tactic(auto, unfolding(zl_code::specs::Local::local_effect))]
+// Part of each turn of a run.
+#[inline(always)]
 pub fn run(cpu: &mut Cpu, local: LocalInstr) -> Option<()>
     requires { cpu.old.counter < 2 ^ 32 }
     ensures some { OnSome result (local_effect local cpu.old ≡ Some cpu.new) }
@@ -177,6 +179,7 @@ pub fn run(cpu: &mut Cpu, local: LocalInstr) -> Option<()>
 
 /// Does a local instruction that is never stuck.
 #[tactic(auto, unfolding(zl_code::specs::Local::local_effect))]
+#[inline(always)]
 fn compute(cpu: &mut Cpu, local: LocalInstr)
     requires counter { cpu.old.counter < 2 ^ 32 }
     requires free { IsTrue (is_free local) }

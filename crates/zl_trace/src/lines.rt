@@ -22,6 +22,8 @@ pub fn push_item(text: &mut String, item: TraceItem) -> Result<(), AllocError>
     }
 }
 
+// Part of each turn's line.
+#[inline(always)]
 fn push_run(text: &mut String, pid: Pid, count: u32) -> Result<(), AllocError>
     ensures { OnOk result (string_bytes text.new
         ≡ string_bytes text.old ++ item_line (TraceItem.Run pid count)) }
@@ -59,6 +61,7 @@ fn push_call(
 
 /// Adds the decimal digits of the number, where there is one digit as a piece of its own.
 #[tactic(auto, using(std::proofs::lemmas::Fmt::decimal_digit))]
+#[inline(always)]
 fn push_number(text: &mut String, number: u64) -> Result<(), AllocError>
     ensures { OnOk result (string_bytes text.new ≡ string_bytes text.old ++ decimal number) }
 {

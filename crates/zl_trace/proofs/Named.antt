@@ -1,5 +1,5 @@
 -- A status or a system call that is found by its name.
-use Rattle.zl_trace.proofs.Common.{◌≡◌, ◌==◌, ℕ, Bool, true, List, [], ◌∷◌, Option, None, Some, slice_get, zero, suc, refl, sym, ap, ◌∙◌, subst, eq-eqb, eqb-true, and_parts, cases_Bool, inl, inr, call_name}
+use Rattle.zl_trace.proofs.Common.{◌≡◌, ◌==◌, ℕ, Bool, true, List, [], ◌∷◌, Option, None, Some, slice_get, zero, suc, refl, sym, subst, eq-eqb, eqb-true, and_parts, cases_Bool, inl, inr}
 use Rattle.std.specs.Prelude.{IfSome, IfNone, ◌≢◌}
 use Rattle.std.specs.List.{find}
 use Rattle.std.specs.Cmp.Lexicographic.{pointwise}
@@ -110,33 +110,3 @@ call_among call.ProcessExit = (19, refl)
 call_among call.TaskKill = (20, refl)
 call_among call.JobCreate = (21, refl)
 call_among call.JobSetPolicy = (22, refl)
-
--- each call is the first of its name
-first_named : (c : CallName) → find (by_name call_name calls (call_name c)) calls ≡ Some c
-first_named call.Close = refl
-first_named call.Dup = refl
-first_named call.Replace = refl
-first_named call.ChanCreate = refl
-first_named call.ChanWrite = refl
-first_named call.ChanReadEtc = refl
-first_named call.EventCreate = refl
-first_named call.Signal = refl
-first_named call.SignalPeer = refl
-first_named call.WaitOne = refl
-first_named call.WaitPoll = refl
-first_named call.WaitAsync = refl
-first_named call.PortCreate = refl
-first_named call.PortQueue = refl
-first_named call.PortWait = refl
-first_named call.PortPoll = refl
-first_named call.PortCancel = refl
-first_named call.ProcessCreate = refl
-first_named call.ProcessStart = refl
-first_named call.ProcessExit = refl
-first_named call.TaskKill = refl
-first_named call.JobCreate = refl
-first_named call.JobSetPolicy = refl
-
--- no two have one name
-pub call_injective : (c d : CallName) → call_name c ≡ call_name d → c ≡ d
-call_injective c d same = let one : Some c ≡ Some d = sym (first_named c) ∙ ap (λ (name : List ℕ). find (by_name call_name calls name) calls) same ∙ first_named d in cc

@@ -55,7 +55,7 @@ impl Needs {
 }
 
 /// A handle with which a process of the program starts. Own profile.
-#[derive(Clone, Copy)]
+#[derive(Clone, Copy, PartialEq, Eq)]
 pub struct Start {
     /// `None` stands for any kind.
     pub kind: Option<Kind>,
@@ -64,7 +64,7 @@ pub struct Start {
 }
 
 /// An array of places for handles. Own profile.
-#[derive(Clone, Copy)]
+#[derive(Clone, Copy, PartialEq, Eq)]
 pub struct SlotArray {
     /// `None` stands for any kind.
     pub kind: Option<Kind>,

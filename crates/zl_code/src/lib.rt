@@ -12,6 +12,7 @@
 mod boot;
 pub mod boot_laws;
 mod building;
+mod comparing;
 mod declarations;
 mod decoding;
 mod encoding;

@@ -1,0 +1,5 @@
+use Rattle.zl_code.proofs.Common.{◌≡◌, take, flat_map, instr_bytes}
+use Rattle.zl_code.proofs.comparing.is_same_code.Given as goal
+
+abbrev pub invariant-loop-n : goal.invariant-loop-n
+invariant-loop-n l = flat_map instr_bytes (take l.n l.one) ≡ flat_map instr_bytes (take l.n l.other)

@@ -1,5 +1,6 @@
 -- One place of the slot arrays is written.
-use Rattle.zl_code.proofs.Common.{◌≡◌, ℕ, zero, suc, List, [], ◌∷◌, map, get_or, Option, Some, None, refl, ◌∙◌, sym, ap, slice_get, slice_set, IsSome}
+use Rattle.zl_code.proofs.Common.{◌≡◌, ◌<◌, length, ℕ, zero, suc, List, [], ◌∷◌, map, get_or, Option, Some, None, refl, ◌∙◌, sym, ap, slice_get, slice_set, IsSome}
+use Rattle.std.proofs.lemmas.List.{get_or-map}
 use Rattle.zl_interp.specs.Running.{slot_in, slot_set, set_in}
 
 set_behind : (y : List ℕ) (ys : List (List ℕ)) (n place value : ℕ) (o : Option (List ℕ)) → set_in (y ∷ ys) (suc n) place value o ≡ y ∷ set_in ys n place value o
@@ -14,3 +15,8 @@ slot_written f (x ∷ xs) zero place value d w there same = λ i. same i ∷ map
 slot_written f (x ∷ xs) (suc n) place value d w there same =
     ap (λ (ys : List (List ℕ)). f x ∷ ys) (slot_written f xs n place value d w there same)
     ∙ sym (set_behind (f x) (map f xs) n place value (slice_get (map f xs) n))
+
+-- where f sees the same in two lists, it sees the same in each place
+pub same_at : {A : Type 0} (f : A → List ℕ) (xs ys : List A) (n : ℕ) (x y : A) → x ≡ get_or xs n x → y ≡ get_or ys n y → n < length xs → n < length ys → map f xs ≡ map f ys → f x ≡ f y
+same_at f xs ys n x y of_x of_y in_xs in_ys e =
+    ap f of_x ∙ sym (get_or-map f xs n x [] in_xs) ∙ ap (λ zs. get_or zs n []) e ∙ get_or-map f ys n y [] in_ys ∙ sym (ap f of_y)

@@ -2,4 +2,5 @@ pub mod Cpu
 pub mod Running
 pub mod Program
 pub mod Next
+pub mod Bursts
 pub mod Common

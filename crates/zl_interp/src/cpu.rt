@@ -1,6 +1,6 @@
 //! What a process computes with, and its registers.
 
-ghost use Rattle.std.specs.Prelude.{◌≡◌, ◌+◌, ◌<◌, ◌≤◌, ◌^◌, [], ◌∷◌, length, map, take, IfOk};
+ghost use Rattle.std.specs.Prelude.{◌≡◌, ◌↔◌, IsTrue, ◌+◌, ◌<◌, ◌≤◌, ◌^◌, [], ◌∷◌, length, map, take, IfOk};
 ghost use Rattle.zl_rights.specs.World.{written};
 ghost use Rattle.zl_code.specs.Asked.{used};
 ghost use Rattle.zl_code.specs.Limits.{most_handles};
@@ -56,6 +56,28 @@ impl Cpu {
             memory,
             slots,
         })
+    }
+
+    /// Another Cpu like this one. Only memory can be refused.
+    pub fn copy(&self, alloc: Global) -> Result<Cpu, AllocError>
+        ensures { IfOk result (λ cpu. cpu ≡ self.now) }
+    {
+        Ok(Cpu {
+            counter: self.counter,
+            registers: self.registers,
+            memory: self.memory.to_vec(alloc)?,
+            slots: copied_slots(alloc, &self.slots)?,
+        })
+    }
+
+    /// Whether the other Cpu is the same in each part.
+    pub fn is_same(&self, other: &Cpu) -> bool
+        ensures { IsTrue result ↔ self.now ≡ other.now }
+    {
+        self.counter == other.counter
+            && self.registers == other.registers
+            && self.memory.as_slice() == other.memory.as_slice()
+            && are_same_slots(&self.slots, &other.slots)
     }
 
     /// The number of the next instruction.
@@ -195,4 +217,39 @@ fn empty_slots(alloc: Global, arrays: &[SlotArray]) -> Result<Vec<Vec<u64>>, All
         slots.push(places)?;
     }
     Ok(slots)
+}
+
+/// The same slot arrays once more.
+fn copied_slots(alloc: Global, arrays: &[Vec<u64>]) -> Result<Vec<Vec<u64>>, AllocError>
+    ensures { IfOk result (λ slots. map (λ places. places.items) slots.items
+        ≡ map (λ places. places.items) arrays.now) }
+{
+    let mut slots = Vec::with_capacity(alloc, arrays.len())?;
+    for array in arrays {
+        let places = array.to_vec(alloc)?;
+        slots.push(places)?;
+    }
+    Ok(slots)
+}
+
+/// Whether both have the same in each place of each slot array.
+fn are_same_slots(one: &[Vec<u64>], other: &[Vec<u64>]) -> bool
+    ensures { IsTrue result ↔ map (λ places. places.items) one.now
+        ≡ map (λ places. places.items) other.now }
+{
+    if one.len() != other.len() {
+        return false;
+    }
+    for n in 0..one.len() {
+        if !has_same_places(&one[n], &other[n]) {
+            return false;
+        }
+    }
+    true
+}
+
+fn has_same_places(one: &Vec<u64>, other: &Vec<u64>) -> bool
+    ensures { IsTrue result ↔ one.now.items ≡ other.now.items }
+{
+    one.as_slice() == other.as_slice()
 }

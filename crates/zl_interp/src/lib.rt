@@ -2,16 +2,18 @@
 //!
 //! It stands on `zl_verify`, for programs that the verifier accepted, and on `zl_code`, for
 //! instructions, images and the definitions. It promises that `call_at` names a call exactly where
-//! one stands next, and that `local_step` does the local instruction that stands next, or changes
-//! nothing. It knows no world: handles are numbers to it, and calls are done in the crate above.
+//! one stands next, that `local_step` does the local instruction that stands next, or changes nothing,
+//! and that what `burst` did are local instructions that follow one another. It knows no world: handles are numbers to it, and calls are done in the crate above.
 #![tactic(auto)]
 
+mod bursts;
 mod cpu;
 mod memory;
 mod next;
 mod program;
 mod running;
 
+pub use bursts::{Done, Stop, Turn, burst};
 pub use cpu::Cpu;
 pub use next::{call_at, local_step};
 pub use program::{Library, Program};

@@ -5,12 +5,14 @@ ghost use Rattle.zl_code.specs.Limits.{most_instructions};
 ghost use Rattle.zl_code.specs.Local.{local_effect};
 ghost use Rattle.zl_code.specs.Request.{site_of};
 ghost use Rattle.zl_code.specs.Steps.{Moves, moves, next_at};
+ghost use Rattle.zl_interp.specs.Bursts.{stop_at};
 ghost use Rattle.zl_interp.specs.Next.{IsStuckOrCalls, StandsNext, call_in};
 ghost use Rattle.zl_interp.specs.Program.{program_value};
 
+use crate::bursts::Stop;
 use crate::cpu::Cpu;
 use crate::program::Program;
-use crate::running::run;
+use crate::running::{can_run, run};
 use zl_code::{CallInstr, LocalInstr};
 
 /// The call that stands next for the Cpu, if one does.
@@ -79,4 +81,17 @@ fn local_at(program: &Program, cpu: &Cpu) -> Option<LocalInstr>
     ensures within { OnSome result (cpu.now.counter < most_instructions) }
 {
     program.image().local_at(cpu.counter())
+}
+
+/// Where instructions in a row end with this Cpu.
+pub fn stop_of(program: &Program, cpu: &Cpu) -> Stop
+    ensures { result ≡ stop_at (next_at (program_value program.now).image cpu.now) }
+{
+    if call_at(program, cpu).is_some() {
+        return Stop::AtCall;
+    }
+    match local_at(program, cpu) {
+        Some(local) if can_run(cpu, &local) => Stop::More,
+        _ => Stop::Stuck,
+    }
 }

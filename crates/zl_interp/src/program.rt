@@ -1,10 +1,12 @@
 //! Programs, checked or not, and the programs of a lab.
 
-ghost use Rattle.std.specs.Prelude.{◌≡◌, ◌==◌, ◌≤◌, ◌++◌, ◌∷◌, [], length, OnOk, OnErr, IfErr, IfSome, IfNone, slice_get, Some, None};
+ghost use Rattle.std.specs.Prelude.{◌≡◌, ◌↔◌, IsTrue, ◌==◌, ◌≤◌, ◌++◌, ◌∷◌, [], length, OnOk, OnErr, IfErr, IfSome, IfNone, slice_get, Some, None};
+ghost use Rattle.std.specs.Arc.{arc_value};
 ghost use Rattle.zl_interp.specs.Program.{program_value};
 
 use std::alloc::{AllocFailed, Global};
 use std::marker::Model;
+use std::sync::Arc;
 use zl_code::Image;
 use zl_verify::Checked;
 
@@ -30,6 +32,13 @@ impl Program {
         }
     }
 
+    /// Whether the other program is the same: its image, and whether it was checked.
+    pub fn is_same(&self, other: &Program) -> bool
+        ensures { IsTrue result ↔ program_value self.now ≡ program_value other.now }
+    {
+        self.is_checked() == other.is_checked() && self.image().is_same(other.image())
+    }
+
     /// Whether the program was checked, so that what it declares counts.
     pub fn is_checked(&self) -> bool
         ensures { result ≡ (program_value self.now).checked }
@@ -43,21 +52,25 @@ impl Program {
 
 /// The programs of a lab, by their numbers from 0.
 ///
+/// Each may be kept by others too, so that a process can run it beside the library.
+///
 /// Source: own profile.
 #[derive(Drop)]
 pub struct Library {
-    programs: Vec<Program>,
+    programs: Vec<Arc<Program>>,
+    alloc: Global,
 }
 
 impl Model for Library {
     ghost use Rattle.std.specs.Prelude.{map};
+    ghost use Rattle.std.specs.Arc.{arc_value};
     ghost use Rattle.zl_code.specs.Image.{Library as Programs};
 
     ghost Value = { Programs };
 
     ghost use Rattle.zl_interp.specs.Program.{program_value};
 
-    ghost view = { λ l. map program_value l.programs.items };
+    ghost view = { λ l. map (λ program. program_value (arc_value program)) l.programs.items };
 }
 
 impl Library {
@@ -67,6 +80,7 @@ impl Library {
     {
         Library {
             programs: Vec::new(alloc),
+            alloc,
         }
     }
 
@@ -92,13 +106,28 @@ impl Library {
         ensures unchanged { OnErr result (self.new ≡ self.old) }
         ensures handed_back { IfErr result (λ refused. refused.value ≡ program) }
     {
-        self.programs.push(program)
+        if self.programs.reserve(1).is_err() {
+            return Err(AllocFailed { value: program });
+        }
+        let program = Arc::new(self.alloc, program)?;
+        self.programs.push_reserved(program);
+        Ok(())
     }
 
     /// The program of this number, if there is one.
     pub fn get(&self, number: usize) -> Option<&Program>
         ensures found { IfSome result
             (λ program. slice_get self.now number ≡ Some (program_value program.now)) }
+        ensures missing { IfNone result (length self.now ≤ number) }
+    {
+        let program = self.programs.get(number)?;
+        Some(program)
+    }
+
+    /// The program of this number, if there is one, for whoever keeps it beside the library.
+    pub fn shared(&self, number: usize) -> Option<&Arc<Program>>
+        ensures found { IfSome result (λ program.
+            slice_get self.now number ≡ Some (program_value (arc_value program.now))) }
         ensures missing { IfNone result (length self.now ≤ number) }
     {
         self.programs.get(number)

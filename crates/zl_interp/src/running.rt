@@ -1,6 +1,6 @@
 //! What a local instruction does to a Cpu.
 
-ghost use Rattle.std.specs.Prelude.{◌≡◌, ◌+◌, ◌-◌, ◌*◌, ◌/◌, ◌<◌, ◌^◌, Some, None, nat_lt, if◌then◌else◌, IsTrue, IsSome, IfNone, OnSome};
+ghost use Rattle.std.specs.Prelude.{◌≡◌, ◌+◌, ◌-◌, ◌*◌, ◌/◌, ◌<◌, ◌^◌, Some, None, nat_lt, if◌then◌else◌, is_some, IsTrue, IsSome, IfNone, OnSome};
 ghost use Rattle.zl_rights.specs.Numbers.{within};
 ghost use Rattle.zl_code.specs.Local.{local_effect, wrapped, loads, stores, swaps};
 ghost use Rattle.zl_interp.specs.Running.{is_free, slot_in, slot_set, moved};
@@ -133,6 +133,26 @@ fn has(value: u64, bits: u32) -> bool
 {
     let bits = u64::from(bits);
     value & bits == bits
+}
+
+/// Whether the local instruction can be done: what it names of memory and slot arrays is there.
+#[tactic(auto, unfolding(zl_code::specs::Local::local_effect))]
+pub fn can_run(cpu: &Cpu, local: &LocalInstr) -> bool
+    ensures { result ≡ is_some (local_effect local.now cpu.now) }
+{
+    match local {
+        LocalInstr::Swap { place, array, .. } => {
+            let place = cpu.register(*place);
+            cpu.slot(*array as usize, place as usize).is_some()
+        }
+        LocalInstr::LoadByte { base, offset, .. } | LocalInstr::StoreByte { base, offset, .. } => {
+            cpu.place(cpu.register(*base), *offset, 1).is_some()
+        }
+        LocalInstr::LoadWord { base, offset, .. } | LocalInstr::StoreWord { base, offset, .. } => {
+            cpu.place(cpu.register(*base), *offset, 8).is_some()
+        }
+        _ => true,
+    }
 }
 
 /// Does the local instruction. Where it can't be done, nothing changes.

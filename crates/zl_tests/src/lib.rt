@@ -1,5 +1,6 @@
-//! Tests of `zl_objects`, `zl_code`, `zl_verify`, `zl_asm`, `zl_calls` and `zl_sched`, of what none of
-//! their clauses says, and a run of a checked process through each call, worked out by the definitions.
+//! Tests of `zl_objects`, `zl_code`, `zl_verify`, `zl_asm`, `zl_interp`, `zl_calls` and `zl_sched`, of
+//! what none of their clauses says, and a run of a checked process through each call, worked out by
+//! the definitions.
 //!
 //! It stands on them and has nothing of its own: a crate with tests is proved twice, with them and
 //! without, and nothing waits for this one.
@@ -9,6 +10,8 @@
 mod boot_object_tests;
 #[cfg(test)]
 mod boot_tests;
+#[cfg(test)]
+mod burst_tests;
 #[cfg(test)]
 mod check_tests;
 #[cfg(test)]

@@ -3,7 +3,8 @@
 //! It stands on `zl_verify`, for programs that the verifier accepted, and on `zl_code`, for
 //! instructions, images and the definitions. It promises that `call_at` names a call exactly where
 //! one stands next, that `local_step` does the local instruction that stands next, or changes nothing,
-//! and that what `burst` did are local instructions that follow one another. It knows no world: handles are numbers to it, and calls are done in the crate above.
+//! and that what `burst` did are local instructions that follow one another. It knows no world:
+//! handles are numbers to it, and calls are done in the crate above.
 #![tactic(auto)]
 
 mod bursts;

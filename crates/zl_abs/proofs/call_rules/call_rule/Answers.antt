@@ -75,3 +75,31 @@ returns-in-ProcessExit c =
     c.exit.ensures
     ∙ (exit_rule (bounds_in c.args.bounds) c.args.image.now _ c.in-ProcessExit.code
     ∙ ap (λ (s : List AbsVal). call_rule (bounds_in c.args.bounds) c.args.image.now (call.ProcessExit c.in-ProcessExit.code) s) c.requires.same))
+
+pub returns-in-Dup : goal.returns-in-Dup
+unfolding call_rule uses_of row_of call_parts
+returns-in-Dup c = rw c.in-Dup.is (rw (c.used.ensures, c.narrowed.ensures, c.get.ensures) at c.call-in-Dup.ensures)
+
+pub returns-in-Replace : goal.returns-in-Replace
+unfolding call_rule uses_of row_of call_parts
+returns-in-Replace c = rw c.in-Replace.is (rw (c.taken.ensures, c.empty.ensures tt, c.narrowed-in-Replace.ensures, c.get-in-Replace.ensures) at c.call-in-Replace.ensures)
+
+pub returns-in-Close : goal.returns-in-Close
+unfolding call_rule uses_of row_of call_parts
+returns-in-Close c = rw c.in-Close.is (rw (c.closed.ensures) at c.call.ensures)
+
+pub returns-in-PortWait : goal.returns-in-PortWait
+unfolding call_rule uses_of row_of call_parts
+returns-in-PortWait c = rw c.in-PortWait.is (rw (c.used-in-PortWait.ensures, c.packet.ensures) at c.call-in-PortWait.ensures)
+
+pub returns-in-PortPoll : goal.returns-in-PortPoll
+unfolding call_rule uses_of row_of call_parts
+returns-in-PortPoll c = rw c.in-PortPoll.is (rw (c.used-in-PortPoll.ensures, c.packet-in-PortPoll.ensures) at c.call-in-PortPoll.ensures)
+
+pub returns-in-TaskKill : goal.returns-in-TaskKill
+unfolding call_rule uses_of row_of call_parts
+returns-in-TaskKill c = rw c.in-TaskKill.is (rw (c.used-in-TaskKill.ensures) at c.call-in-TaskKill.ensures)
+
+pub returns-in-ChanWrite : goal.returns-in-ChanWrite
+unfolding call_rule uses_of
+returns-in-ChanWrite c = rw c.in-ChanWrite.is c.chan_write.ensures

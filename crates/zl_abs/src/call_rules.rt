@@ -1,14 +1,15 @@
 //! The rules of the system calls: what each uses, and what its answer gives.
 
-ghost use Rattle.std.specs.Prelude.{◌≡◌, ◌∷◌, [], Some, Ok, Err, if◌then◌else◌, IsTrue};
+ghost use Rattle.std.specs.Prelude.{◌≡◌, ◌∷◌, [], Some, None, Ok, Err, if◌then◌else◌, IsTrue};
 ghost use Rattle.zl_rights.specs.Numbers.{TRANSFER};
 ghost use Rattle.zl_code.specs.Instructions.{consumes};
 ghost use Rattle.zl_code.specs.declared.instr.CallInstr.TheVariants as call_instr;
 ghost use Rattle.zl_code.specs.Spells.{is_call_in_range};
 ghost use Rattle.zl_code.specs.Asked.{used};
+ghost use Rattle.zl_abs.specs.declared.value.AbsVal.TheVariants.{Word};
 ghost use Rattle.zl_abs.specs.declared.cause.Cause.TheVariants as causes;
 ghost use Rattle.zl_abs.specs.Found.{bounds_in};
-ghost use Rattle.zl_abs.specs.CallRules.{are_words, call_rule, examined_all, is_full, operands_listed, stops};
+ghost use Rattle.zl_abs.specs.CallRules.{are_words, call_rule, examined_all, is_full, operands_listed, passing, state_after, stops, uses};
 ghost use Rattle.zl_abs.specs.Changes.{left_by, ways_told};
 
 use crate::call_results::{STATUS, narrowed, new, packet, received};
@@ -90,6 +91,39 @@ fn exit(state: &AbsState, code: Register) -> Result<Changes, Cause>
     }
 }
 
+/// The rule of a call that uses one handle and no range of the memory, and makes nothing that a
+/// program has to declare. The arms below are checked sooner the less each of them passes.
+fn simple(
+    image: &Image,
+    state: &AbsState,
+    after: &mut AbsState,
+    operand: Operand,
+    words: &[Register],
+    results: &[(Register, AbsVal)],
+) -> Result<Changes, Cause>
+    requires same { after.old ≡ state.now }
+    ensures { ways_told after.new result ≡ passing (state_after image.now state.now
+        (uses (operand ∷ []) words.now None None results.now)) }
+{
+    call(image, state, after, &[operand], words, None, None, results)
+}
+
+/// The rule of such a call that gives a status alone.
+fn plain(
+    image: &Image,
+    state: &AbsState,
+    after: &mut AbsState,
+    operand: Operand,
+    words: &[Register],
+    status: Register,
+) -> Result<Changes, Cause>
+    requires same { after.old ≡ state.now }
+    ensures { ways_told after.new result ≡ passing (state_after image.now state.now
+        (uses (operand ∷ []) words.now None None ((status, Word 30) ∷ []))) }
+{
+    simple(image, state, after, operand, words, &[(status, STATUS)])
+}
+
 /// The edges that are followed from the call, or why its rule doesn't hold.
 #[tactic(auto, unfolding(crate::specs::CallRules::call_rule, crate::specs::CallRules::uses_of, zl_code::specs::Instructions::row_of, zl_code::specs::Spells::call_parts))]
 pub(crate) fn call_rule(
@@ -105,29 +139,25 @@ pub(crate) fn call_rule(
         ≡ call_rule (bounds_in bounds.entry) image.now instr state.now }
 {
     match instr {
-        CallInstr::Close { status, handle } => call(
+        CallInstr::Close { status, handle } => plain(
             image,
             state,
             after,
-            &[Operand::closed(handle)],
+            Operand::closed(handle),
             &[],
-            None,
-            None,
-            &[(status, STATUS)],
+            status,
         ),
         CallInstr::Dup {
             status,
             handle,
             copy,
             rights,
-        } => call(
+        } => simple(
             image,
             state,
             after,
-            &[Operand::used(handle, Kinds::Any, Rights::DUPLICATE)],
+            Operand::used(handle, Kinds::Any, Rights::DUPLICATE),
             &[],
-            None,
-            None,
             &[
                 (status, STATUS),
                 (copy, narrowed(state.get(handle), rights)),
@@ -138,14 +168,12 @@ pub(crate) fn call_rule(
             handle,
             replacement,
             rights,
-        } => call(
+        } => simple(
             image,
             state,
             after,
-            &[Operand::taken(handle, Kinds::Any, Rights::empty())],
+            Operand::taken(handle, Kinds::Any, Rights::empty()),
             &[],
-            None,
-            None,
             &[
                 (status, STATUS),
                 (replacement, narrowed(state.get(handle), rights)),
@@ -216,44 +244,38 @@ pub(crate) fn call_rule(
             handle,
             clear,
             set,
-        } => call(
+        } => plain(
             image,
             state,
             after,
-            &[Operand::used(handle, Kinds::Any, Rights::SIGNAL)],
+            Operand::used(handle, Kinds::Any, Rights::SIGNAL),
             &[clear, set],
-            None,
-            None,
-            &[(status, STATUS)],
+            status,
         ),
         CallInstr::SignalPeer {
             status,
             handle,
             clear,
             set,
-        } => call(
+        } => plain(
             image,
             state,
             after,
-            &[Operand::used(handle, Kinds::Only(Kind::Channel), Rights::SIGNAL_PEER)],
+            Operand::used(handle, Kinds::Only(Kind::Channel), Rights::SIGNAL_PEER),
             &[clear, set],
-            None,
-            None,
-            &[(status, STATUS)],
+            status,
         ),
         CallInstr::WaitOne {
             status,
             handle,
             mask,
             observed,
-        } => call(
+        } => simple(
             image,
             state,
             after,
-            &[Operand::used(handle, Kinds::Any, Rights::WAIT)],
+            Operand::used(handle, Kinds::Any, Rights::WAIT),
             &[mask],
-            None,
-            None,
             &[(status, STATUS), (observed, AbsVal::Word(0xffff_ffff))],
         ),
         CallInstr::WaitPoll {
@@ -261,14 +283,12 @@ pub(crate) fn call_rule(
             handle,
             mask,
             observed,
-        } => call(
+        } => simple(
             image,
             state,
             after,
-            &[Operand::used(handle, Kinds::Any, Rights::WAIT)],
+            Operand::used(handle, Kinds::Any, Rights::WAIT),
             &[mask],
-            None,
-            None,
             &[(status, STATUS), (observed, AbsVal::Word(0xffff_ffff))],
         ),
         CallInstr::WaitAsync {
@@ -305,15 +325,13 @@ pub(crate) fn call_rule(
             port,
             key,
             value,
-        } => call(
+        } => plain(
             image,
             state,
             after,
-            &[Operand::used(port, Kinds::Only(Kind::Port), Rights::WRITE)],
+            Operand::used(port, Kinds::Only(Kind::Port), Rights::WRITE),
             &[key, value],
-            None,
-            None,
-            &[(status, STATUS)],
+            status,
         ),
         CallInstr::PortWait {
             status,
@@ -322,14 +340,12 @@ pub(crate) fn call_rule(
             kind,
             trigger,
             observed,
-        } => call(
+        } => simple(
             image,
             state,
             after,
-            &[Operand::used(port, Kinds::Only(Kind::Port), Rights::READ)],
+            Operand::used(port, Kinds::Only(Kind::Port), Rights::READ),
             &[],
-            None,
-            None,
             &packet(bounds, status, key, kind, trigger, observed),
         ),
         CallInstr::PortPoll {
@@ -339,14 +355,12 @@ pub(crate) fn call_rule(
             kind,
             trigger,
             observed,
-        } => call(
+        } => simple(
             image,
             state,
             after,
-            &[Operand::used(port, Kinds::Only(Kind::Port), Rights::READ)],
+            Operand::used(port, Kinds::Only(Kind::Port), Rights::READ),
             &[],
-            None,
-            None,
             &packet(bounds, status, key, kind, trigger, observed),
         ),
         CallInstr::PortCancel {
@@ -401,24 +415,20 @@ pub(crate) fn call_rule(
             &[(status, STATUS)],
         ),
         CallInstr::ProcessExit { code } => exit(after, code),
-        CallInstr::TaskKill { status, task } => call(
+        CallInstr::TaskKill { status, task } => plain(
             image,
             state,
             after,
-            &[Operand::used(task, Kinds::Tasks, Rights::DESTROY)],
+            Operand::used(task, Kinds::Tasks, Rights::DESTROY),
             &[],
-            None,
-            None,
-            &[(status, STATUS)],
+            status,
         ),
-        CallInstr::JobCreate { status, job, child } => call(
+        CallInstr::JobCreate { status, job, child } => simple(
             image,
             state,
             after,
-            &[Operand::used(job, Kinds::Only(Kind::Job), Rights::MANAGE_JOB)],
+            Operand::used(job, Kinds::Only(Kind::Job), Rights::MANAGE_JOB),
             &[],
-            None,
-            None,
             &[(status, STATUS), (child, new(Kind::Job))],
         ),
         CallInstr::JobSetPolicy {
@@ -427,15 +437,13 @@ pub(crate) fn call_rule(
             mode,
             condition,
             action,
-        } => call(
+        } => plain(
             image,
             state,
             after,
-            &[Operand::used(job, Kinds::Only(Kind::Job), Rights::SET_POLICY)],
+            Operand::used(job, Kinds::Only(Kind::Job), Rights::SET_POLICY),
             &[mode, condition, action],
-            None,
-            None,
-            &[(status, STATUS)],
+            status,
         ),
     }
 }

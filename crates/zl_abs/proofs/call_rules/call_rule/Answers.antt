@@ -10,7 +10,7 @@ use Rattle.zl_abs.proofs.call_rules.call_rule.Goals as goal
 
 pub returns-in-ChanCreate : goal.returns-in-ChanCreate
 unfolding call_rule uses_of row_of call_parts
-returns-in-ChanCreate c = rw c.in-ChanCreate.is (rw (c.new.ensures, c.new-in-ChanCreate.ensures) at c.call-in-ChanCreate.ensures)
+returns-in-ChanCreate c = rw c.in-ChanCreate.is (rw (c.new.ensures, c.new-in-ChanCreate.ensures) at c.call.ensures)
 
 pub returns-in-EventCreate : goal.returns-in-EventCreate
 unfolding call_rule uses_of row_of call_parts
@@ -18,19 +18,19 @@ returns-in-EventCreate c = rw c.in-EventCreate.is (rw (c.new-in-EventCreate.ensu
 
 pub returns-in-Signal : goal.returns-in-Signal
 unfolding call_rule uses_of row_of call_parts
-returns-in-Signal c = rw c.in-Signal.is (rw (c.used-in-Signal.ensures) at c.call-in-Signal.ensures)
+returns-in-Signal c = rw c.in-Signal.is (rw (c.used-in-Signal.ensures) at c.plain-in-Signal.ensures)
 
 pub returns-in-SignalPeer : goal.returns-in-SignalPeer
 unfolding call_rule uses_of row_of call_parts
-returns-in-SignalPeer c = rw c.in-SignalPeer.is (rw (c.used-in-SignalPeer.ensures) at c.call-in-SignalPeer.ensures)
+returns-in-SignalPeer c = rw c.in-SignalPeer.is (rw (c.used-in-SignalPeer.ensures) at c.plain-in-SignalPeer.ensures)
 
 pub returns-in-WaitOne : goal.returns-in-WaitOne
 unfolding call_rule uses_of row_of call_parts
-returns-in-WaitOne c = rw c.in-WaitOne.is (rw (c.used-in-WaitOne.ensures) at c.call-in-WaitOne.ensures)
+returns-in-WaitOne c = rw c.in-WaitOne.is (rw (c.used-in-WaitOne.ensures) at c.simple-in-WaitOne.ensures)
 
 pub returns-in-WaitPoll : goal.returns-in-WaitPoll
 unfolding call_rule uses_of row_of call_parts
-returns-in-WaitPoll c = rw c.in-WaitPoll.is (rw (c.used-in-WaitPoll.ensures) at c.call-in-WaitPoll.ensures)
+returns-in-WaitPoll c = rw c.in-WaitPoll.is (rw (c.used-in-WaitPoll.ensures) at c.simple-in-WaitPoll.ensures)
 
 pub returns-in-WaitAsync : goal.returns-in-WaitAsync
 unfolding call_rule uses_of row_of call_parts
@@ -42,7 +42,7 @@ returns-in-PortCreate c = rw c.in-PortCreate.is (rw (c.new-in-PortCreate.ensures
 
 pub returns-in-PortQueue : goal.returns-in-PortQueue
 unfolding call_rule uses_of row_of call_parts
-returns-in-PortQueue c = rw c.in-PortQueue.is (rw (c.used-in-PortQueue.ensures) at c.call-in-PortQueue.ensures)
+returns-in-PortQueue c = rw c.in-PortQueue.is (rw (c.used-in-PortQueue.ensures) at c.plain-in-PortQueue.ensures)
 
 pub returns-in-ProcessCreate : goal.returns-in-ProcessCreate
 unfolding call_rule uses_of row_of call_parts
@@ -54,11 +54,11 @@ returns-in-ProcessStart c = rw c.in-ProcessStart.is (rw (c.used-in-ProcessStart.
 
 pub returns-in-JobCreate : goal.returns-in-JobCreate
 unfolding call_rule uses_of row_of call_parts
-returns-in-JobCreate c = rw c.in-JobCreate.is (rw (c.used-in-JobCreate.ensures, c.new-in-JobCreate.ensures) at c.call-in-JobCreate.ensures)
+returns-in-JobCreate c = rw c.in-JobCreate.is (rw (c.used-in-JobCreate.ensures, c.new-in-JobCreate.ensures) at c.simple-in-JobCreate.ensures)
 
 pub returns-in-JobSetPolicy : goal.returns-in-JobSetPolicy
 unfolding call_rule uses_of row_of call_parts
-returns-in-JobSetPolicy c = rw c.in-JobSetPolicy.is (rw (c.used-in-JobSetPolicy.ensures) at c.call-in-JobSetPolicy.ensures)
+returns-in-JobSetPolicy c = rw c.in-JobSetPolicy.is (rw (c.used-in-JobSetPolicy.ensures) at c.plain-in-JobSetPolicy.ensures)
 
 pub returns-in-PortCancel : goal.returns-in-PortCancel
 unfolding call_rule uses_of row_of call_parts
@@ -78,27 +78,27 @@ returns-in-ProcessExit c =
 
 pub returns-in-Dup : goal.returns-in-Dup
 unfolding call_rule uses_of row_of call_parts
-returns-in-Dup c = rw c.in-Dup.is (rw (c.used.ensures, c.narrowed.ensures, c.get.ensures) at c.call-in-Dup.ensures)
+returns-in-Dup c = rw c.in-Dup.is (rw (c.used.ensures, c.narrowed.ensures, c.get.ensures) at c.simple.ensures)
 
 pub returns-in-Replace : goal.returns-in-Replace
 unfolding call_rule uses_of row_of call_parts
-returns-in-Replace c = rw c.in-Replace.is (rw (c.taken.ensures, c.empty.ensures tt, c.narrowed-in-Replace.ensures, c.get-in-Replace.ensures) at c.call-in-Replace.ensures)
+returns-in-Replace c = rw c.in-Replace.is (rw (c.taken.ensures, c.empty.ensures tt, c.narrowed-in-Replace.ensures, c.get-in-Replace.ensures) at c.simple-in-Replace.ensures)
 
 pub returns-in-Close : goal.returns-in-Close
 unfolding call_rule uses_of row_of call_parts
-returns-in-Close c = rw c.in-Close.is (rw (c.closed.ensures) at c.call.ensures)
+returns-in-Close c = rw c.in-Close.is (rw (c.closed.ensures) at c.plain.ensures)
 
 pub returns-in-PortWait : goal.returns-in-PortWait
 unfolding call_rule uses_of row_of call_parts
-returns-in-PortWait c = rw c.in-PortWait.is (rw (c.used-in-PortWait.ensures, c.packet.ensures) at c.call-in-PortWait.ensures)
+returns-in-PortWait c = rw c.in-PortWait.is (rw (c.used-in-PortWait.ensures, c.packet.ensures) at c.simple-in-PortWait.ensures)
 
 pub returns-in-PortPoll : goal.returns-in-PortPoll
 unfolding call_rule uses_of row_of call_parts
-returns-in-PortPoll c = rw c.in-PortPoll.is (rw (c.used-in-PortPoll.ensures, c.packet-in-PortPoll.ensures) at c.call-in-PortPoll.ensures)
+returns-in-PortPoll c = rw c.in-PortPoll.is (rw (c.used-in-PortPoll.ensures, c.packet-in-PortPoll.ensures) at c.simple-in-PortPoll.ensures)
 
 pub returns-in-TaskKill : goal.returns-in-TaskKill
 unfolding call_rule uses_of row_of call_parts
-returns-in-TaskKill c = rw c.in-TaskKill.is (rw (c.used-in-TaskKill.ensures) at c.call-in-TaskKill.ensures)
+returns-in-TaskKill c = rw c.in-TaskKill.is (rw (c.used-in-TaskKill.ensures) at c.plain-in-TaskKill.ensures)
 
 pub returns-in-ChanWrite : goal.returns-in-ChanWrite
 unfolding call_rule uses_of

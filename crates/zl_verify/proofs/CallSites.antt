@@ -98,4 +98,4 @@ pub has_site : (x : CallInstr) (c : Cpu) → has_its_memory (call_parts x).last 
 unfolding site_of row_of call_parts
 has_site (call.ChanWrite a b m n hs) c there none = none_lacks (is_in_memory c (reg c m) (reg c n)) _ there none
 has_site (call.ChanReadEtc a b m n e f g places) c there none = none_lacks (is_in_memory c (reg c m) (reg c n)) _ there none
-has_site _ c there none = cc
+has_site _ c there none = none_lacks true _ refl none

@@ -18,15 +18,20 @@ mod nearest;
 mod program;
 mod rights;
 mod stuck;
+mod text;
 mod word;
 
 pub use crate::words::is;
-pub use block::{is_opening, push_block_fault};
+pub use block::{Block, End, block_of, is_opening, push_block_fault};
 pub use image::explain_image;
 pub use instr_text::push_instr_text;
-pub use lines::{line_at, place_of_blank, place_outside_ascii, push_head, push_odd_byte, words_of};
+pub use lines::{
+    Line, line_at, numbered_lines, place_of_blank, place_outside_ascii, push_head, push_odd_byte,
+    words_of,
+};
 pub use nearest::push_nearest;
 pub use program::explain_program;
 pub use rights::push_right_beyond;
 pub use stuck::{Stuck, explain_stuck};
+pub use text::{Value, push_text};
 pub use word::{Word, plural};

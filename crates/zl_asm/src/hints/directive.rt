@@ -1,7 +1,10 @@
 //! The faults of a directive of the assembler's text.
 
+use crate::hints::lines::Line;
 use crate::hints::nearest::push_nearest;
-use crate::hints::word::{Word, plural};
+use crate::hints::text::Value::{Name, Number, Word};
+use crate::hints::text::push_text;
+use crate::hints::word::plural;
 use crate::numbers::{number, sixteen_bytes};
 use crate::words::{is, split_words};
 use bitflags::Flags;
@@ -35,28 +38,22 @@ pub fn push_directive_unknown(
     name: &[u8],
     operands: &[&[u8]],
 ) -> Result<(), AllocError> {
-    match operands {
-        [word, ..] if is(name, b".need") => {
-            write!(hint, "no condition is called {}", Word(word))?;
-            push_nearest(hint, alloc, word, &CONDITIONS)
-        }
+    let (text, word, names): (&str, &[u8], &[&str]) = match operands {
+        [word, ..] if is(name, b".need") => ("no condition is called #", word, &CONDITIONS),
         [word, ..] if is(name, b".start") || is(name, b".slots") => {
-            write!(hint, "no kind is called {}", Word(word))?;
-            push_nearest(hint, alloc, word, &KINDS)
+            ("no kind is called #", word, &KINDS)
         }
-        _ => {
-            write!(hint, "no directive is called {}", Word(name))?;
-            push_nearest(hint, alloc, name, &NAMES)
-        }
-    }
+        _ => ("no directive is called #", name, &NAMES),
+    };
+    push_text(hint, text, &[Word(word)])?;
+    push_nearest(hint, alloc, word, names)
 }
 
-/// Adds why these words are no directive, or why none stands there.
+/// Adds why these words are no directive, or why none stands there, below these lines.
 pub fn push_directive_operand(
     hint: &mut String,
     alloc: Global,
-    text: &[u8],
-    line: u64,
+    above: &[Line],
     words: &[&[u8]],
 ) -> Result<(), AllocError> {
     let [name, operands @ ..] = words else {
@@ -65,22 +62,14 @@ pub fn push_directive_operand(
     if push_wrong_count(hint, name, operands)? || push_wrong_operand(hint, name, operands)? {
         return Ok(());
     }
-    let above = read_above(alloc, text, line, name)?;
-    let (body, same) = (above.body, above.same);
-    if body != 0 {
-        return write!(
-            hint,
-            "directives stand above the first label and instruction, in line {body}"
-        );
-    }
-    write!(hint, "{} stands in line {same} already", Word(name))
+    push_wrong_place(hint, alloc, above, name)
 }
 
 /// How many operands the directive takes, and which.
 fn operands_of(name: &[u8]) -> Option<(usize, &'static str)> {
-    for (known, most, what) in DIRECTIVES {
+    for (known, most, what) in &DIRECTIVES {
         if known.as_bytes() == name {
-            return Some((most, what));
+            return Some((*most, *what));
         }
     }
     None
@@ -95,11 +84,14 @@ fn push_wrong_count(
     let count = operands.len();
     match operands_of(name) {
         Some((most, what)) if count != most => {
-            let (name, ending) = (Word(name), plural(count));
-            write!(
-                hint,
-                "{name} has {count} operand{ending} and takes {most}{what}"
-            )?;
+            let values = [
+                Word(name),
+                Number(count as u64),
+                Name(plural(count)),
+                Number(most as u64),
+                Name(what),
+            ];
+            push_text(hint, "# has # operand# and takes ##", &values)?;
             Ok(true)
         }
         _ => Ok(false),
@@ -118,61 +110,60 @@ fn push_wrong_operand(
         [word] => push_wrong_number(hint, word),
         [kind, rights] => push_wrong_rights(hint, kind, rights),
         [kind, length, rights] => {
-            if push_wrong_number(hint, length)? {
-                return Ok(true);
-            }
-            push_wrong_rights(hint, kind, rights)
+            Ok(push_wrong_number(hint, length)? || push_wrong_rights(hint, kind, rights)?)
         }
         _ => Ok(false),
     }
 }
 
+/// Adds why the digits aren't those of an instruction that can stand there.
 fn push_wrong_bytes(hint: &mut String, digits: &[u8]) -> Result<bool, AllocError> {
-    let Some(bytes) = sixteen_bytes(digits) else {
-        write!(hint, "{} isn't 32 hexadecimal digits", Word(digits))?;
-        return Ok(true);
-    };
-    push_opcode(hint, bytes[0])?;
+    match sixteen_bytes(digits) {
+        Some(bytes) => push_opcode(hint, bytes[0])?,
+        None => push_text(hint, "# isn't 32 hexadecimal digits", &[Word(digits)])?,
+    }
     Ok(true)
 }
 
 /// Adds why the bytes of an instruction with this opcode can't stand there.
 fn push_opcode(hint: &mut String, opcode: u8) -> Result<(), AllocError> {
     match Row::of_opcode(opcode) {
-        Some(row) => {
-            let name = row.name;
-            write!(
-                hint,
-                "the opcode {opcode} is {name}, which is written by its name"
-            )
-        }
+        Some(row) => push_text(
+            hint,
+            "the opcode # is #, which is written by its name",
+            &[Number(u64::from(opcode)), Name(row.name)],
+        ),
         None => hint.push_str("an unknown opcode stands only where .raw is declared"),
     }
 }
 
+/// Adds that no program needs the condition of this name, if none does.
 fn push_wrong_need(hint: &mut String, word: &[u8]) -> Result<bool, AllocError> {
     match Condition::named(word) {
         Some(condition) if !Image::can_need(condition) => {
-            let word = Word(word);
-            write!(
-                hint,
-                "a program needs NEW_CHANNEL, NEW_EVENT, NEW_PORT or NEW_PROCESS, and not {word}"
-            )?;
+            let text = "a program needs NEW_CHANNEL, NEW_EVENT, NEW_PORT or NEW_PROCESS, and not #";
+            push_text(hint, text, &[Word(word)])?;
             Ok(true)
         }
         _ => Ok(false),
     }
 }
 
+/// Adds that the word is no number, if it isn't one.
 fn push_wrong_number(hint: &mut String, word: &[u8]) -> Result<bool, AllocError> {
     if number(word).is_some() {
         return Ok(false);
     }
-    write!(hint, "{} is no number from 0 to 4294967295", Word(word))?;
+    push_text(hint, "# is no number from 0 to 4294967295", &[Word(word)])?;
     Ok(true)
 }
 
-fn push_wrong_rights(hint: &mut String, kind: &[u8], rights: &[u8]) -> Result<bool, AllocError> {
+/// Adds that the rights are no number, or which rights the kind has, if they aren't among those.
+fn push_wrong_rights<'a>(
+    hint: &mut String,
+    kind: &'a [u8],
+    rights: &'a [u8],
+) -> Result<bool, AllocError> {
     if push_wrong_number(hint, rights)? {
         return Ok(true);
     }
@@ -181,11 +172,9 @@ fn push_wrong_rights(hint: &mut String, kind: &[u8], rights: &[u8]) -> Result<bo
     if found.within(allowed) {
         return Ok(false);
     }
-    let (rights, kind, most) = (Word(rights), Word(kind), allowed.bits());
-    write!(
-        hint,
-        "the rights {rights} aren't all among those of {kind}, {most}"
-    )?;
+    let most = Number(u64::from(allowed.bits()));
+    let text = "the rights # aren't all among those of #, #";
+    push_text(hint, text, &[Word(rights), Word(kind), most])?;
     Ok(true)
 }
 
@@ -197,77 +186,49 @@ fn rights_of(kind: &[u8]) -> Rights {
     }
 }
 
-/// What stands above a line: the first label or instruction, and the first directive of the same name,
-/// each by its line, or 0.
-#[derive(Clone, Copy)]
-struct Above {
-    body: u64,
-    same: u64,
-}
-
-impl Above {
-    /// With the line of this number, that begins with this word.
-    fn with(self, number: u64, first: &[u8], name: &[u8]) -> Above {
-        let is_body = !first.starts_with(b".") || is(first, b".bytes");
-        let is_same = is(first, name);
-        Above {
-            body: if is_body && self.body == 0 {
-                number
-            } else {
-                self.body
-            },
-            same: if is_same && self.same == 0 {
-                number
-            } else {
-                self.same
-            },
-        }
-    }
-}
-
-fn read_above(alloc: Global, text: &[u8], line: u64, name: &[u8]) -> Result<Above, AllocError> {
-    let mut above = Above { body: 0, same: 0 };
+/// Adds that the directive stands below a label or an instruction, or below one of its name.
+fn push_wrong_place(
+    hint: &mut String,
+    alloc: Global,
+    above: &[Line],
+    name: &[u8],
+) -> Result<(), AllocError> {
     let mut words = Vec::new(alloc);
-    for (index, other) in text.split(|byte| *byte == b'\n').enumerate() {
-        let number = index as u64 + 1;
-        if number >= line {
-            break;
+    let mut same = 0;
+    for line in above {
+        split_words(&mut words, line.bytes)?;
+        let Some(first) = words.first() else {
+            continue;
+        };
+        if !first.starts_with(b".") || is(first, b".bytes") {
+            let text = "directives stand above the first label and instruction, in line #";
+            return push_text(hint, text, &[Number(line.number)]);
         }
-        split_words(&mut words, other)?;
-        if let Some(first) = words.first() {
-            above = above.with(number, first, name);
+        if same == 0 && is(first, name) {
+            same = line.number;
         }
     }
-    Ok(above)
+    push_text(
+        hint,
+        "# stands in line # already",
+        &[Word(name), Number(same)],
+    )
 }
 
 /// Adds which number is out of its range, or of what a program has too many.
-pub fn push_directive_limit(
+pub fn push_directive_limit<'a>(
     hint: &mut String,
-    name: &[u8],
-    operands: &[&[u8]],
+    name: &'a [u8],
+    operands: &[&'a [u8]],
 ) -> Result<(), AllocError> {
-    match operands {
-        [word] if is(name, b".memory") => {
-            write!(
-                hint,
-                "a data memory has 0 to 65536 bytes, and not {}",
-                Word(word)
-            )
-        }
-        [word] => write!(
-            hint,
-            "a budget is 1 to 1000000 steps, and not {}",
-            Word(word)
-        ),
+    let (text, word) = match operands {
+        [word] if is(name, b".memory") => ("a data memory has 0 to 65536 bytes, and not #", *word),
+        [word] => ("a budget is 1 to 1000000 steps, and not #", *word),
         [_, length, _] if !matches!(number(length), Some(1..=256)) => {
-            write!(
-                hint,
-                "a slot array has 1 to 256 places, and not {}",
-                Word(length)
-            )
+            ("a slot array has 1 to 256 places, and not #", *length)
         }
-        [_, _, _] => hint.push_str("a program has at most 8 slot arrays"),
-        _ => hint.push_str("a program has at most 7 start handles"),
-    }
+        [_, _, _] => ("a program has at most 8 slot arrays", name),
+        _ => ("a program has at most 7 start handles", name),
+    };
+    push_text(hint, text, &[Word(word)])
 }

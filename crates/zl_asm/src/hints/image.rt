@@ -1,7 +1,8 @@
 //! The faults of the bytes of an image.
 
-use crate::hints::block::{Block, line_of_byte};
-use crate::hints::lines::push_head;
+use crate::hints::lines::{Line, push_head};
+use crate::hints::text::Value::{Name, Number};
+use crate::hints::text::{Value, push_text};
 use crate::hints::word::plural;
 use bitflags::Flags;
 use std::alloc::AllocError;
@@ -48,14 +49,55 @@ fn number_at(bytes: &[u8], offset: usize, length: usize) -> u32 {
     u32::from_le_bytes(number)
 }
 
+/// Where the digits of an image stand.
+#[derive(Clone, Copy)]
+pub struct Source<'a> {
+    /// The line that opens their block, or 0.
+    pub opened: u64,
+    pub lines: &'a [Line<'a>],
+    /// The line behind them, or 0.
+    pub ended: u64,
+}
+
+impl Source<'_> {
+    /// The line where the byte of this offset stands.
+    fn line_of(self, offset: usize) -> u64 {
+        let mut digits = 0usize;
+        for line in self.lines {
+            for byte in line.bytes {
+                if *byte != b' ' {
+                    digits = digits.saturating_add(1);
+                }
+            }
+            if digits > offset.saturating_mul(2) {
+                return line.number;
+            }
+        }
+        self.ended
+    }
+}
+
+/// Adds a fault of the byte of this offset.
+fn push_fault(
+    hint: &mut String,
+    source: Source,
+    offset: usize,
+    cause: &str,
+    text: &str,
+    values: &[Value],
+) -> Result<(), AllocError> {
+    push_head(hint, source.line_of(offset), cause)?;
+    push_text(hint, text, values)
+}
+
 /// The most bytes that an image has.
 const MOST: usize = 65_676;
 
 /// Adds a line that says why the bytes spell no image.
 pub fn explain_image(hint: &mut String, bytes: &[u8], fault: DecodeFault) {
-    let alone = Block {
-        input: &[],
+    let alone = Source {
         opened: 0,
+        lines: &[],
         ended: 0,
     };
     let pushed = match fault {
@@ -69,48 +111,44 @@ pub fn explain_image(hint: &mut String, bytes: &[u8], fault: DecodeFault) {
 
 fn push_too_long(hint: &mut String) -> Result<(), AllocError> {
     push_head(hint, 0, "Length")?;
-    write!(hint, "an image has at most {MOST} bytes")
+    push_text(hint, "an image has at most # bytes", &[Number(MOST as u64)])
 }
 
-/// Adds why the bytes of the block spell no image.
+/// Adds why the bytes, whose digits stand there, spell no image.
 pub fn push_image_fault(
     hint: &mut String,
-    block: Block,
+    source: Source,
     bytes: &[u8],
     fault: DecodeFault,
 ) -> Result<(), AllocError> {
     match fault {
-        DecodeFault::Short => {
-            push_head(hint, block.opened, "Short")?;
-            let count = bytes.len();
-            let ending = plural(count);
-            write!(
-                hint,
-                "the image has {count} byte{ending}; its header alone has 20"
-            )
-        }
+        DecodeFault::Short => push_short(hint, source.opened, bytes.len()),
         DecodeFault::Magic => {
-            push_head(hint, line_of_byte(block, 0), "Magic")?;
-            hint.push_str("an image begins with the bytes 5a4c4142")
+            let text = "an image begins with the bytes 5a4c4142";
+            push_fault(hint, source, 0, "Magic", text, &[])
         }
         DecodeFault::Version => {
-            push_head(hint, line_of_byte(block, 4), "Version")?;
-            let version = byte_at(bytes, 4);
-            write!(
-                hint,
-                "byte 4 of the image is {version}; the one version is 1"
-            )
+            let text = "byte 4 of the image is #; the one version is 1";
+            let version = Number(u64::from(byte_at(bytes, 4)));
+            push_fault(hint, source, 4, "Version", text, &[version])
         }
-        DecodeFault::Length => {
-            push_head(hint, block.opened, "Length")?;
-            push_length(hint, bytes)
-        }
-        DecodeFault::BadHeader => push_header_fault(hint, block, bytes),
+        DecodeFault::Length => push_length(hint, source.opened, bytes),
+        DecodeFault::BadHeader => push_header_fault(hint, source, bytes),
         DecodeFault::UnknownOp | DecodeFault::BadRegister | DecodeFault::UnusedField => {
-            push_code_fault(hint, block, bytes, fault)
+            push_code_fault(hint, source, bytes, fault)
         }
         DecodeFault::NoMemory => Err(AllocError),
     }
+}
+
+/// Adds that so many bytes are no header.
+fn push_short(hint: &mut String, line: u64, count: usize) -> Result<(), AllocError> {
+    push_head(hint, line, "Short")?;
+    push_text(
+        hint,
+        "the image has # byte#; its header alone has 20",
+        &[Number(count as u64), Name(plural(count))],
+    )
 }
 
 /// Where the instructions begin.
@@ -120,64 +158,72 @@ fn code_offset(bytes: &[u8]) -> usize {
 }
 
 /// Adds how many bytes there are, and how many the header asks for.
-fn push_length(hint: &mut String, bytes: &[u8]) -> Result<(), AllocError> {
-    let (count, code) = (bytes.len(), number_at(bytes, 6, 2));
-    let (starts, slots) = (byte_at(bytes, 17), byte_at(bytes, 18));
+fn push_length(hint: &mut String, line: u64, bytes: &[u8]) -> Result<(), AllocError> {
+    let code = number_at(bytes, 6, 2);
     let asked = code_offset(bytes).saturating_add((code as usize).saturating_mul(Instr::LEN));
-    write!(
+    push_head(hint, line, "Length")?;
+    push_text(
         hint,
-        "the image has {count} bytes, and its header asks for {asked}: "
-    )?;
-    write!(
-        hint,
-        "20 and 8 for each of {starts} start handles and {slots} slot arrays, "
-    )?;
-    write!(hint, "and 16 for each of {code} instructions")
+        "the image has # bytes, and its header asks for #: 20 and 8 for each of # start handles and \
+         # slot arrays, and 16 for each of # instructions",
+        &[
+            Number(bytes.len() as u64),
+            Number(asked as u64),
+            Number(u64::from(byte_at(bytes, 17))),
+            Number(u64::from(byte_at(bytes, 18))),
+            Number(u64::from(code)),
+        ],
+    )
 }
 
 /// Adds which field of the header or of a declaration is out of its range.
-fn push_header_fault(hint: &mut String, block: Block, bytes: &[u8]) -> Result<(), AllocError> {
+fn push_header_fault(hint: &mut String, source: Source, bytes: &[u8]) -> Result<(), AllocError> {
     for (offset, length, least, most, name) in FIELDS {
         let number = number_at(bytes, offset, length);
         if number < least || number > most {
-            push_head(hint, line_of_byte(block, offset), "BadHeader")?;
-            return write!(
-                hint,
-                "{name}, at byte {offset} of the image, is {number}; it is {least} to {most}"
-            );
+            let text = "#, at byte # of the image, is #; it is # to #";
+            let values = [
+                Name(name),
+                Number(offset as u64),
+                Number(u64::from(number)),
+                Number(u64::from(least)),
+                Number(u64::from(most)),
+            ];
+            return push_fault(hint, source, offset, "BadHeader", text, &values);
         }
     }
     let needs = number_at(bytes, NEEDS, 1);
     if needs & KNOWN_NEEDS != needs {
-        push_head(hint, line_of_byte(block, NEEDS), "BadHeader")?;
-        return write!(
-            hint,
-            "the needs, at byte 16 of the image, are {needs}; the bits 1, 2, 8 and 16 are known"
-        );
+        let text = "the needs, at byte 16 of the image, are #; the bits 1, 2, 8 and 16 are known";
+        let needs = Number(u64::from(needs));
+        return push_fault(hint, source, NEEDS, "BadHeader", text, &[needs]);
     }
-    push_declaration_fault(hint, block, bytes)
+    push_declaration_fault(hint, source, bytes)
 }
 
 /// Adds which declaration is out of its range.
-fn push_declaration_fault(hint: &mut String, block: Block, bytes: &[u8]) -> Result<(), AllocError> {
+fn push_declaration_fault(
+    hint: &mut String,
+    source: Source,
+    bytes: &[u8],
+) -> Result<(), AllocError> {
     let starts = usize::from(byte_at(bytes, 17));
     let declared = starts + usize::from(byte_at(bytes, 18));
     for number in 0..declared {
         let offset = HEADER + DECLARATION * number;
         if let Some(reason) = fault_of_declaration(bytes, offset, number >= starts) {
-            push_head(hint, line_of_byte(block, offset), "BadHeader")?;
-            return if number >= starts {
-                let slot = number - starts;
-                write!(
-                    hint,
-                    "slot array {slot}, at byte {offset} of the image, {reason}"
-                )
-            } else {
-                write!(
-                    hint,
-                    "start handle {number}, at byte {offset} of the image, {reason}"
-                )
+            let (name, place) = match number.checked_sub(starts) {
+                Some(slot) => ("slot array", slot),
+                None => ("start handle", number),
             };
+            let text = "# #, at byte # of the image, #";
+            let values = [
+                Name(name),
+                Number(place as u64),
+                Number(offset as u64),
+                Name(reason),
+            ];
+            return push_fault(hint, source, offset, "BadHeader", text, &values);
         }
     }
     Ok(())
@@ -210,7 +256,7 @@ fn fault_of_declaration(bytes: &[u8], offset: usize, is_slot: bool) -> Option<&'
 /// Adds which instruction is at fault, and where.
 fn push_code_fault(
     hint: &mut String,
-    block: Block,
+    source: Source,
     bytes: &[u8],
     fault: DecodeFault,
 ) -> Result<(), AllocError> {
@@ -222,7 +268,7 @@ fn push_code_fault(
         .as_chunks::<{ Instr::LEN }>();
     for (number, instr) in code.iter().enumerate() {
         if Instr::from_bytes(is_raw, *instr).is_err() {
-            return push_instr_fault(hint, block, number, offset, *instr, fault);
+            return push_instr_fault(hint, source, number, offset, *instr, fault);
         }
         offset = offset.saturating_add(Instr::LEN);
     }
@@ -232,44 +278,46 @@ fn push_code_fault(
 /// Adds what is wrong with the instruction of this number, at this offset.
 fn push_instr_fault(
     hint: &mut String,
-    block: Block,
+    source: Source,
     number: usize,
     offset: usize,
     bytes: [u8; Instr::LEN],
     fault: DecodeFault,
 ) -> Result<(), AllocError> {
-    let opcode = bytes[0];
-    let Some(row) = Row::of_opcode(opcode) else {
-        push_head(hint, line_of_byte(block, offset), "UnknownOp")?;
-        return write!(
-            hint,
-            "instruction {number} has the opcode {opcode}, which only a raw mark lets stand"
-        );
+    let number = Number(number as u64);
+    let Some(row) = Row::of_opcode(bytes[0]) else {
+        let text = "instruction # has the opcode #, which only a raw mark lets stand";
+        let opcode = Number(u64::from(bytes[0]));
+        return push_fault(hint, source, offset, "UnknownOp", text, &[number, opcode]);
     };
     let is_of_registers = matches!(fault, DecodeFault::BadRegister);
     let place = faulty_place(&row, &bytes, is_of_registers);
-    let found = byte_at(&bytes, place);
-    let name = row.name;
-    let line = line_of_byte(block, offset.saturating_add(place));
-    if !is_of_registers {
-        push_head(hint, line, "UnusedField")?;
-        write!(
-            hint,
-            "instruction {number}, {name}, has {found} in its byte {place}, which it doesn't use"
+    let (cause, text) = if !is_of_registers {
+        (
+            "UnusedField",
+            "instruction #, #, has # in its byte #, which it doesn't use",
         )
     } else if place == Instr::LEN {
-        push_head(hint, line, "BadRegister")?;
-        write!(
-            hint,
-            "instruction {number}, {name}, has room for over 8 handles, or past register 31"
+        (
+            "BadRegister",
+            "instruction #, #, has room for over 8 handles, or past register 31",
         )
     } else {
-        push_head(hint, line, "BadRegister")?;
-        write!(
-            hint,
-            "instruction {number}, {name}, has {found} in its byte {place}; registers are 0 to 31"
+        (
+            "BadRegister",
+            "instruction #, #, has # in its byte #; registers are 0 to 31",
         )
-    }
+    };
+    let found = Number(u64::from(byte_at(&bytes, place)));
+    let values = [number, Name(row.name), found, Number(place as u64)];
+    push_fault(
+        hint,
+        source,
+        offset.saturating_add(place),
+        cause,
+        text,
+        &values,
+    )
 }
 
 /// The first place with that fault; the number of places where no byte alone has it.

@@ -1,9 +1,10 @@
 //! The faults of an instruction of the assembler's text.
 
 use crate::hints::nearest::Nearest;
-use crate::hints::word::{Word, plural};
+use crate::hints::text::Value::{Name, Number, Word};
+use crate::hints::text::push_text;
+use crate::hints::word::plural;
 use crate::numbers::{is_name, number, register};
-use crate::words::is;
 use std::alloc::{AllocError, Global};
 use zl_code::{Ending, HandleList, Row};
 
@@ -13,7 +14,7 @@ pub fn push_instruction_unknown(
     alloc: Global,
     name: &[u8],
 ) -> Result<(), AllocError> {
-    write!(hint, "no instruction is called {}", Word(name))?;
+    push_text(hint, "no instruction is called #", &[Word(name)])?;
     let mut nearest = Nearest::new(name);
     for opcode in 0..=u8::MAX {
         if let Some(row) = Row::of_opcode(opcode) {
@@ -43,7 +44,8 @@ fn ending_text(ending: Ending) -> &'static str {
     }
 }
 
-/// Adds which operand of the instruction is wrong, or how many it takes.
+/// Adds which operand of the instruction is wrong, or how many it takes. A comma stands behind each
+/// word but the last.
 pub fn push_instruction_operand(
     hint: &mut String,
     name: &[u8],
@@ -52,7 +54,7 @@ pub fn push_instruction_operand(
     let Some(row) = Row::named(name) else {
         return Ok(());
     };
-    let count = words.iter().filter(|word| !is(word, b",")).count();
+    let count = words.len().div_ceil(2);
     let least = row.registers.saturating_add(ending_count(row.ending));
     let most = match row.ending {
         Ending::Handles => least.saturating_add(HandleList::MOST),
@@ -61,38 +63,38 @@ pub fn push_instruction_operand(
     if count < least || count > most {
         return push_count(hint, &row, count, least);
     }
-    let operands = words.iter().filter(|word| !is(word, b","));
-    for (index, word) in operands.enumerate() {
+    for (index, word) in words.iter().step_by(2).enumerate() {
         if let Some(wanted) = wanted_for(&row, index, word) {
-            let number = index.saturating_add(1);
-            let word = Word(word);
-            let name = row.name;
-            return write!(
-                hint,
-                "operand {number} of {name} is {word}, and {wanted} is wanted there"
-            );
+            let number = Number(index as u64 + 1);
+            let values = [number, Name(row.name), Word(word), Name(wanted)];
+            return push_text(hint, "operand # of # is #, and # is wanted there", &values);
         }
     }
-    write!(
-        hint,
-        "{} has room for 0 to 8 handles, three registers each, up to r31",
-        row.name
-    )
+    let text = "# has room for 0 to 8 handles, three registers each, up to r31";
+    push_text(hint, text, &[Name(row.name)])
 }
 
 /// Adds how many operands there are, and how many the instruction takes.
 fn push_count(hint: &mut String, row: &Row, count: usize, least: usize) -> Result<(), AllocError> {
-    let (name, registers) = (row.name, row.registers);
-    let ending = plural(count);
-    write!(hint, "{name} has {count} operand{ending} and takes {least}")?;
-    if matches!(row.ending, Ending::Handles) {
-        hint.push_str(" to 12")?;
-    }
-    if registers == 0 {
-        return hint.push_str(": a target");
-    }
-    let (ending, rest) = (plural(registers), ending_text(row.ending));
-    write!(hint, ": {registers} register{ending}{rest}")
+    let text = match row.registers {
+        0 => "# has # operand# and takes ##: a target",
+        _ => "# has # operand# and takes ##: # register##",
+    };
+    let most = match row.ending {
+        Ending::Handles => " to 12",
+        _ => "",
+    };
+    let values = [
+        Name(row.name),
+        Number(count as u64),
+        Name(plural(count)),
+        Number(least as u64),
+        Name(most),
+        Number(row.registers as u64),
+        Name(plural(row.registers)),
+        Name(ending_text(row.ending)),
+    ];
+    push_text(hint, text, &values)
 }
 
 /// What is wanted in place of the word, where it isn't that.

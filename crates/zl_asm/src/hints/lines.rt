@@ -1,8 +1,28 @@
 //! Lines, and bytes that no line has.
 
+use crate::hints::text::Value::Number;
+use crate::hints::text::push_text;
 use std::alloc::{AllocError, Global};
 
-/// The line of this number, from 1.
+/// A line of an input.
+#[derive(Clone, Copy)]
+pub struct Line<'a> {
+    /// Which it is, from 1.
+    pub number: u64,
+    pub bytes: &'a [u8],
+}
+
+/// The lines of an input.
+pub fn numbered_lines<'a>(alloc: Global, input: &'a [u8]) -> Result<Vec<Line<'a>>, AllocError> {
+    let mut lines = Vec::new(alloc);
+    for (index, bytes) in input.split(|byte| *byte == b'\n').enumerate() {
+        let number = index as u64 + 1;
+        lines.push(Line { number, bytes })?;
+    }
+    Ok(lines)
+}
+
+/// The line of this number, from 1, where no other line is wanted.
 pub fn line_at(text: &[u8], number: u64) -> Option<&[u8]> {
     for (index, line) in text.split(|byte| *byte == b'\n').enumerate() {
         if index as u64 + 1 == number {
@@ -46,22 +66,18 @@ pub fn push_head(hint: &mut String, line: u64, cause: &str) -> Result<(), AllocE
 /// Adds what the byte at this place of the line is, which no line has there.
 pub fn push_odd_byte(hint: &mut String, line: &[u8], place: usize) -> Result<(), AllocError> {
     let number = place.saturating_add(1);
-    match line.get(place) {
-        Some(b'\t') => write!(
-            hint,
-            "byte {number} of the line is a tab; only spaces part words"
-        ),
-        Some(b'\r') if number == line.len() => {
-            hint.push_str("the line ends with a carriage return; a line feed alone ends a line")
+    let byte = line.get(place).copied().unwrap_or(0);
+    let text = match byte {
+        b'\t' => "byte # of the line is a tab; only spaces part words",
+        b'\r' if number == line.len() => {
+            "the line ends with a carriage return; a line feed alone ends a line"
         }
-        Some(b'\r') => write!(hint, "byte {number} of the line is a carriage return"),
-        Some(_) if line.starts_with(b"\xef\xbb\xbf") => {
-            hint.push_str("the line begins with a byte order mark; every byte has to be ASCII")
+        b'\r' => "byte # of the line is a carriage return",
+        _ if line.starts_with(b"\xef\xbb\xbf") => {
+            "the line begins with a byte order mark; every byte has to be ASCII"
         }
-        Some(byte) => write!(
-            hint,
-            "byte {number} of the line is {byte}; ASCII ends at 127"
-        ),
-        None => Ok(()),
-    }
+        _ => "byte # of the line is #; ASCII ends at 127",
+    };
+    let values = [Number(number as u64), Number(u64::from(byte))];
+    push_text(hint, text, &values)
 }

@@ -1,6 +1,7 @@
 //! Rights that no new object of a kind gives.
 
-use crate::hints::word::Word;
+use crate::hints::text::Value::{Name, Number, Word};
+use crate::hints::text::push_text;
 use bitflags::Flags;
 use std::alloc::AllocError;
 use zl_rights::Kind;
@@ -19,10 +20,14 @@ pub fn push_right_beyond(
         return Ok(false);
     }
     let lowest = beyond & !(beyond - 1);
-    let (word, name, number) = (Word(handle), kind.name(), kind.number());
-    write!(
-        hint,
-        "the handle {word} has the right {lowest}; the rights of a new {name}, kind {number}, are {most}"
-    )?;
+    let values = [
+        Word(handle),
+        Number(lowest),
+        Name(kind.name()),
+        Number(u64::from(kind.number())),
+        Number(most),
+    ];
+    let text = "the handle # has the right #; the rights of a new #, kind #, are #";
+    push_text(hint, text, &values)?;
     Ok(true)
 }

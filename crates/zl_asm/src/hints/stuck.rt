@@ -1,6 +1,8 @@
 //! Why a process is stuck.
 
 use crate::hints::instr_text::push_instr_text;
+use crate::hints::text::Value::Number;
+use crate::hints::text::push_text;
 use std::alloc::{AllocError, Global};
 use zl_code::{CallInstr, Image, Instr, InstrBytes, LocalInstr};
 
@@ -23,34 +25,36 @@ pub fn explain_stuck(hint: &mut String, alloc: Global, stuck: Stuck) {
 }
 
 fn push_stuck(hint: &mut String, alloc: Global, stuck: Stuck) -> Result<(), AllocError> {
-    let (pid, counter) = (stuck.pid, stuck.counter);
-    write!(
-        hint,
-        "zlab: process {pid} is stuck at instruction {counter}"
-    )?;
-    match stuck.image.instr_at(counter) {
+    let place = [Number(stuck.pid), Number(stuck.counter as u64)];
+    push_text(hint, "zlab: process # is stuck at instruction #", &place)?;
+    match stuck.image.instr_at(stuck.counter) {
         Some(instr) => {
             hint.push_str(", ")?;
-            push_instr_text(hint, alloc, stuck.image, counter)?;
+            push_instr_text(hint, alloc, stuck.image, stuck.counter)?;
             push_reason(hint, stuck, instr)?;
         }
-        None => match stuck.image.len() {
-            0 => hint.push_str(": the program has no instruction")?,
-            count => write!(
-                hint,
-                ", outside the code: the last instruction is {}",
-                count - 1
-            )?,
-        },
+        None => push_no_instr(hint, stuck.image.len())?,
     }
     hint.push_str("\n")
+}
+
+/// Adds that the code, of so many instructions, has none there.
+fn push_no_instr(hint: &mut String, count: usize) -> Result<(), AllocError> {
+    let text = match count {
+        0 => ": the program has no instruction",
+        _ => ", outside the code: the last instruction is #",
+    };
+    push_text(hint, text, &[Number(count.saturating_sub(1) as u64)])
 }
 
 /// Adds why the instruction can't be done.
 fn push_reason(hint: &mut String, stuck: Stuck, instr: Instr) -> Result<(), AllocError> {
     let bytes = instr.to_bytes();
     match &instr {
-        Instr::Unknown(_) => write!(hint, ": no instruction has the opcode {}", bytes[0]),
+        Instr::Unknown(_) => {
+            let opcode = Number(u64::from(bytes[0]));
+            push_text(hint, ": no instruction has the opcode #", &[opcode])
+        }
         Instr::Call(CallInstr::ChanWrite { .. }) => push_no_bytes(hint, stuck, bytes),
         Instr::Call(CallInstr::ChanReadEtc { .. }) => push_no_bytes(hint, stuck, bytes),
         // every other call is answered
@@ -58,6 +62,11 @@ fn push_reason(hint: &mut String, stuck: Stuck, instr: Instr) -> Result<(), Allo
         Instr::Local(local) => push_outside(hint, stuck, *local, bytes),
     }
 }
+
+/// What is wrong with an address that is a sum.
+const BYTE: &str = ": the byte at # + # doesn't lie in the memory of # bytes";
+
+const WORD: &str = ": the 8 bytes at # + # don't all lie in the memory of # bytes";
 
 /// Adds which address is outside the memory, or which slot isn't there.
 fn push_outside(
@@ -70,14 +79,17 @@ fn push_outside(
     let number = parts.imm();
     let [first, second, ..] = parts.registers;
     let (first, second) = (register(stuck, first), register(stuck, second));
-    match local {
-        LocalInstr::Swap { .. } => push_no_slot(hint, stuck, second, number),
-        LocalInstr::LoadByte { .. } => push_no_byte(hint, stuck, second, number, 1),
-        LocalInstr::LoadWord { .. } => push_no_byte(hint, stuck, second, number, 8),
-        LocalInstr::StoreByte { .. } => push_no_byte(hint, stuck, first, number, 1),
-        LocalInstr::StoreWord { .. } => push_no_byte(hint, stuck, first, number, 8),
-        _ => Ok(()),
-    }
+    let (text, base) = match local {
+        LocalInstr::Swap { .. } => return push_no_slot(hint, stuck, second, number),
+        LocalInstr::LoadByte { .. } => (BYTE, second),
+        LocalInstr::LoadWord { .. } => (WORD, second),
+        LocalInstr::StoreByte { .. } => (BYTE, first),
+        LocalInstr::StoreWord { .. } => (WORD, first),
+        _ => return Ok(()),
+    };
+    let memory = u64::from(stuck.image.memory());
+    let values = [Number(base), Number(u64::from(number)), Number(memory)];
+    push_text(hint, text, &values)
 }
 
 /// What the register of this number holds.
@@ -98,50 +110,32 @@ fn push_no_bytes(
 ) -> Result<(), AllocError> {
     let [_, _, address, length, ..] = InstrBytes::split(bytes).registers;
     let (address, length) = (register(stuck, address), register(stuck, length));
-    let memory = stuck.image.memory();
-    match length {
-        1 => write!(hint, ": the byte at {address} doesn't lie")?,
-        _ => write!(hint, ": the {length} bytes at {address} don't all lie")?,
+    let memory = u64::from(stuck.image.memory());
+    if length == 1 {
+        let text = ": the byte at # doesn't lie in the memory of # bytes";
+        return push_text(hint, text, &[Number(address), Number(memory)]);
     }
-    write!(hint, " in the memory of {memory} bytes")
-}
-
-/// Adds that so many bytes at the sum of base and offset aren't all in the memory.
-fn push_no_byte(
-    hint: &mut String,
-    stuck: Stuck,
-    base: u64,
-    offset: u32,
-    length: u32,
-) -> Result<(), AllocError> {
-    let memory = stuck.image.memory();
-    match length {
-        1 => write!(hint, ": the byte at {base} + {offset} doesn't lie")?,
-        _ => write!(
-            hint,
-            ": the {length} bytes at {base} + {offset} don't all lie"
-        )?,
-    }
-    write!(hint, " in the memory of {memory} bytes")
+    let text = ": the # bytes at # don't all lie in the memory of # bytes";
+    push_text(
+        hint,
+        text,
+        &[Number(length), Number(address), Number(memory)],
+    )
 }
 
 /// Adds that the slot array or its place isn't there.
 fn push_no_slot(hint: &mut String, stuck: Stuck, place: u64, array: u32) -> Result<(), AllocError> {
     let arrays = stuck.image.slots();
+    let array_number = Number(u64::from(array));
     match arrays.get(array as usize) {
         Some(slots) => {
-            let last = slots.length.saturating_sub(1);
-            write!(
-                hint,
-                ": slot array {array} has no place {place}; its last one is {last}"
-            )
+            let last = u64::from(slots.length.saturating_sub(1));
+            let text = ": slot array # has no place #; its last one is #";
+            push_text(hint, text, &[array_number, Number(place), Number(last)])
         }
         None => {
-            let count = arrays.len();
-            write!(
-                hint,
-                ": there is no slot array {array}; the program has {count}"
-            )
+            let text = ": there is no slot array #; the program has #";
+            push_text(hint, text, &[array_number, Number(arrays.len() as u64)])
         }
     }
 }

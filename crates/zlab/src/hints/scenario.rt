@@ -8,8 +8,8 @@ use crate::hints::numbers::{decimal, push_first_no_number, push_no_number};
 use crate::scenario::Form;
 use std::alloc::{AllocError, Global};
 use zl_asm::hints::{
-    Word, is, is_opening, line_at, place_of_blank, place_outside_ascii, plural, push_block_fault,
-    push_head, push_nearest, push_odd_byte, words_of,
+    Word, is, is_opening, line_at, numbered_lines, place_of_blank, place_outside_ascii, plural,
+    push_block_fault, push_head, push_nearest, push_odd_byte, words_of,
 };
 use zl_rights::Kind;
 
@@ -57,7 +57,8 @@ fn push_fault(
             push_refused_block(hint, alloc, input, number, form)?;
         }
         Part::Statements if is_opening(words.as_slice()) && cause != "Limit" => {
-            push_block_fault(hint, alloc, input, number, words.as_slice())?;
+            let lines = numbered_lines(alloc, input)?;
+            push_block_fault(hint, alloc, lines.as_slice(), number, words.as_slice())?;
         }
         part => {
             push_head(hint, number, cause)?;

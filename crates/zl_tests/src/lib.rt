@@ -1,15 +1,11 @@
-//! Tests of `zl_objects`, `zl_code`, `zl_verify`, `zl_asm`, `zl_interp`, `zl_calls` and `zl_sched`, of
-//! what none of their clauses says, and a run of a checked process through each call, worked out by
-//! the definitions.
+//! Tests of `zl_objects`, `zl_code`, `zl_verify`, `zl_asm`, `zl_interp` and `zl_sched`, of what none of
+//! their clauses says and nobody sees of the program from outside, and a run of a checked process
+//! through each call, worked out by the definitions.
 //!
 //! It stands on them and has nothing of its own: a crate with tests is proved twice, with them and
 //! without, and nothing waits for this one.
 #![tactic(auto)]
 
-#[cfg(test)]
-mod boot_object_tests;
-#[cfg(test)]
-mod boot_tests;
 #[cfg(test)]
 mod burst_tests;
 #[cfg(test)]

@@ -5,8 +5,7 @@ use std::alloc::{AllocError, Global};
 use std::test::Fail;
 use zl_channel::{Handles, Message};
 use zl_objects::{Body, Life, Objects, Wait};
-use zl_port::{Packet, Source};
-use zl_rights::{Action, Condition, Entry, Kind, Koid, Mode, Rights, Signals};
+use zl_rights::{Entry, Kind, Koid, Rights, Signals};
 use zl_signals::Watch;
 
 const LENGTH: u64 = 30_000;
@@ -126,67 +125,9 @@ fn watch(objects: &mut Objects, wait: Wait) -> Result<(), AllocError> {
     }
 }
 
-/// The key of the wait at the place, from 0, in the list of all.
-fn listed(objects: &Objects, place: usize) -> Option<u64> {
-    Some(objects.wait_at(place)?.key)
-}
-
 /// The key of a wait that was taken out.
 fn key(taken: Option<Watch>) -> Option<u64> {
     Some(taken?.key)
-}
-
-/// Queues a packet of a call at the port, and once more where there was no memory for it.
-fn queue(objects: &mut Objects, port: Koid, key: u64, value: u64) -> bool {
-    if !objects.is_port(port) {
-        return false;
-    }
-    match objects.queue_user(port, key, value) {
-        Ok(()) => true,
-        Err(_) => objects.queue_user(port, key, value).is_ok(),
-    }
-}
-
-/// The numbers of a packet, as a process gets them.
-fn numbers(packet: Option<Packet>) -> Option<[u64; 4]> {
-    let packet = packet?;
-    Some([
-        packet.key,
-        packet.kind.number(),
-        packet.trigger,
-        packet.observed,
-    ])
-}
-
-#[test]
-fn waits_fire_in_the_order_of_their_registration(rt: HostRuntime) -> Result<(), Fail> {
-    let mut objects = Objects::new(rt.alloc())?;
-    let (first, second) = new_channel(&mut objects)?;
-    let port = new_port(&mut objects)?;
-    watch(&mut objects, wait_for(first, port, Signals::USER_0, 5))?;
-    watch(&mut objects, wait_for(first, port, Signals::WRITABLE, 6))?;
-    watch(&mut objects, wait_for(second, port, Signals::WRITABLE, 7))?;
-    watch(&mut objects, wait_for(first, port, Signals::WRITABLE, 8))?;
-    let active = objects.signals_of(first);
-    assert_eq!(rt; objects.next_order(first, active), Some(1));
-    assert_eq!(rt; key(objects.fire(first, active)), Some(6));
-    assert_eq!(rt; key(objects.fire(first, active)), Some(8));
-    assert_eq!(rt; objects.next_order(first, active), None);
-    assert!(rt; objects.fire(first, active).is_none());
-    objects.change(first, Signals::empty(), Signals::USER_0);
-    assert_eq!(rt;
-        key(objects.fire(first, objects.signals_of(first))),
-        Some(5)
-    );
-    assert_eq!(rt; objects.next_order(second, active), Some(2));
-    assert_eq!(rt; numbers(objects.pop(port)), Some([6, 1, 2, 2]));
-    assert_eq!(rt; numbers(objects.pop(port)), Some([8, 1, 2, 2]));
-    assert_eq!(rt;
-        numbers(objects.pop(port)),
-        Some([5, 1, 0x0100_0000, 0x0100_0002])
-    );
-    assert!(rt; objects.pop(port).is_none());
-    Ok(())
 }
 
 #[test]
@@ -217,66 +158,12 @@ fn only_the_waits_that_are_named_end(rt: HostRuntime) -> Result<(), Fail> {
     Ok(())
 }
 
-#[test]
-fn packets_are_queued_and_cancelled(rt: HostRuntime) -> Result<(), Fail> {
-    let mut objects = Objects::new(rt.alloc())?;
-    let port = new_port(&mut objects)?;
-    assert_eq!(rt; objects.kind_of(port), Some(Kind::Port));
-    assert!(rt; !objects.is_port(Objects::ROOT_JOB));
-    assert!(rt; queue(&mut objects, port, 5, 6));
-    watch(
-        &mut objects,
-        wait_for(Objects::ROOT_JOB, port, Signals::NO_JOBS, 7),
-    )?;
-    assert!(rt; objects.fire(Objects::ROOT_JOB, Signals::NO_JOBS).is_some());
-    let source = Source {
-        pid: 2,
-        value: 1,
-        object: Objects::ROOT_JOB,
-    };
-    assert_eq!(rt; objects.cancel(port, source, 5), 0);
-    assert_eq!(rt; objects.cancel(port, source, 7), 1);
-    assert_eq!(rt; numbers(objects.pop(port)), Some([5, 0, 6, 0]));
-    assert!(rt; objects.pop(port).is_none());
-    Ok(())
-}
-
-#[test]
-fn a_port_that_goes_leaves_no_wait(rt: HostRuntime) -> Result<(), Fail> {
-    let mut objects = Objects::new(rt.alloc())?;
-    let (first, second) = new_channel(&mut objects)?;
-    let port = new_port(&mut objects)?;
-    let other = new_port(&mut objects)?;
-    watch(&mut objects, wait_for(first, port, Signals::USER_0, 5))?;
-    watch(&mut objects, wait_for(first, other, Signals::USER_0, 6))?;
-    watch(&mut objects, wait_for(second, port, Signals::USER_0, 7))?;
-    watch(&mut objects, wait_for(first, port, Signals::USER_0, 8))?;
-    objects.release(port);
-    assert!(rt; objects.kind_of(port).is_none());
-    assert!(rt; objects.unwatch_port(first, port).is_none());
-    assert!(rt; objects.unwatch_port(second, port).is_none());
-    assert_eq!(rt; key(objects.fire(first, Signals::USER_0)), Some(6));
-    assert!(rt; objects.fire(first, Signals::USER_0).is_none());
-    assert!(rt; objects.fire(second, Signals::USER_0).is_none());
-    assert_eq!(rt;
-        numbers(objects.pop(other)),
-        Some([6, 1, 0x0100_0000, 0x0100_0000])
-    );
-    Ok(())
-}
-
-#[test]
-fn an_object_that_goes_takes_its_own_waits_along(rt: HostRuntime) -> Result<(), Fail> {
-    let mut objects = Objects::new(rt.alloc())?;
-    let (first, second) = new_channel(&mut objects)?;
-    let port = new_port(&mut objects)?;
-    watch(&mut objects, wait_for(first, port, Signals::USER_0, 5))?;
-    watch(&mut objects, wait_for(second, port, Signals::USER_0, 6))?;
-    watch(&mut objects, wait_for(first, port, Signals::USER_0, 7))?;
-    objects.release(first);
-    assert_eq!(rt; key(objects.unwatch_port(second, port)), Some(6));
-    assert!(rt; objects.pop(port).is_none());
-    Ok(())
+/// Whether the waits with these keys are those in the list of all, in this order.
+fn are_listed(objects: &Objects, keys: &[u64]) -> bool {
+    objects.wait_at(keys.len()).is_none()
+        && keys.iter().enumerate().all(|(place, key)| objects
+            .wait_at(place)
+            .is_some_and(|wait| wait.key == *key))
 }
 
 #[test]
@@ -285,25 +172,27 @@ fn all_waits_are_listed_in_the_order_of_their_registration(rt: HostRuntime) -> R
     let (first, second) = new_channel(&mut objects)?;
     let port = new_port(&mut objects)?;
     let other = new_port(&mut objects)?;
-    assert_eq!(rt; listed(&objects, 0), None);
-    watch(&mut objects, wait_for(second, port, Signals::USER_0, 5))?;
-    watch(&mut objects, wait_for(first, other, Signals::USER_0, 6))?;
-    watch(&mut objects, wait_for(second, other, Signals::USER_0, 7))?;
-    watch(&mut objects, wait_for(first, port, Signals::USER_0, 8))?;
-    assert_eq!(rt; listed(&objects, 0), Some(5));
-    assert_eq!(rt; listed(&objects, 1), Some(6));
-    assert_eq!(rt; listed(&objects, 3), Some(8));
-    assert_eq!(rt; listed(&objects, 4), None);
+    assert!(rt; are_listed(&objects, &[]));
+    for (object, port, key) in [
+        (second, port, 5),
+        (first, other, 6),
+        (second, other, 7),
+        (first, port, 8),
+    ] {
+        watch(&mut objects, wait_for(object, port, Signals::USER_0, key))?;
+    }
+    assert!(rt; are_listed(&objects, &[5, 6, 7, 8]));
+    assert_eq!(rt; objects.next_order(first, Signals::USER_0), Some(1));
+    assert_eq!(rt; objects.next_order(first, Signals::WRITABLE), None);
     assert_eq!(rt; key(objects.fire(first, Signals::USER_0)), Some(6));
-    assert_eq!(rt; listed(&objects, 1), Some(7));
+    assert!(rt; are_listed(&objects, &[5, 7, 8]));
     objects.release(port);
-    assert_eq!(rt; listed(&objects, 0), Some(7));
-    assert_eq!(rt; listed(&objects, 1), None);
+    assert!(rt; are_listed(&objects, &[7]));
+    assert_eq!(rt; objects.next_order(second, Signals::USER_0), Some(2));
     watch(&mut objects, wait_for(first, other, Signals::USER_0, 9))?;
     assert_eq!(rt; objects.next_order(first, Signals::USER_0), Some(4));
     objects.release(second);
-    assert_eq!(rt; listed(&objects, 0), Some(9));
-    assert_eq!(rt; listed(&objects, 1), None);
+    assert!(rt; are_listed(&objects, &[9]));
     Ok(())
 }
 
@@ -318,9 +207,14 @@ fn waits_end_with_a_port_in_a_queue(rt: HostRuntime) -> Result<(), Fail> {
     watch(&mut objects, wait_for(first, port, Signals::USER_0, 5))?;
     watch(&mut objects, wait_for(first, other, Signals::USER_0, 6))?;
     watch(&mut objects, wait_for(second, other, Signals::USER_0, 7))?;
+    watch(
+        &mut objects,
+        wait_for(Objects::ROOT_JOB, port, Signals::USER_0, 8),
+    )?;
     objects.release(second);
     assert!(rt; objects.kind_of(port).is_none());
     assert!(rt; objects.unwatch_port(first, port).is_none());
+    assert!(rt; objects.unwatch_port(Objects::ROOT_JOB, port).is_none());
     assert_eq!(rt; key(objects.unwatch_port(first, other)), Some(6));
     Ok(())
 }
@@ -384,30 +278,17 @@ fn a_process_that_was_started_needs_no_handle(rt: HostRuntime) -> Result<(), Fai
 }
 
 #[test]
-fn a_kill_reaches_all_below_and_no_other(rt: HostRuntime) -> Result<(), Fail> {
+fn a_job_has_what_stands_below_it(rt: HostRuntime) -> Result<(), Fail> {
     let mut objects = Objects::new(rt.alloc())?;
     let first = new_job(&mut objects, Objects::ROOT_JOB)?;
     let second = new_job(&mut objects, first)?;
     let beside = new_job(&mut objects, Objects::ROOT_JOB)?;
     let deep = new_process(&mut objects, second)?;
-    let other = new_process(&mut objects, beside)?;
-    objects.start(deep);
-    assert!(rt; objects.is_within(first, deep));
-    assert!(rt; !objects.is_within(first, beside));
+    assert!(rt; objects.is_within(first, deep) && !objects.is_within(first, beside));
     assert_eq!(rt; objects.below(first, 0), Some(second));
     assert_eq!(rt; objects.below(first, 1), Some(deep));
     assert_eq!(rt; objects.below(first, 2), None);
-    objects.kill(first);
-    assert!(rt; objects.is_dead(first) && objects.is_dead(second));
-    assert!(rt; !objects.lives(deep));
-    assert!(rt; !objects.is_dead(beside) && objects.lives(other));
-    assert!(rt; objects.signals_of(first).contains(Signals::TERMINATED));
-    assert!(rt; objects.signals_of(first).contains(Signals::NO_JOBS));
-    assert!(rt; objects.signals_of(deep).contains(Signals::TERMINATED));
-    assert!(rt; objects.job_below(second).is_err());
-    objects.kill(other);
-    assert!(rt; !objects.lives(other));
-    assert!(rt; !objects.is_dead(beside));
+    assert!(rt; !objects.has_policy(first) && !objects.has_policy(Objects::ROOT_JOB));
     Ok(())
 }
 
@@ -426,22 +307,5 @@ fn what_a_kill_leaves_without_a_handle_goes(rt: HostRuntime) -> Result<(), Fail>
     assert!(rt; !objects.is_job(second));
     assert!(rt; objects.is_job(first));
     assert!(rt; !objects.is_job(Objects::ROOT_JOB));
-    Ok(())
-}
-
-#[test]
-fn a_job_has_the_policy_of_its_parent(rt: HostRuntime) -> Result<(), Fail> {
-    let mut objects = Objects::new(rt.alloc())?;
-    let first = new_job(&mut objects, Objects::ROOT_JOB)?;
-    assert!(rt; !objects.has_policy(first));
-    let set = objects.set_policy(first, Condition::NewPort, Action::Deny, Mode::Absolute);
-    assert!(rt; set.is_ok());
-    let second = new_job(&mut objects, first)?;
-    assert!(rt; matches!(objects.action(second, Condition::NewPort), Action::Deny));
-    assert!(rt; matches!(objects.action(second, Condition::NewEvent), Action::Allow));
-    assert!(rt; !objects.has_policy(Objects::ROOT_JOB));
-    assert_eq!(rt; objects.depth(second), 3);
-    let set = objects.set_policy(second, Condition::NewPort, Action::Kill, Mode::Absolute);
-    assert!(rt; set.is_err());
     Ok(())
 }

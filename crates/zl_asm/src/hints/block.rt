@@ -44,8 +44,8 @@ pub enum End<'a> {
     At(u64),
     /// Not before the input does.
     Missing,
-    /// Before this line, which isn't ASCII.
-    Odd(Line<'a>),
+    /// Before this line, which isn't ASCII in this place.
+    Odd(Line<'a>, usize),
 }
 
 /// The block that the line of this number opens, among the lines of an input.
@@ -57,8 +57,8 @@ pub fn block_of<'a>(
     let mut lines = Vec::new(alloc);
     let mut end = End::Missing;
     for line in input.get(opened as usize..).unwrap_or(&[]) {
-        if place_outside_ascii(line.bytes).is_some() {
-            end = End::Odd(*line);
+        if let Some(place) = place_outside_ascii(line.bytes) {
+            end = End::Odd(*line, place);
             break;
         }
         if is_end(line.bytes) {
@@ -100,9 +100,8 @@ pub fn push_block_fault(
             push_head(hint, opened, "Syntax")?;
             hint.push_str("no line end closes this block")
         }
-        End::Odd(line) => {
+        End::Odd(line, place) => {
             push_head(hint, line.number, "Syntax")?;
-            let place = place_outside_ascii(line.bytes).unwrap_or(0);
             push_odd_byte(hint, line.bytes, place)
         }
     }

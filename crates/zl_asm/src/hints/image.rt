@@ -178,18 +178,18 @@ fn push_length(hint: &mut String, line: u64, bytes: &[u8]) -> Result<(), AllocEr
 
 /// Adds which field of the header or of a declaration is out of its range.
 fn push_header_fault(hint: &mut String, source: Source, bytes: &[u8]) -> Result<(), AllocError> {
-    for (offset, length, least, most, name) in FIELDS {
-        let number = number_at(bytes, offset, length);
-        if number < least || number > most {
+    for (offset, length, least, most, name) in &FIELDS {
+        let number = number_at(bytes, *offset, *length);
+        if number < *least || number > *most {
             let text = "#, at byte # of the image, is #; it is # to #";
             let values = [
                 Name(name),
-                Number(offset as u64),
+                Number(*offset as u64),
                 Number(u64::from(number)),
-                Number(u64::from(least)),
-                Number(u64::from(most)),
+                Number(u64::from(*least)),
+                Number(u64::from(*most)),
             ];
-            return push_fault(hint, source, offset, "BadHeader", text, &values);
+            return push_fault(hint, source, *offset, "BadHeader", text, &values);
         }
     }
     let needs = number_at(bytes, NEEDS, 1);

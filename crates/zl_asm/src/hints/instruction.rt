@@ -5,6 +5,7 @@ use crate::hints::text::Value::{Name, Number, Word};
 use crate::hints::text::push_text;
 use crate::hints::word::plural;
 use crate::numbers::{is_name, number, register};
+use crate::words::is;
 use std::alloc::{AllocError, Global};
 use zl_code::{Ending, HandleList, Row};
 
@@ -63,8 +64,11 @@ pub fn push_instruction_operand(
     if count < least || count > most {
         return push_count(hint, &row, count, least);
     }
-    for (index, word) in words.iter().step_by(2).enumerate() {
-        if let Some(wanted) = wanted_for(&row, index, word) {
+    for (place, word) in words.iter().enumerate() {
+        let index = place / 2;
+        if !is(word, b",")
+            && let Some(wanted) = wanted_for(&row, index, word)
+        {
             let number = Number(index as u64 + 1);
             let values = [number, Name(row.name), Word(word), Name(wanted)];
             return push_text(hint, "operand # of # is #, and # is wanted there", &values);

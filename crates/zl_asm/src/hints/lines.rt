@@ -45,13 +45,22 @@ pub fn words_of<'a>(alloc: Global, line: &'a [u8]) -> Result<Vec<&'a [u8]>, Allo
 
 /// Where the first byte outside ASCII stands.
 pub fn place_outside_ascii(line: &[u8]) -> Option<usize> {
-    line.iter().position(|byte| *byte >= 128)
+    for (place, byte) in line.iter().enumerate() {
+        if !byte.is_ascii() {
+            return Some(place);
+        }
+    }
+    None
 }
 
 /// Where the first tab or carriage return stands.
 pub fn place_of_blank(line: &[u8]) -> Option<usize> {
-    line.iter()
-        .position(|byte| *byte == b'\t' || *byte == b'\r')
+    for (place, byte) in line.iter().enumerate() {
+        if matches!(byte, b'\t' | b'\r') {
+            return Some(place);
+        }
+    }
+    None
 }
 
 /// Adds what the beginning of a hint is: the line, if there is one, and the cause.

@@ -5,9 +5,7 @@ use crate::hints::directive::{
     push_directive_limit, push_directive_operand, push_directive_unknown,
 };
 use crate::hints::instruction::{push_instruction_operand, push_instruction_unknown};
-use crate::hints::lines::{
-    Line, numbered_lines, place_of_blank, place_outside_ascii, push_head, push_odd_byte,
-};
+use crate::hints::lines::{Line, numbered_lines, place_outside_ascii, push_head, push_odd_byte};
 use crate::hints::nearest::Nearest;
 use crate::hints::text::Value::{Number, Word};
 use crate::hints::text::push_text;

@@ -1,9 +1,9 @@
 -- A call in the midst of all processes, step by step: its policy, then what reaches others, then what it does by itself.
-use Rattle.zl_calls.proofs.Common.{◌≡◌, ◌<◌, ℕ, true, false, zero, suc, List, [], ◌∷◌, length, get_or, set, refl, sym, ap, ◌∙◌, subst, Option, Some, None, IfSome, IfNone, IsSome, false≢true, same_Some, slice_get, slice_get-get_or, name_of, site_of, Library, Site, Objects, Acted}
+use Rattle.zl_calls.proofs.Common.{◌≡◌, ◌<◌, ℕ, zero, suc, List, [], ◌∷◌, length, get_or, set, refl, sym, ap, ◌∙◌, subst, Option, Some, None, IfSome, IsSome, false≢true, same_Some, slice_get, slice_get-get_or, name_of, site_of, Library, Site, Objects, Acted}
 use Rattle.zl_code.specs.declared.history.Outcome.{Outcome}
 use Rattle.zl_code.specs.declared.instr.CallInstr.{CallInstr}
 use Rattle.zl_calls.specs.Policed.{Policed, verdict_on}
-use Rattle.zl_calls.specs.Reaching.{CallActs, CalledAmong, Reaches, acts, is_reaching, policed, reaches}
+use Rattle.zl_calls.specs.Reaching.{CallActs, CalledAmong, Reaches, acts, policed, reaches}
 use Rattle.zl_calls.specs.World.{CallsNext}
 use Rattle.zl_calls.specs.calls.Task.{IsReachedBy, Lab, lab}
 use Rattle.zl_calls.specs.declared.process.Process.{Process}
@@ -18,11 +18,12 @@ module _ (lib : Library) (ps : List Process) (r : Objects) (b : List ℕ) (place
   pub is_there : slice_get ps place ≡ Some p
   is_there = slice_get-get_or ps place p within ∙ ap (λ (q : Process). Some q) (sym read)
 
-  -- who is read there once more is the same
+  -- who is read there once more is there, and is the same
+  pub again_there : (ps1 : List Process) (q : Process) → ps1 ≡ ps → q ≡ get_or ps1 place q → slice_get ps place ≡ Some q
+  again_there ps1 q same again = slice_get-get_or ps place q within ∙ ap (λ (x : Process). Some x) (sym (again ∙ ap (λ (xs : List Process). get_or xs place q) same))
+
   pub same_caller : (ps1 : List Process) (q : Process) → ps1 ≡ ps → q ≡ get_or ps1 place q → q ≡ p
-  same_caller ps1 q same again =
-      let other : slice_get ps place ≡ Some q = slice_get-get_or ps place q within ∙ ap (λ (x : Process). Some x) (sym (again ∙ ap (λ (xs : List Process). get_or xs place q) same)) in
-      same_Some q p (sym other ∙ is_there)
+  same_caller ps1 q same again = same_Some q p (sym (again_there ps1 q same again) ∙ is_there)
 
   -- what is true of it is true of the caller
   pub of_caller : (P : Process → Type 0) → P p → (caller : Process) → slice_get ps place ≡ Some caller → P caller
@@ -53,24 +54,14 @@ module _ (lib : Library) (ps : List Process) (r : Objects) (b : List ℕ) (place
           by_site None none reached = reached
           by_site (Some s) none reached = reaches none reached
 
-      pub acted_acts : (ps1 : List Process) (r1 : Objects) (b1 : List ℕ) → ps1 ≡ ps → r1 ≡ r → b1 ≡ b → (q : Process) → q ≡ p → (o : Option Outcome) (p2 : Process) (r2 : Objects)
-          → IfSome o (λ x. Acted (site_of call q.cpu) q r1 x p2 r2) → IfSome o (λ x. (caller : Process) → slice_get ps place ≡ Some caller → Done x (lab (set ps1 place p2) r2 b1) caller)
-      acted_acts ps1 r1 b1 same_list same_objects same_blocked q same None p2 r2 acted = tt
-      acted_acts ps1 r1 b1 same_list same_objects same_blocked q same (Some x) p2 r2 acted =
-          rw (same_list, same_blocked) (of_caller (Done x (lab (set ps place p2) r2 b)) (by_site (site_of call p.cpu) none (rw (same, same_objects) at acted)))
+      pub acted_acts : (ps1 : List Process) (r1 : Objects) (b1 : List ℕ) → ps1 ≡ ps → r1 ≡ r → b1 ≡ b → (q : Process) → q ≡ p → (o : Outcome) (p2 : Process) (r2 : Objects)
+          → Acted (site_of call q.cpu) q r1 o p2 r2 → (caller : Process) → slice_get ps place ≡ Some caller → Done o (lab (set ps1 place p2) r2 b1) caller
+      acted_acts ps1 r1 b1 same_list same_objects same_blocked q same o p2 r2 acted =
+          rw (same_list, same_blocked) (of_caller (Done o (lab (set ps place p2) r2 b)) (by_site (site_of call p.cpu) none (rw (same, same_objects) at acted)))
         where
-          by_site : (at : Option Site) → IfSome at (λ s. verdict_on p.table.entries r.objects p.pid s.request ≡ None) → Acted at p r x p2 r2 → IsReachedBy at (λ s. CallActs lib place p s (lab ps r b) x (lab (set ps place p2) r2 b))
+          by_site : (at : Option Site) → IfSome at (λ s. verdict_on p.table.entries r.objects p.pid s.request ≡ None) → Acted at p r o p2 r2 → IsReachedBy at (λ s. CallActs lib place p s (lab ps r b) o (lab (set ps place p2) r2 b))
           by_site None none acted = acted
           by_site (Some s) none acted = acts p2 none (record { processes = refl; blocked = refl }) acted
-
-    -- a call that doesn't reach others is done by itself
-    pub is_done : (q : Process) → q ≡ p → {A : Type 0} (o : Option A) → IfNone o (IfSome (site_of call q.cpu) (λ s. is_reaching s.request ≡ true)) → IfSome (site_of call p.cpu) (λ s. is_reaching s.request ≡ false) → IsSome o
-    is_done q same (Some x) missing other = refl
-    is_done q same None missing other = absurd (by_site (site_of call p.cpu) (has_site p is_there) (rw same at missing) other)
-      where
-        by_site : (at : Option Site) → IsSome at → IfSome at (λ s. is_reaching s.request ≡ true) → IfSome at (λ s. is_reaching s.request ≡ false) → ⊥
-        by_site None none reaching other = false≢true none
-        by_site (Some s) there reaching other = false≢true (sym other ∙ reaching)
 
   -- the call that stands next is done so
   pub called_among : (call : CallInstr) (o : Outcome) (l2 : Lab) → CallsNext lib p call

@@ -10,6 +10,7 @@ pub mod Taking
 pub mod Entered
 pub mod EnteredTables
 pub mod Told
+pub mod ActParts
 pub mod Places
 pub mod Beside
 pub mod Sifting

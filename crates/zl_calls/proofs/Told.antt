@@ -1,5 +1,5 @@
 -- What a reader is told, in its registers and its memory.
-use Rattle.zl_calls.proofs.Common.{◌≡◌, ◌<◌, ◌+◌, ℕ, zero, suc, List, [], ◌∷◌, ◌++◌, length, take, refl, sym, ap, ◌∙◌, Option, Some, None, Ok, true, subst, arith, slice_get, slice_set, Objects, row_of, call_parts, site_of}
+use Rattle.zl_calls.proofs.Common.{◌≡◌, ◌<◌, ◌+◌, ℕ, zero, suc, List, [], ◌∷◌, ◌++◌, length, take, refl, sym, ap, ◌∙◌, Option, Some, None, Ok, Bool, true, false, IsSome, then_some, subst, arith, slice_get, slice_set, Objects, row_of, call_parts, site_of}
 use Rattle.std.specs.Prelude.{◌*◌, ◌-◌, drop, slice_index}
 use Rattle.zl_code.proofs.Common.{Cpu, take-append-drop}
 use Rattle.zl_rights.specs.declared.entry.Entry.{Entry}
@@ -74,6 +74,16 @@ stored_is address [] c =
 stored_is address (b ∷ bytes) c = refl
 
 -- ---- a message that was read
+
+then_there : {A : Type 0} (b : Bool) (x : A) → IsSome (then_some b x) → b ≡ true
+then_there true x there = refl
+then_there false x there = there
+
+-- a read that isn't stuck has its room
+pub room_there : (a channel address room bytes handles first places : ℕ) (c : Cpu) → IsSome (site_of (call.ChanReadEtc a channel address room bytes handles first places) c)
+    → is_in_memory c (reg c address) (reg c room) ≡ true
+unfolding site_of row_of call_parts
+room_there a channel address room bytes handles first places c there = then_there _ _ there
 
 -- the call was done for the process p at these registers
 module _ (a channel address room bytes handles first places : ℕ) (p p2 : Process) (r r2 : Objects) (there : is_in_memory p.cpu (reg p.cpu address) (reg p.cpu room) ≡ true) where

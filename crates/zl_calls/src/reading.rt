@@ -1,6 +1,6 @@
 //! What chan_read_etc writes of its caller, and how it gets its answer.
 
-ghost use Rattle.std.specs.Prelude.{◌≡◌, ◌<◌, ◌^◌, ◌∷◌, None, slice_get, IfSome, IfNone};
+ghost use Rattle.std.specs.Prelude.{◌≡◌, ◌<◌, ◌^◌, ◌∷◌, slice_get, IsSome};
 ghost use Rattle.zl_rights.specs.Numbers.{status_magnitude};
 ghost use Rattle.zl_rights.specs.World.{answered, written};
 ghost use Rattle.zl_code.specs.Asked.{triples_from};
@@ -91,8 +91,7 @@ impl Process {
     }
 }
 
-/// Does `chan_read_etc` at these registers. Where its room doesn't lie in the memory, nothing
-/// changes.
+/// Does `chan_read_etc` at these registers. Its room lies in the memory.
 #[tactic(auto, unfolding(zl_code::specs::Request::site_of, zl_code::specs::Instructions::row_of, zl_code::specs::Spells::call_parts, zl_rights::specs::World::answered))]
 pub fn read(
     alloc: Global,
@@ -102,20 +101,16 @@ pub fn read(
     address: Register,
     room: Register,
     to: Destinations,
-) -> Option<Outcome>
+) -> Outcome
     requires counter { process.old.cpu.counter < 2 ^ 32 }
-    ensures acted { IfSome result (λ outcome. Acted
-        (site_of (call.ChanReadEtc to.status channel address room
+    requires there { IsSome (site_of (call.ChanReadEtc to.status channel address room
+        to.bytes to.handles to.first to.places) process.old.cpu) }
+    ensures { Acted (site_of (call.ChanReadEtc to.status channel address room
         to.bytes to.handles to.first to.places) process.old.cpu)
-        process.old objects.old outcome process.new objects.new) }
-    ensures missing { IfNone result (site_of (call.ChanReadEtc to.status channel address room
-        to.bytes to.handles to.first to.places) process.old.cpu ≡ None) }
-    ensures same_process { IfNone result (process.new ≡ process.old) }
-    ensures same_objects { IfNone result (objects.new ≡ objects.old) }
+        process.old objects.old result process.new objects.new }
 {
     let address = process.cpu.register(address);
     let room = process.cpu.register(room);
-    process.cpu.bytes(address, room)?;
     let channel = process.cpu.register(channel);
     match chan_read_etc(alloc, &mut process.table, objects, channel, room, to.places) {
         Ok(received) => {
@@ -123,11 +118,11 @@ pub fn read(
             let handles = received.message.handles.as_slice();
             process.cpu.store(address, bytes);
             let values = received.values.as_slice();
-            Some(process.answer_read(to, Status::Ok, bytes.len(), handles.len(), handles, values))
+            process.answer_read(to, Status::Ok, bytes.len(), handles.len(), handles, values)
         }
         Err(ReadFault::TooSmall { bytes, handles }) => {
-            Some(process.answer_read(to, Status::BufferTooSmall, bytes, handles, &[], &[]))
+            process.answer_read(to, Status::BufferTooSmall, bytes, handles, &[], &[])
         }
-        Err(ReadFault::Refused(status)) => { Some(process.answer_read(to, status, 0, 0, &[], &[])) }
+        Err(ReadFault::Refused(status)) => { process.answer_read(to, status, 0, 0, &[], &[]) }
     }
 }

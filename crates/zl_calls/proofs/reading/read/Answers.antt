@@ -1,12 +1,12 @@
 use Rattle.zl_calls.proofs.Common.{arith}
-use Rattle.zl_calls.proofs.Told.{length_same, parts_act}
+use Rattle.zl_calls.proofs.Told.{length_same, parts_act, room_there}
 use Rattle.zl_calls.proofs.reading.read.Goals as goal
 
-pub returns-in-Ok-clause-acted : goal.returns-in-Ok-clause-acted
-returns-in-Ok-clause-acted c =
+pub returns-in-Ok : goal.returns-in-Ok
+returns-in-Ok c =
     parts_act c.args.to.status c.args.channel c.args.address c.args.room c.args.to.bytes c.args.to.handles c.args.to.first c.args.to.places
     c.args.process.now c.answer_read.new.self c.args.objects.now c.chan_read_etc.new.objects
-    (rw (← c.register-address.ensures, ← c.register-room.ensures) c.in_ok-bytes.ensures.within)
+    (room_there c.args.to.status c.args.channel c.args.address c.args.room c.args.to.bytes c.args.to.handles c.args.to.first c.args.to.places c.args.process.now.cpu c.requires.there)
     c.chan_read_etc.new.table _ c.in-Ok.received c.answer_read.result c.received.view_is
     (rw (← c.register-room.ensures, ← c.register-channel.ensures) (rw c.in-Ok.is at c.chan_read_etc.ensures))
     c.answer_read.ensures.ends

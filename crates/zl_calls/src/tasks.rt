@@ -12,7 +12,7 @@ ghost use Rattle.zl_code.specs.Request.{site_of};
 ghost use Rattle.zl_code.specs.Sound.{is_blocked};
 ghost use Rattle.zl_calls.specs.Reaching.{Reaches, is_reaching};
 ghost use Rattle.zl_calls.specs.Registered.{KeepsListed};
-ghost use Rattle.zl_interp.specs.Common.{register_set};
+ghost use Rattle.zl_interp.specs.Common.{register_set, started_cpu};
 ghost use Rattle.zl_calls.specs.calls.Answer.{IsRefusedBy, answered_in, no_value, status_of};
 ghost use Rattle.zl_calls.specs.World.{process_entry, state_value};
 ghost use Rattle.zl_code.specs.Starting.{cpu_given};
@@ -25,7 +25,7 @@ use crate::calls::{insert, look_up};
 use crate::process::{Process, State};
 use crate::stepping::place_of;
 use std::alloc::{AllocError, Global};
-use zl_code::{CallInstr, Outcome, Register};
+use zl_code::{CallInstr, Image, Outcome, Register};
 use zl_interp::{Cpu, Library};
 use zl_objects::Objects;
 use zl_rights::{Entry, HValue, Kind, Koid, Pid, Rights, Status};
@@ -160,10 +160,7 @@ fn process_create(
         → length processes.new.items ≤ vec_capacity blocked.new }
 {
     let (job, image) = find_job(library, &processes[place].table, objects, job, program)?;
-    if make_room(processes, blocked).is_err() {
-        return Err(Status::NoMemory);
-    }
-    let Ok(cpu) = Cpu::new(alloc, image, 0) else {
+    let Ok(cpu) = prepare(alloc, image, processes, blocked) else {
         return Err(Status::NoMemory);
     };
     let pid = objects.end_of_koids();
@@ -182,9 +179,16 @@ fn process_create(
     }
 }
 
-/// Makes room for one process more, and for each process in the list of the blocked.
-fn make_room(processes: &mut Vec<Process>, blocked: &mut Vec<Pid>) -> Result<(), AllocError>
+/// Makes the Cpu of one process more, which runs the image, and room for that process and for each
+/// process in the list of the blocked.
+fn prepare(
+    alloc: Global,
+    image: &Image,
+    processes: &mut Vec<Process>,
+    blocked: &mut Vec<Pid>,
+) -> Result<Cpu, AllocError>
     requires { length blocked.old.items ≤ length processes.old.items }
+    ensures cpu { IfOk result (λ cpu. cpu ≡ started_cpu image.now 0) }
     ensures place { OnOk result
         (length processes.old.items + 1 ≤ vec_capacity processes.new) }
     ensures room { OnOk result (length processes.old.items + 1 ≤ vec_capacity blocked.new) }
@@ -194,7 +198,8 @@ fn make_room(processes: &mut Vec<Process>, blocked: &mut Vec<Pid>) -> Result<(),
     ensures same_blocked { blocked.new.items ≡ blocked.old.items }
 {
     processes.reserve(1)?;
-    blocked.reserve(processes.len() + 1 - blocked.len())
+    blocked.reserve(processes.len() + 1 - blocked.len())?;
+    Cpu::new(alloc, image, 0)
 }
 
 /// Starts the process of the caller's first handle with the second one, which enters its table, and

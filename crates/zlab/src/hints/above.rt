@@ -1,7 +1,7 @@
 //! What the lines of a scenario above a faulty one say.
 
 use std::alloc::{AllocError, Global};
-use zl_asm::hints::{is, is_opening, words_of};
+use zl_asm::hints::{Line, is, is_opening, words_of};
 use zl_rights::Kind;
 
 /// What a line belongs to.
@@ -62,20 +62,20 @@ impl Above {
     }
 }
 
-/// What the lines above the line of this number say.
-pub fn read_above(alloc: Global, input: &[u8], number: u64) -> Result<Above, AllocError> {
+/// What the lines of the input say that stand above the line of this number.
+pub fn read_above(alloc: Global, input: &[Line], number: u64) -> Result<Above, AllocError> {
     let mut above = Above {
         part: Part::Statements,
         programs: 0,
         objects: Vec::new(alloc),
     };
     above.objects.push(Kind::Job)?;
-    for (index, line) in input.split(|byte| *byte == b'\n').enumerate() {
-        if index as u64 + 1 >= number {
+    for line in input {
+        if line.number >= number {
             break;
         }
-        if !line.starts_with(b"#") {
-            let words = words_of(alloc, line)?;
+        if !line.bytes.starts_with(b"#") {
+            let words = words_of(alloc, line.bytes)?;
             above.add_line(words.as_slice())?;
         }
     }

@@ -3,90 +3,63 @@
 use crate::hints::refusal::push_reason;
 use crate::scenario::{Body, Form};
 use std::alloc::{AllocError, Global};
-use zl_asm::hints::{is, push_head, words_of};
-use zl_code::Image;
+use zl_asm::hints::Value::Number;
+use zl_asm::hints::{Line, block_of, push_head, push_text};
 use zl_verify::{Refusal, check};
 
-/// Adds why the program is refused whose block of this form the line opens. The line that is named is
-/// that of the instruction, where the block is a text.
+/// Adds why the program is refused whose block of this form the line opens, among the lines of the
+/// input. The line that is named is that of the instruction, where the block is a text.
 pub fn push_refused_block(
     hint: &mut String,
     alloc: Global,
-    input: &[u8],
+    input: &[Line],
     opened: u64,
     form: Form,
 ) -> Result<(), AllocError> {
-    let Some(image) = image_of(alloc, input, opened, form)? else {
+    let block = block_of(alloc, input, opened)?;
+    let lines = block.lines.as_slice();
+    let Some(Refusal { at, cause, image }) = refusal_of(alloc, lines, form) else {
         return push_head(hint, opened, "Check");
     };
-    let Err(Refusal { at, cause, image }) = check(alloc, image) else {
-        return push_head(hint, opened, "Check");
+    let line = match form {
+        Form::Asm => line_of(lines, at),
+        Form::Hex => None,
     };
-    let number = match form {
-        Form::Asm if at < image.len() => line_of(alloc, input, opened, at)?,
-        _ => opened,
-    };
-    push_head(hint, number, cause.name())?;
-    write!(hint, "instruction {at}: ")?;
+    push_head(hint, line.unwrap_or(opened), cause.name())?;
+    push_text(hint, "instruction #: ", &[Number(at as u64)])?;
     push_reason(hint, alloc, &image, at, cause)
 }
 
-/// The image of the block of this form that the line opens, if it is one.
-fn image_of(
-    alloc: Global,
-    input: &[u8],
-    opened: u64,
-    form: Form,
-) -> Result<Option<Image>, AllocError> {
+/// Why the block of these lines is refused, if it is an image that is.
+fn refusal_of(alloc: Global, lines: &[Line], form: Form) -> Option<Refusal> {
     let mut body = Body::new(alloc);
     body.open(form);
-    for (index, line) in input.split(|byte| *byte == b'\n').enumerate() {
-        if index as u64 + 1 <= opened || line.starts_with(b"#") {
-            continue;
-        }
-        let words = words_of(alloc, line)?;
-        if is_end(words.as_slice()) {
-            break;
-        }
-        if body.push_line(line).is_err() {
-            return Ok(None);
-        }
+    for line in lines {
+        body.push_line(line.bytes).ok()?;
     }
-    Ok(body.image(alloc).ok())
+    check(alloc, body.image(alloc).ok()?).err()
 }
 
-fn is_end(words: &[&[u8]]) -> bool {
-    match words {
-        [word] => is(word, b"end"),
-        _ => false,
-    }
-}
-
-/// The line where the instruction of this number stands, in the text that begins below the line.
-fn line_of(alloc: Global, input: &[u8], opened: u64, at: usize) -> Result<u64, AllocError> {
+/// The line of the instruction of this number, among the lines of a text.
+fn line_of(lines: &[Line], at: usize) -> Option<u64> {
     let mut left = at;
-    for (index, line) in input.split(|byte| *byte == b'\n').enumerate() {
-        let number = index as u64 + 1;
-        if number <= opened || line.starts_with(b"#") || !is_instruction(alloc, line)? {
-            continue;
+    for line in lines {
+        if is_instruction(line.bytes) {
+            if left == 0 {
+                return Some(line.number);
+            }
+            left -= 1;
         }
-        let Some(fewer) = left.checked_sub(1) else {
-            return Ok(number);
-        };
-        left = fewer;
     }
-    Ok(opened)
+    None
 }
 
-/// Whether the line of a text has an instruction, and no directive or label alone.
-fn is_instruction(alloc: Global, line: &[u8]) -> Result<bool, AllocError> {
-    let Some(text) = line.split(|byte| *byte == b';').next() else {
-        return Ok(false);
+/// Whether the line of a text has an instruction, and no directive or label.
+fn is_instruction(line: &[u8]) -> bool {
+    let Ok(line) = str::from_utf8(line) else {
+        return false;
     };
-    let words = words_of(alloc, text)?;
-    match words.as_slice() {
-        [] => Ok(false),
-        [word, ..] if word.starts_with(b".") => Ok(is(word, b".bytes")),
-        [word, ..] => Ok(!word.ends_with(b":")),
-    }
+    let code = line.split(';').next().unwrap_or("").trim_matches(' ');
+    let is_directive = code.starts_with('.') && !code.starts_with(".bytes");
+    !(code.is_empty() || is_directive || code.ends_with(':'))
 }

@@ -8,7 +8,7 @@ use crate::hints::numbers::{decimal, push_first_no_number, push_no_number};
 use crate::scenario::Form;
 use std::alloc::{AllocError, Global};
 use zl_asm::hints::{
-    Word, is, is_opening, line_at, numbered_lines, place_of_blank, place_outside_ascii, plural,
+    Word, is, is_opening, numbered_lines, place_of_blank, place_outside_ascii, plural,
     push_block_fault, push_head, push_nearest, push_odd_byte, words_of,
 };
 use zl_rights::Kind;
@@ -45,24 +45,25 @@ fn push_fault(
     number: u64,
     cause: &str,
 ) -> Result<(), AllocError> {
-    let Some(line) = line_at(input, number) else {
+    let lines = numbered_lines(alloc, input)?;
+    let lines = lines.as_slice();
+    let Some(line) = lines.get((number as usize).wrapping_sub(1)) else {
         push_head(hint, number, cause)?;
         return hint.push_str("the input has more than 4194304 bytes\n");
     };
-    let above = read_above(alloc, input, number)?;
-    let words = words_of(alloc, line)?;
+    let above = read_above(alloc, lines, number)?;
+    let words = words_of(alloc, line.bytes)?;
     match above.part {
         Part::Statements if is_opening(words.as_slice()) && cause == "Check" => {
             let form = form_of(words.as_slice());
-            push_refused_block(hint, alloc, input, number, form)?;
+            push_refused_block(hint, alloc, lines, number, form)?;
         }
         Part::Statements if is_opening(words.as_slice()) && cause != "Limit" => {
-            let lines = numbered_lines(alloc, input)?;
-            push_block_fault(hint, alloc, lines.as_slice(), number, words.as_slice())?;
+            push_block_fault(hint, alloc, lines, number, words.as_slice())?;
         }
         part => {
             push_head(hint, number, cause)?;
-            push_line_fault(hint, alloc, line, words.as_slice(), &above, cause)?;
+            push_line_fault(hint, alloc, line.bytes, words.as_slice(), &above, cause)?;
         }
     }
     hint.push_str("\n")
@@ -70,10 +71,9 @@ fn push_fault(
 
 /// How the block is written that the words open.
 fn form_of(words: &[&[u8]]) -> Form {
-    if words.iter().any(|word| is(word, b"hex")) {
-        Form::Hex
-    } else {
-        Form::Asm
+    match words {
+        [_, _, form] if is(form, b"hex") => Form::Hex,
+        _ => Form::Asm,
     }
 }
 

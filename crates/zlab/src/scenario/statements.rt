@@ -6,7 +6,7 @@ ghost use Rattle.std.specs.Option.{option_map};
 ghost use Rattle.zlab.specs.Lines.{number_of};
 ghost use Rattle.zlab.specs.Handles.{handles_of};
 ghost use Rattle.zl_rights.specs.Names.{condition_named};
-ghost use Rattle.zlab.specs.Scenario.{at, Statements, action_named, body_named, mark_named, job_said, object_named, policy_said, process_said, limit_said, statement_said};
+ghost use Rattle.zlab.specs.Scenario.{at, Statements, action_named, body_named, mark_named, job_said, object_named, policy_said, process_said, limit_said, object_said, statement_said};
 ghost use Rattle.zlab.specs.Reading.{part_with, body_with, Tells, Keeps};
 
 use crate::fault::Cause;
@@ -42,10 +42,7 @@ pub fn read_statement(
             Ok(Part::Schedule)
         }
         [name] => {
-            let Some(statement) = object_named(name) else {
-                return Err(Fault::Refused(Cause::Syntax));
-            };
-            draft.push_statement(line, statement)?;
+            read_object(draft, line, name)?;
             Ok(Part::Statements)
         }
         [name, value] => {
@@ -63,17 +60,51 @@ pub fn read_statement(
             })
         }
         [name, job, program, word, handles @ ..] => {
-            if is_policy(name, handles) {
-                read_policy(draft, line, job, program, word)?;
-                return Ok(Part::Statements);
-            }
-            if is(name, b"process") {
-                read_process(draft, alloc, line, job, program, word, handles)?;
-                return Ok(Part::Statements);
-            }
-            Err(Fault::Refused(Cause::Syntax))
+            read_long(draft, alloc, line, name, job, program, word, handles)?;
+            Ok(Part::Statements)
         }
     }
+}
+
+/// Reads a line of one name.
+fn read_object(draft: &mut Draft, line: u64, name: &[u8]) -> Result<(), Fault>
+    ensures answer { Tells result (λ _. draft.new)
+        (object_said line draft.old (object_named name.now)) }
+    ensures unchanged { Keeps result draft.old draft.new }
+{
+    let Some(statement) = object_named(name) else {
+        return Err(Fault::Refused(Cause::Syntax));
+    };
+    draft.push_statement(line, statement)?;
+    Ok(())
+}
+
+/// Reads a line of a name, three words and perhaps more.
+#[tactic(auto, unfolding(crate::specs::Scenario::statement_said))]
+fn read_long(
+    draft: &mut Draft,
+    alloc: Global,
+    line: u64,
+    name: &[u8],
+    job: &[u8],
+    program: &[u8],
+    word: &[u8],
+    handles: &[&[u8]],
+) -> Result<(), Fault>
+    ensures answer { Tells result (λ _. at draft.new Statements)
+        (statement_said line draft.old (name.now ∷ job.now ∷ program.now ∷ word.now
+        ∷ map (λ word. word.now) handles.now)) }
+    ensures unchanged { Keeps result draft.old draft.new }
+{
+    if is_policy(name, handles) {
+        read_policy(draft, line, job, program, word)?;
+        return Ok(());
+    }
+    if is(name, b"process") {
+        read_process(draft, alloc, line, job, program, word, handles)?;
+        return Ok(());
+    }
+    Err(Fault::Refused(Cause::Syntax))
 }
 
 /// Reads a line of a name and one number.

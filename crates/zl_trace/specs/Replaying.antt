@@ -22,7 +22,7 @@ pub record Repeats (l : World) (x : TraceItem) (l2 : World) : Type 0 where
   pub count : has_count x ≡ true
   pub runs : Runs l.programs l.world (single x) l2.world
 
--- where a step of this item is to come, the process isn't ready, or a step of it has another item
+-- where a step of this item is to come, the process isn't ready, or some step of it has another item; a further step may have this one
 pub data StepDiffers (lib : Library) (w : WorldValue) (x : TraceItem) : Type 0 where
   not_ready : is_process w is_ready (pid_of x) ≡ false → StepDiffers lib w x
   another : (own : TraceItem) (after : WorldValue) → Step lib w (pid_of x) own after → own ≢ x → StepDiffers lib w x

@@ -51,7 +51,8 @@ impl From<AllocError> for ReadFault {
 pub enum ReplayFault {
     /// The statements can't be done.
     Boot(BootFault),
-    /// The item of this place, from 1, can't come after those before it.
+    /// Behind the items before that of this place, from 1, its process isn't ready, or its own step
+    /// has another item; or the item is one too many.
     At(usize),
 }
 

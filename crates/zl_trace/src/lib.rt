@@ -7,7 +7,7 @@
 //! of the definitions, and that `text` writes the whole text, or a beginning of it and says why; that
 //! `read_text` gives the items whose lines a text has, or names the first line that is none; and that
 //! `replay` gives the world to which such items lead, where they are a legal history, or names the first
-//! that can't come. `laws` proves of the definitions that what is written is what is read. `write_all`
+//! that its own steps don't give. `laws` proves of the definitions that what is written is what is read. `write_all`
 //! and `empty_block` are how it writes, `is_comment` and `split_words` how it reads, and serve other
 //! texts too.
 #![tactic(auto)]

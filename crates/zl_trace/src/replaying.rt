@@ -18,10 +18,12 @@ use zl_rights::Pid;
 /// Boots the statements, does the steps for which the items stand, and gives the world to which they
 /// lead.
 ///
-/// `Boot` has the fault of the statements. `At` names the first item, from 1, that can't come: its
-/// process isn't ready, or its step gives another item; or it is one past `Boot::MOST_ITEMS`. As a step
-/// may give any unused value to a new handle, a trace with another choice may differ from the first
-/// exit that tells of such a value on. What was handed in is then gone.
+/// `Boot` has the fault of the statements. `At` names the first item, from 1, that the lab's own steps
+/// don't give: its process isn't ready, or its own step has another item; or it is one past
+/// `Boot::MOST_ITEMS`. That isn't to say that no step has it. A call for which the lab has memory may
+/// also be answered `NoMemory`; and as a step may give any unused value to a new handle, a trace with
+/// another choice may differ from the first exit that tells of such a value on. The clause says of the
+/// other item only that some step of the process has it. What was handed in is then gone.
 ///
 /// Source: own profile; what a step is follows `World`.
 pub fn replay(

@@ -70,7 +70,7 @@ pub record IsHistoryOf (text : List ℕ) (items : List TraceItem) : Type 0 where
   pub last : World
   pub legal : IsLegalHistory library boot items last
 
--- the items before number n, from 1, can come, and that one can't
+-- the items before number n, from 1, can be replayed; item n then differs, or is one past the most that a trace has
 pub record DiffersFrom (text : List ℕ) (items : List TraceItem) (n : ℕ) : Type 0 where
   pub library : Library
   pub statements : List Statement

@@ -201,7 +201,7 @@ fn step_files<R: AllocGlobal + Files + Print>(
     ended
 }
 
-/// Says on standard output whether the scenario in one file can have the trace in the other.
+/// Replays the trace in one file from the scenario in the other, and answers on standard output.
 fn replay<R: AllocGlobal + Files + Print>(
     rt: &R,
     hints: &mut String,

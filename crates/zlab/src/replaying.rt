@@ -1,5 +1,5 @@
 //! The engine of the replay: a scenario and a trace are read, and the line written that says whether the
-//! scenario can have the trace.
+//! trace is replayed from the scenario.
 ghost use Rattle.std.specs.Prelude.{ℕ, ◌≡◌, ◌≢◌, ◌++◌, List, IfOk, IfErr, IfSome, IfNone, OnOk, OnErr, string_bytes};
 ghost use Rattle.std.specs.Io.KnownBytes.{Appends};
 ghost use Rattle.zl_trace.specs.Output.{AppendsBeginning};
@@ -27,7 +27,8 @@ const MOST_TRACE: usize = 134_217_728;
 pub enum Replayed {
     /// All items of the trace, so many, are a legal history.
     All(usize),
-    /// The item of this place, from 1, can't come after those before it.
+    /// Behind the items before that of this place, from 1, its process isn't ready, or its own step
+    /// has another item; or the item is one too many.
     Differs(usize),
     /// The scenario has this fault.
     Refused(LineFault),
@@ -44,12 +45,12 @@ enum Items {
 
 /// Reads a scenario, in which a line `--` is a fault, and a trace, and writes to `line` what comes of
 /// them: `replayed N` where the N items of the trace are a legal history from a boot world of the
-/// scenario, `differs N` where item N, from 1, is the first that can't come, `refused LINE CAUSE` for the
-/// first fault of the scenario, and else `refused trace LINE Syntax` for the first line of the trace
-/// that is to be an item's and isn't, or `refused trace 0 Limit` for more than 134,217,728 bytes. The
-/// scenario's limit is none of the trace: it may have 1,000,000 items, and the next one differs. All
-/// input is read before anything is written, and no more than one byte past its limit. To `hints` it
-/// adds for a person why the answer is none of the first.
+/// scenario, `differs N` where item N, from 1, is the first that the lab's own steps don't give, as
+/// `replay` says, `refused LINE CAUSE` for the first fault of the scenario, and else `refused trace LINE
+/// Syntax` for the first line of the trace that is to be an item's and isn't, or `refused trace 0 Limit`
+/// for more than 134,217,728 bytes. The scenario's limit is none of the trace: it may have 1,000,000
+/// items, and the next one differs. All input is read before anything is written, and no more than one
+/// byte past its limit. To `hints` it adds for a person why the answer is none of the first.
 ///
 /// A fault of a reader is `Read`, with nothing written. A fault of the writer, and a want of memory,
 /// leave nothing or a beginning of such a line.
@@ -101,7 +102,7 @@ fn found_in(
     }
 }
 
-/// Says why the items can't all come.
+/// Says why the items aren't all replayed.
 fn explain(hints: &mut String, alloc: Global, text: &[u8], front: &[u8], found: Replayed) {
     match found {
         Replayed::All(_) => {}

@@ -13,14 +13,14 @@ use Rattle.zl_code.specs.Starting.{started_with}
 pub data OthersMake (x y : Process) : Type 0 where
   -- it stays as it was
   left_alone : y ≡ x → OthersMake x y
-  -- it was blocked, and what it waits for is there
+  -- it was blocked, and is ready behind its call, with some values in the registers of the answer
   woken : (awaited : Awaited) (destinations values : List ℕ) → x.state ≡ Blocked awaited destinations
       → y ≡ record x { state = Ready; cpu = answered x.cpu destinations values } → OthersMake x y
   -- it was not started yet, and starts with a handle at a value, and a word
   was_started : (e : Entry) (v word : ℕ) → x.state ≡ Created → y ≡ process_with v e (started_with (v ∷ []) word x) → OthersMake x y
   -- it was killed, and its handles closed
   was_killed : y ≡ record x { state = Ended KILLED; handles = []; last = None } → OthersMake x y
-  -- it was never started, and nothing holds it any more
+  -- it was never started, and is gone
   dropped : x.state ≡ Created → y ≡ record x { state = Gone } → OthersMake x y
 
 -- the job k is j, or stands below it
@@ -47,8 +47,8 @@ policy_of (JobBody parent depth policy killed) = Some policy
 policy_of b = None
 
 -- A step of p leads from w to after. It leaves the other living processes alone but for starting, waking, killing
--- and dropping them, keeps the objects that their tables name while they live, and changes the policy of no job
--- that they are in.
+-- and dropping them, keeps the objects that their tables name, of those that live after it too, and changes the
+-- policy of no job that a living process is in or below.
 pub record LeavesOthers (w : World) (p : ℕ) (after : World) : Type 0 where
   pub processes : (q : ℕ) (x : Process) → (p == q) ≡ false → get w.processes q ≡ Some x → IsTrue (lives x.state)
       → (y : Process) × (get after.processes q ≡ Some y) × OthersMake x y

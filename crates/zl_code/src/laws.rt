@@ -166,8 +166,9 @@ pub fn runs_keep_processes()
 {}
 
 /// In each world of a run from a boot world, the step of a process leaves every other living process as
-/// it was, unless it wakes it or leaves it dropped before its start; it keeps each object that the table
-/// of such a process names, and the policy of each job that such a process is in or below.
+/// it was, unless it starts, wakes or kills it, or drops it before its start. It keeps each object that
+/// the table of such a process names, where the process lives after the step too, and the policy of each
+/// job that a living process is in or below.
 pub fn frame()
     ensures { (lib : Library) (statements : List Statement) (boot w after : World)
         (items : List TraceItem) (p : ℕ) (x : TraceItem)

@@ -40,7 +40,7 @@ pub record AreBeside (r r2 : Objects) : Type 0 where
   pub objects : AreSameButWaits r.objects r2.objects
   pub koids : r2.next_koid ≡ r.next_koid
 
--- the waits that pass the test have ended, and nothing else has changed
+-- the waits that pass the test have ended, and nothing else has changed but perhaps the places that are reserved
 pub record EndsWaits (test : Wait → Bool) (r r2 : Objects) : Type 0 where
   pub beside : AreBeside r r2
   pub waits : r2.waits ≡ filter (λ x. not (test x)) r.waits

@@ -71,7 +71,8 @@ pub record IsExact (w : World) (ks : List ℕ) (m : Map Object) : Type 0 where
   pub agrees : (k : ℕ) (o : Object) → get m k ≡ Some o → Agrees w k o.body
   pub in_jobs : (k : ℕ) (o : Object) → get m k ≡ Some o → IsTrue (is_in_job m o.body)
 
--- in each world that the objects fit, the largest held set is what is left, and the counts are right again
+-- In each world that the objects fit the counts are right again; and where something kept each object but perhaps the loose ones,
+-- the largest held set is what is left.
 pub record LeavesLargest (ks loose : List ℕ) (r r2 : Objects) : Type 0 where
   pub settles : (w : World) → IsExact w ks r.objects → AreKeptBut loose r.objects → Settles (with_objects w r.objects) (with_all w r2.objects)
   pub exact : (w : World) → IsExact w ks r.objects → IsExact w [] r2.objects

@@ -109,7 +109,8 @@ bare o = record { body = unreserved o.body; signals = record { raised = o.signal
 abbrev pub AreSameButWaits : Map Object → Map Object → Type 0
 AreSameButWaits m m2 = each (λ k. bare) m ≡ each (λ k. bare) m2
 
--- of the waits at the object those are left whose port is left, in order; what it is and its raised signals are as before
+-- of the waits at the object those are left whose port is left, in order; what it is, but for reserved places, and its raised signals
+-- are as before
 pub record KeepsWaits (m m2 : Map Object) (k : ℕ) (o : Object) : Type 0 where
   pub before : Object
   pub there : get m k ≡ Some before

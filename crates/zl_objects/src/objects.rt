@@ -301,7 +301,11 @@ impl Objects {
     /// A handle to the object has gone, and with it goes what isn't held any more: with the end of
     /// a channel go its messages and the handles in them. With a port go its packets, and the waits
     /// at all objects that give packets to it; with an object go the waits that are registered
-    /// there, and their places are given back. It takes no memory.
+    /// there. It takes no memory.
+    ///
+    /// The largest held set is left where something kept each object before: right after `new`
+    /// nothing keeps the root job. The places of waits that end are given back at their ports, but
+    /// how many stay reserved there no clause says, here and below.
     ///
     /// Source: the page "zx_handle_close" of the Fuchsia documentation.
     pub fn release(&mut self, koid: Koid)
@@ -315,7 +319,8 @@ impl Objects {
         keep_there(&mut self.waits, &self.by_koid);
     }
 
-    /// The object goes if nothing keeps it, and what isn't held any more then. It takes no memory.
+    /// The object goes if nothing keeps it, and what isn't held any more then. It takes no memory. The
+    /// largest held set is left where something kept each other object before.
     pub fn remove_unheld(&mut self, koid: Koid)
         ensures releases { Releases [] (koid ∷ []) self.old self.new }
         ensures largest { LeavesLargest [] (koid ∷ []) self.old self.new }
@@ -344,7 +349,9 @@ impl Objects {
 
     /// The job is killed, and each job below it, and the processes below it are over; or the
     /// process is over, if it is one. What isn't held any more goes, with the waits as in `release`.
-    /// It takes no memory. The handles of the processes are to be closed by `release`.
+    /// It takes no memory. The handles of the processes are to be closed by `release`, and the koid is
+    /// to be above 0: below 0 nearly all objects stand, and what stands there of jobs and processes
+    /// would be killed.
     ///
     /// Source: the page "zx_task_kill" of the Fuchsia documentation.
     pub fn kill(&mut self, task: Koid)

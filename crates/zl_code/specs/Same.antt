@@ -1,4 +1,4 @@
--- In what two images are the same.
+-- In what two images are the same. No public clause cites this module.
 use Rattle.std.specs.Prelude.{◌≡◌, List, length}
 use Rattle.std.specs.List.{flat_map}
 use Rattle.zl_rights.specs.declared.policy.Condition.TheVariants as condition

@@ -58,10 +58,10 @@ impl Checked {
     }
 
     /// In every run from a boot world, whatever others do: a process that was properly started from
-    /// this image gets no call answered BAD_HANDLE, WRONG_TYPE or ACCESS_DENIED, is never stuck, is
-    /// ended by no policy, and takes no more instructions than its budget from its start on up to a
-    /// wait or its end, and behind each wait. It ends by its own `process_exit` or `task_kill`, or
-    /// where another kills it, and from then on it does nothing more.
+    /// this image gets no call answered BAD_HANDLE, WRONG_TYPE or ACCESS_DENIED, is never stuck, and
+    /// takes no more instructions than its budget from its start on up to a wait or its end, and
+    /// behind each wait. No call of its own ends it but `process_exit` and, with the code of the
+    /// killed, `task_kill`, so that no policy does.
     ///
     /// And no handle of it leaks: in every world, as long as it lives, its table has a handle at
     /// just the values other than 0 that stand in its slot arrays and in those registers that are

@@ -149,8 +149,8 @@ pub fn steps_of_others()
 
 /// In a run from a boot world, from where a process runs and is as a typing of its image says,
 /// whatever it and others do: none of its calls is answered BAD_HANDLE, WRONG_TYPE or
-/// ACCESS_DENIED, no call of its own ends it but `process_exit` and `task_kill` of itself or of a
-/// job above it, so that no policy does, and it is never stuck. In each world that follows it runs,
+/// ACCESS_DENIED, no call of its own ends it but `process_exit` and, with the code of the killed,
+/// `task_kill`, so that no policy does, and it is never stuck. In each world that follows it runs,
 /// and is as the typing says, or has ended, as it also does where another kills it. Own profile.
 pub fn never_refused()
     ensures fine { (i : Image) (t : ℕ → Option State) → IsTrue (is_in_range i) → IsTyping i t

@@ -1,4 +1,4 @@
--- The limits of the rules and the sizes of the image format, each by one name.
+-- The limits of an image and the sizes of its format, each by one name.
 use Rattle.std.specs.Prelude.{ℕ}
 
 -- the most instructions of an image

@@ -37,7 +37,7 @@ pub enum Task<'a> {
         /// The path of the schedule.
         schedule: &'a str,
     },
-    /// `replay SCENARIO TRACE`: whether a scenario can have a trace.
+    /// `replay SCENARIO TRACE`: whether a trace is replayed from a scenario.
     Replay {
         /// The path of the scenario.
         scenario: &'a str,

@@ -45,12 +45,12 @@ abbrev pub one_for : ℕ → Option Watch → ℕ
 one_for k None = 0
 one_for k (Some x) = cond (x.port == k) 1 0
 
--- for all waits that give their packets to one port, and for this one, places are reserved there; none gives its packet
+-- for all waits that give their packets to one port, and for this one, places are reserved there, and perhaps more; none gives its packet
 -- to a koid that is no port
 abbrev pub HavePlacesWith : Option Watch → Map Object → Type 0
 HavePlacesWith x m = (k : ℕ) → waits_at m k + one_for k x ≤ reserved_in (get m k)
 
--- for all waits that give their packets to one port places are reserved there
+-- for all waits that give their packets to one port places are reserved there, and perhaps more
 abbrev pub HavePlaces : Map Object → Type 0
 HavePlaces m = HavePlacesWith None m
 

@@ -6,10 +6,10 @@
 //! that stay reserved at ports where objects go; that in every world that the objects fit, `release`
 //! and `remove_unheld` leave the largest held set and nothing else where something kept each other
 //! object before, and `kill` does so always; that with a process that ends goes what nothing keeps
-//! any more; that just those waits are left whose object and port are, that the list of all waits
-//! has those of each object in their order, and that nothing but making an object, sending,
-//! registering a wait and queueing a packet of a call takes memory. Where a method names no source,
-//! that of its type is meant.
+//! any more; that just those waits are left whose object and port are; and that nothing but making
+//! an object, sending, registering a wait and queueing a packet of a call can be refused memory. Its
+//! type keeps that the list of all waits has those of each object in their order. Where a method
+//! names no source, that of its type is meant.
 #![tactic(auto)]
 
 mod jobs;

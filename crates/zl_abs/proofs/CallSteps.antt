@@ -1,7 +1,7 @@
 -- One operand and one result more.
 use Rattle.std.proofs.Common.{◌≡◌, ℕ, ◌+◌, ◌<◌, ◌≤◌, true, false, ◌&&◌, not, List, Result, Ok, Err, refl, sym, ◌∙◌, drop, take, length, arith, ◌-◌}
 use Rattle.std.proofs.lemmas.List.{drop_all, take_all, length-drop}
-use Rattle.zl_code.specs.Tests.{Operand}
+use Rattle.zl_code.specs.Operands.{Operand}
 use Rattle.zl_abs.specs.declared.value.AbsVal.{AbsVal}
 use Rattle.zl_abs.specs.declared.cause.Cause.{Cause}
 use Rattle.zl_abs.specs.Rule.{and_then}

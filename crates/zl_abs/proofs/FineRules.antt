@@ -17,7 +17,7 @@ use Rattle.zl_code.specs.declared.instr.CallInstr.TheVariants as call
 use Rattle.zl_code.specs.Image.{Image, instr_at}
 use Rattle.zl_code.specs.Instructions.{Row, row_of}
 use Rattle.zl_code.specs.Spells.{Parts, is_in_range, is_instr_in_range, is_slot_in_range, is_local_in_range, is_call_in_range, local_parts, call_parts}
-use Rattle.zl_code.specs.Tests.{Operand}
+use Rattle.zl_code.specs.Operands.{Operand}
 use Rattle.zl_code.specs.Refusals.{needs}
 use Rattle.zl_code.proofs.ImageRanges.{ranges}
 use Rattle.zl_abs.specs.declared.value.AbsVal.{AbsVal}

@@ -13,7 +13,7 @@ use Rattle.zl_code.specs.Image.{Image, is_among}
 use Rattle.zl_code.specs.Instructions.{Field, reads, Row, row_of}
 use Rattle.zl_code.specs.Spells.{Last, Numbers, Parts, call_parts}
 use Rattle.zl_code.specs.Asked.{those, is_written, listed_in, triples_from, triples_in}
-use Rattle.zl_code.specs.Tests.{Operand}
+use Rattle.zl_code.specs.Operands.{Operand}
 use Rattle.zl_code.specs.Refusals.{operands_by}
 use Rattle.zl_abs.specs.declared.value.AbsVal.{AbsVal}
 use Rattle.zl_abs.specs.declared.value.AbsVal.TheVariants.{Word, Has, KindOf, RightsOf}

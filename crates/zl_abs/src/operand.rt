@@ -55,7 +55,7 @@ pub(crate) struct Operand {
 
 impl Model for Operand {
     ghost use Rattle.zl_rights.specs.Numbers.{bits};
-    ghost use Rattle.zl_code.specs.Tests.{Operand as OperandValue};
+    ghost use Rattle.zl_code.specs.Operands.{Operand as OperandValue};
     ghost use Rattle.zl_abs.specs.Operands.{kinds_of};
 
     ghost Value = { OperandValue };

@@ -18,7 +18,7 @@ pub use Rattle.zl_code.specs.Effects.{may_get_all, new_entry, object_changed, si
 unfoldable pub use Rattle.zl_code.specs.Effects.{on_object}
 pub use Rattle.zl_code.specs.Tests.{koid_in, may_change, parent_of, policy_in, settable_of}
 pub use Rattle.zl_rights.specs.Counts.{queued_to}
-unfoldable pub use Rattle.zl_code.specs.Tests.{creates}
+unfoldable pub use Rattle.zl_code.specs.Operands.{creates}
 pub use Rattle.zl_rights.proofs.MapLaws.{get-put, get-update}
 pub use Rattle.zl_table.proofs.MapEdits.{get-without, has_key-update, is_sorted-update, length-put_new, length-without, put_key, sorted_parts, sorted_put, sorted_without, update_missing, without_lower}
 pub use Rattle.zl_table.specs.Table.{Drains, Handles, Inserts, IsTable}

@@ -6,7 +6,7 @@ use Rattle.std.specs.Result.{result_err}
 use Rattle.std.proofs.lemmas.List.Folds.{list_any-append}
 use Rattle.zl_code.specs.Instructions.{consumes}
 use Rattle.zl_code.specs.Refusals.{operands_by}
-use Rattle.zl_code.specs.Tests.{Operand, contains}
+use Rattle.zl_code.specs.Operands.{Operand, contains}
 use Rattle.zl_rights.specs.LookUp.{looked_up}
 use Rattle.zl_rights.specs.Numbers.{TRANSFER}
 use Rattle.zl_rights.specs.declared.entry.Entry.{Entry}

@@ -8,7 +8,7 @@ use Rattle.zl_code.specs.First.{first_some}
 use Rattle.zl_code.specs.Image.{Library}
 use Rattle.zl_code.specs.Refusals.{condition_of}
 use Rattle.zl_code.specs.Request.{Site}
-use Rattle.zl_code.specs.Tests.{by_look_up as look_up_by_policy, by_policy, faults as faults_by_policy}
+use Rattle.zl_code.specs.Operands.{by_look_up as look_up_by_policy, by_policy, faults as faults_by_policy}
 use Rattle.zl_code.specs.declared.history.Outcome.{Outcome}
 use Rattle.zl_rights.specs.LookUp.{granted}
 use Rattle.zl_rights.specs.declared.entry.Entry.{Entry}

@@ -17,7 +17,8 @@ use Rattle.zl_code.specs.CallTable.{Request}
 use Rattle.zl_code.specs.First.{first_some}
 use Rattle.zl_code.specs.Image.{Library}
 use Rattle.zl_code.specs.Refusals.{condition_of}
-use Rattle.zl_code.specs.Tests.{Operand, action_of, body_in, by_look_up, by_policy, contains, creates, ends_if_kill, entry_at, operand_after, parent_in, parent_of, policy_in, seen_after, table_of, unless_allowed}
+use Rattle.zl_code.specs.Tests.{action_of, body_in, entry_at, parent_in, parent_of, policy_in, table_of}
+use Rattle.zl_code.specs.Operands.{Operand, by_look_up, by_policy, contains, creates, ends_if_kill, operand_after, seen_after, unless_allowed}
 use Rattle.zl_code.specs.declared.history.Outcome.{Outcome}
 use Rattle.zl_code.specs.declared.history.Outcome.TheVariants as outcome
 use Rattle.zl_objects.proofs.Law.{get_seen}

@@ -23,7 +23,8 @@ use Rattle.zl_code.specs.declared.history.Outcome.TheVariants as outcome
 use Rattle.zl_code.specs.Effects.{body_with_message, message_sent}
 use Rattle.zl_code.specs.Instructions.{consumes}
 use Rattle.zl_code.specs.Refusals.{operands_by}
-use Rattle.zl_code.specs.Tests.{Operand, contains, entries_at, is_too_large, peer_at as peer_named, peer_in as peer_seen}
+use Rattle.zl_code.specs.Tests.{entries_at, is_too_large, peer_at as peer_named, peer_in as peer_seen}
+use Rattle.zl_code.specs.Operands.{Operand, contains}
 use Rattle.zl_objects.specs.declared.object.Body.{Body}
 use Rattle.zl_objects.specs.declared.object.Body.TheVariants as body
 use Rattle.zl_objects.specs.declared.object.Object.{Object}

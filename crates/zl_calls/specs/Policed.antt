@@ -4,7 +4,7 @@ use Rattle.std.specs.Option.{option_or}
 use Rattle.std.specs.Result.{result_err}
 use Rattle.zl_code.specs.Common.{Map, get, Request, Site}
 use Rattle.zl_code.specs.Refusals.{condition_of, handle_operands}
-use Rattle.zl_code.specs.Tests.{Operand, contains, seen_after}
+use Rattle.zl_code.specs.Operands.{Operand, contains, seen_after}
 use Rattle.zl_code.specs.declared.history.Outcome.{Outcome}
 use Rattle.zl_code.specs.declared.history.Outcome.TheVariants as outcome
 use Rattle.zl_rights.specs.LookUp.{looked_up}

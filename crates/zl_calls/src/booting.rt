@@ -1,13 +1,15 @@
 //! The processes and objects that the statements of a boot make.
 
 ghost use Rattle.std.specs.Prelude.{ℕ, ◌+◌, ◌≡◌, ◌≢◌, ◌≤◌, ◌<◌, nat_lt, [], ◌∷◌, length, is_some, Some, slice_get, IfOk, OnOk, IfErr, IsTrue};
-ghost use Rattle.std.specs.List.{list_all};
+ghost use Rattle.std.specs.List.{AllByRecursion, list_all};
 ghost use Rattle.std.specs.Option.{option_map};
 ghost use Rattle.std.specs.Result.{result_err};
 ghost use Rattle.zl_rights.specs.Numbers.{within, default_rights_of};
 ghost use Rattle.zl_rights.specs.Settle.{Settles};
 ghost use Rattle.zl_code.specs.Boot.{IsBoot, FirstFault, MOST_ITEMS, MOST_GRANTS, MOST_PROCESSES, MOST_KOIDS, are_declared, are_misfits, boot_fault, handles_given, rights_given};
+ghost use Rattle.zl_code.specs.Headline.{word_of};
 ghost use Rattle.zl_code.specs.Jobs.{is_only_start};
+ghost use Rattle.zl_code.specs.Limits.{most_word};
 ghost use Rattle.zl_calls.specs.Consistent.{IsConsistent};
 ghost use Rattle.zl_objects.specs.Objects.{kind_at, root_alone};
 ghost use Rattle.zl_interp.specs.Program.{program_value};
@@ -45,6 +47,8 @@ pub fn booted(alloc: Global, library: &Library, boot: &Boot) -> Result<Made, Boo
     ensures ok { IfOk result (λ made. IsBoot library.now boot.now.statements.items (seen made)) }
     ensures lab { IfOk result (λ made. IsConsistent made.processes.items made.objects) }
     ensures unwatched { IfOk result (λ made. IsUnwatched made.objects) }
+    ensures words { OnOk result
+        (AllByRecursion (λ s. word_of s ≤ most_word) boot.now.statements.items) }
     ensures limit { OnOk result (boot.now.limit ≤ MOST_ITEMS) }
     ensures err { IfErr result (λ fault. fault.cause ≢ BootCause.NoMemory
         → FirstFault library.now boot.now.statements.items boot.now.limit
@@ -89,6 +93,7 @@ impl Made {
     ) -> Result<(), BootCause>
         requires { IsMaking self.old.processes.items [] self.old.objects }
         ensures ok { OnOk result (Makes library.now statement.now self.old self.new) }
+        ensures word { word_of statement.now ≤ most_word }
         ensures err { IfErr result
             (IsCauseOf (boot_fault library.now (seen self.old) statement.now)) }
     {

@@ -23,3 +23,4 @@ mod world;
 mod writing;
 
 pub use world::{Local, World};
+pub use zl_code::{Boot, BootFault, CallName, Outcome, ProcState, TraceItem};

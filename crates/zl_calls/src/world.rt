@@ -5,6 +5,8 @@ ghost use Rattle.std.specs.Option.{option_map};
 ghost use Rattle.zl_rights.specs.Map.{get};
 ghost use Rattle.zl_code.specs.declared.boot.BootCause.TheVariants.{NoMemory};
 ghost use Rattle.zl_code.specs.Boot.{IsBoot, FirstFault, MOST_ITEMS};
+ghost use Rattle.zl_code.specs.Headline.{IsSizedBoot};
+ghost use Rattle.zl_code.specs.Starting.{program_of};
 ghost use Rattle.zl_calls.specs.World.{call_for, state_in, is_ready_in};
 ghost use Rattle.zl_calls.specs.Makes.{IsReached};
 ghost use Rattle.zl_calls.specs.Steps.{Performs, StepsTo, TakesStep, local_item, takes_memory};
@@ -82,6 +84,8 @@ impl World {
     /// and the room for blocked processes as of statement 0, which need not be there.
     pub fn boot(alloc: Global, library: Library, boot: &Boot) -> Result<World, BootFault>
         ensures ok { IfOk result (λ world. IsBoot library boot.now.statements.items world.world) }
+        ensures sized { IfOk result
+            (λ world. IsSizedBoot library boot.now.statements.items world.world) }
         ensures programs { IfOk result (λ world. world.programs ≡ library) }
         ensures limit { OnOk result (boot.now.limit ≤ MOST_ITEMS) }
         ensures err { IfErr result (λ fault. fault.cause ≢ NoMemory
@@ -97,6 +101,8 @@ impl World {
                 cause: BootCause::NoMemory,
             });
         };
+        // Its clause has that the images are in their ranges.
+        library.len();
         Ok(World {
             alloc,
             library,
@@ -104,6 +110,13 @@ impl World {
             objects,
             blocked,
         })
+    }
+
+    /// The programs that its processes may run.
+    pub fn programs(&self) -> &Library
+        ensures { result.now ≡ self.now.programs }
+    {
+        &self.library
     }
 
     /// How many processes were ever made.
@@ -150,9 +163,9 @@ impl World {
 
     /// The image that the process runs; nothing for a number that was never a process.
     pub fn image_of(&self, pid: Pid) -> Option<&Image>
-        ensures found { IfSome result (λ image. IfSome (get self.now.world.processes pid)
-            (λ p. IfSome (slice_get self.now.programs p.program) (λ program. program.image ≡ image.now))) }
-        ensures missing { get self.now.world.processes pid ≡ None → result ≡ None }
+        ensures { option_map (λ image. image.now) result
+            ≡ option_map (λ program. program.image)
+            (program_of self.now.programs self.now.world pid) }
     {
         let place = place_of(&self.processes, pid)?;
         let program = self.library.get(self.processes[place].program)?;

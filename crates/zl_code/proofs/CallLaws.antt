@@ -15,7 +15,8 @@ use Rattle.std.proofs.lemmas.Bool.{not-true}
 use Rattle.std.proofs.lemmas.List.Elements.{All-filter, filter_passes}
 use Rattle.zl_code.specs.Effects.{message_read, storing, without_waits}
 use Rattle.zl_code.specs.Local.{overwritten}
-use Rattle.zl_code.specs.Tests.{operand_of, koid_in, entries_at, first_bytes, first_handles, peer_at, queue_at}
+use Rattle.zl_code.specs.Tests.{koid_in, entries_at, first_bytes, first_handles, peer_at, queue_at}
+use Rattle.zl_code.specs.Operands.{operand_of}
 use Rattle.zl_code.proofs.MapKept.{changed}
 use Rattle.zl_code.proofs.Changes.{AreUnmade, computes, message_comes, message_goes, signals_change, Changes, stays, changes, join, one, object_changes, object_is_made, policy_changes, ends_are_made, packets_are_changed, process_changes, wait_begins, keyed_end, waits_end}
 use Rattle.zl_code.proofs.Entering.{IsFine, HaveRoom, MayTake, IsLeft, all_enter, get_without, gone_without, copy_is_fine, one_copy, entry_is_fine, length_without, new_is_fine, removed_last}

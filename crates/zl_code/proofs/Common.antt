@@ -11,8 +11,9 @@ pub use Rattle.zl_code.specs.Effects.{gets_all, may_get_after, may_get_all, new_
 unfoldable pub use Rattle.zl_code.specs.Effects.{on_object}
 pub use Rattle.zl_code.specs.Sound.{HasItsObject, HasPeer, IsSoundTable, IsSoundWait, KeepsProcesses, is_blocked, is_end_if_there, is_port_there, is_value}
 pub use Rattle.zl_code.specs.Spells.{Last, Numbers, Parts, Places, Room, allows, are_parts_in_range, are_places, ascend_from, code_pieces, count_at, ending_bytes, fault_by, has_length, has_rights, header, is_32_bits, is_call_in_range, is_ending_clear, is_header_in_range, is_last_in_range, is_local_in_range, is_needs_byte, is_packed, is_raw_at, is_room, is_unused_zero, kind_at, kind_byte, last_bytes, length_at, magic, names_registers, parts_bytes, registers_at, rights_allowed, slot_pieces, slots_at, start_pieces, starts_at}
-pub use Rattle.zl_code.specs.Tests.{Operand, action_of, by_policy, contains, ends_if_kill, faults, handles_in, operand_after, parent_of, seen_after, settable_of, unless_allowed}
-unfoldable pub use Rattle.zl_code.specs.Tests.{creates}
+pub use Rattle.zl_code.specs.Tests.{action_of, handles_in, parent_of, settable_of}
+pub use Rattle.zl_code.specs.Operands.{Operand, by_policy, contains, ends_if_kill, faults, operand_after, seen_after, unless_allowed}
+unfoldable pub use Rattle.zl_code.specs.Operands.{creates}
 pub use Rattle.zl_rights.proofs.MapLaws.{get-each, get-put, get-update, get-where_key-in, get-where_key-out}
 pub use Rattle.zl_rights.proofs.Settling.{Settles-by, Settles-exists, Settles-unique, is_held-larger, keys_of, settled_in, shrunk, stays}
 pub use Rattle.zl_rights.specs.Numbers.{READ, READABLE, SAME_RIGHTS, TERMINATED, USER_SIGNALS, kind_number, meets, takes}

@@ -14,7 +14,7 @@ use Rattle.zl_code.proofs.CanStart.{started_may_get}
 use Rattle.zl_code.proofs.Killing.{living_job, lives_beside, new_job_stands}
 use Rattle.zl_code.specs.Waiting.{is_by_handle}
 use Rattle.zl_rights.specs.World.{Wait}
-use Rattle.zl_code.specs.Tests.{operand_of}
+use Rattle.zl_code.specs.Operands.{operand_of}
 use Rattle.zl_code.proofs.Changes.{AreUnmade, process_is_made, Changes, changes, object_is_made, process_starts}
 use Rattle.zl_code.proofs.Entering.{IsFine, HaveRoom, left_behind, all_enter, entry_is_fine, new_is_fine}
 use Rattle.zl_code.proofs.Passing.{IsGranted, first_is_none, first_none, is_granted, listed_none, named_object, test_fails, unmade}

@@ -16,7 +16,8 @@ use Rattle.zl_code.specs.declared.history.CallName.TheVariants as name
 use Rattle.zl_code.specs.declared.history.Outcome.{Outcome}
 use Rattle.zl_code.specs.declared.history.Outcome.TheVariants as outcome
 use Rattle.zl_code.specs.Image.{Library}
-use Rattle.zl_code.specs.Tests.{answer_if, entry_at, object_at, body_of, may_change, has_room, has_koids, copy_of, contains, is_too_large, has_place_for, peer_at, policy_in, queue_at, first_bytes, first_handles, sizes_of, entries_at}
+use Rattle.zl_code.specs.Tests.{answer_if, entry_at, object_at, body_of, may_change, has_room, has_koids, copy_of, is_too_large, has_place_for, peer_at, policy_in, queue_at, first_bytes, first_handles, sizes_of, entries_at}
+use Rattle.zl_code.specs.Operands.{contains}
 use Rattle.zl_code.specs.Effects.{on_object, on_process, with_object, with_process, new_entry, object_changed, message_sent, message_read, told_of, without_waits, signed_word}
 use Rattle.zl_code.specs.Starting.{created_process, is_created, program_of, started_with}
 use Rattle.zl_code.specs.Jobs.{is_dead, is_deepest, job_within, lacks_need, misfits, has_child, is_conflict, policy_changed, is_within, with_killed}

@@ -24,6 +24,8 @@ pub use Rattle.zl_code.specs.Sound.{IsSound, raisable}
 pub use Rattle.zl_code.specs.Spells.{Reading, Spells, are_needs, are_registers, bytes_of, instr_bytes, is_in_range, is_instr_in_range, is_slot_in_range, is_start_in_range, needs_byte, number_at, number_of, reading_of, row_bytes, seven, slot_bytes, spelling, start_bytes}
 unfoldable pub use Rattle.zl_code.specs.Spells.{call_parts, first_fault, header_fault, instr_fault, local_parts, pieces, slot_fault, start_fault}
 pub use Rattle.zl_code.specs.Steps.{Acts, AtCall, IsLegalHistory, IsStuck, Moves, Next, Step, calls_at, next_for, pid_of, single}
-pub use Rattle.zl_code.specs.Tests.{answer_if, any, body_in, body_of, by_look_up, copy_of, entry_at, object_at, operand_of, table_of, with_rights}
-unfoldable pub use Rattle.zl_code.specs.Tests.{examined, has_koids, has_room, operand}
+pub use Rattle.zl_code.specs.Tests.{answer_if, body_in, body_of, copy_of, entry_at, object_at, table_of, with_rights}
+pub use Rattle.zl_code.specs.Operands.{any, by_look_up, operand_of}
+unfoldable pub use Rattle.zl_code.specs.Tests.{has_koids, has_room}
+unfoldable pub use Rattle.zl_code.specs.Operands.{examined, operand}
 unfoldable pub use Rattle.zl_rights.specs.Counts.{handles_to}

@@ -56,3 +56,7 @@ declaration_length = 8
 -- the bytes of an instruction
 abbrev pub instruction_length : ℕ
 instruction_length = 16
+
+-- the largest number that a register holds
+abbrev pub most_word : ℕ
+most_word = 0xffff_ffff_ffff_ffff

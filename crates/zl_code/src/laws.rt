@@ -1,9 +1,10 @@
 //! Laws of the definitions: each function's contract is one law, and its body is empty.
 
 ghost use Rattle.std.specs.List.{flat_map};
-ghost use Rattle.std.specs.Prelude.{ℕ, ◌≡◌, ◌≢◌, false, IsTrue, List};
+ghost use Rattle.std.specs.Prelude.{ℕ, ◌≡◌, ◌≢◌, ◌↔◌, false, IsTrue, List};
 ghost use Rattle.zl_rights.specs.declared.status.Status.TheVariants as status;
 ghost use Rattle.zl_rights.specs.Map.{get, has_key};
+ghost use Rattle.zl_rights.specs.Wakes.{wakes};
 ghost use Rattle.zl_rights.specs.World.{World, Process, Ready};
 ghost use Rattle.zl_code.specs.declared.history.CallName.{CallName};
 ghost use Rattle.zl_code.specs.declared.history.Outcome.TheVariants as outcome;
@@ -18,6 +19,7 @@ ghost use Rattle.zl_code.specs.Koids.{HasGivenKoids, KeepsKoids};
 ghost use Rattle.zl_code.specs.Handles.{HandlesAreNamed, HandlesAreSound, Throughout};
 ghost use Rattle.zl_code.specs.Effects.{may_get};
 ghost use Rattle.zl_code.specs.Frame.{LeavesOthers};
+ghost use Rattle.zl_code.specs.Headline.{GoesWell};
 ghost use Rattle.zl_code.specs.Sound.{IsSound, KeepsProcesses, is_value};
 
 /// No bytes spell two images.
@@ -174,4 +176,17 @@ pub fn frame()
         (items : List TraceItem) (p : ℕ) (x : TraceItem)
         → IsBoot lib statements boot → Runs lib boot items w
         → Step lib w p x after → LeavesOthers w p after }
+{}
+
+/// In the last world of a run from a boot world nothing is due: waking once more changes nothing.
+pub fn runs_are_awake()
+    ensures { (lib : Library) (statements : List Statement) (boot after : World) (items : List TraceItem)
+        → IsBoot lib statements boot → Runs lib boot items after → wakes after ≡ after }
+{}
+
+/// A history tells of a process just what the single steps tell that it stands for: local instructions
+/// that are joined in one item are no fault, and count against a budget as they do one by one.
+pub fn joined_items_tell_the_same()
+    ensures { (i : Image) (p : ℕ) (history : List TraceItem)
+        → (GoesWell i p history ↔ GoesWell i p (flat_map single history)) }
 {}

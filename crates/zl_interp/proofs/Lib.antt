@@ -1,3 +1,4 @@
 pub mod Slots
 pub mod Listing
 pub mod Standing
+pub mod Verified

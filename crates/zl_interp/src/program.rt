@@ -1,8 +1,11 @@
 //! Programs, checked or not, and the programs of a lab.
 
-ghost use Rattle.std.specs.Prelude.{◌≡◌, ◌↔◌, IsTrue, ◌==◌, ◌≤◌, ◌++◌, ◌∷◌, [], length, OnOk, OnErr, IfErr, IfSome, IfNone, slice_get, Some, None};
+ghost use Rattle.std.specs.Prelude.{◌≡◌, ◌↔◌, IsTrue, true, ◌==◌, ◌≤◌, ◌++◌, ◌∷◌, [], length, OnOk, OnErr, IfErr, IfSome, IfNone, slice_get, Some, None};
 ghost use Rattle.std.specs.Arc.{arc_value};
 ghost use Rattle.zl_interp.specs.Program.{program_value};
+ghost use Rattle.zl_code.specs.Spells.{is_in_range};
+ghost use Rattle.zl_verify.specs.Checks.{HasStepBound};
+ghost use Rattle.zl_verify.specs.Covered.{IsVerified};
 
 use std::alloc::{AllocFailed, Global};
 use std::marker::Model;
@@ -29,6 +32,22 @@ impl Program {
         match self {
             Program::Raw(image) => image,
             Program::Checked(accepted) => accepted.image(),
+        }
+    }
+
+    /// Its image is in its ranges and, if it was checked, has a typing with a step bound.
+    fn verified(&self)
+        ensures range { IsTrue (is_in_range (program_value self.now).image) }
+        ensures bound { (program_value self.now).checked ≡ true
+            → HasStepBound (program_value self.now).image }
+    {
+        match self {
+            Program::Raw(image) => {
+                image.len();
+            }
+            Program::Checked(accepted) => {
+                accepted.image().len();
+            }
         }
     }
 
@@ -71,6 +90,11 @@ impl Model for Library {
     ghost use Rattle.zl_interp.specs.Program.{program_value};
 
     ghost view = { λ l. map (λ program. program_value (arc_value program)) l.programs.items };
+
+    ghost use Rattle.zl_verify.specs.Covered.{IsVerified};
+
+    ghost invariant = { λ l.
+        IsVerified (map (λ program. program_value (arc_value program)) l.programs.items) };
 }
 
 impl Library {
@@ -86,7 +110,9 @@ impl Library {
 
     /// How many programs there are.
     pub fn len(&self) -> usize
-        ensures { result ≡ length self.now }
+        ensures count { result ≡ length self.now }
+        // What is public of the invariant: callers learn it here of any library.
+        ensures verified { IsVerified self.now }
     {
         self.programs.len()
     }
@@ -109,6 +135,7 @@ impl Library {
         if self.programs.reserve(1).is_err() {
             return Err(AllocFailed { value: program });
         }
+        program.verified();
         let program = Arc::new(self.alloc, program)?;
         self.programs.push_reserved(program);
         Ok(())

@@ -74,6 +74,7 @@ pub legal_more : (s : System) (p : ℕ) (s2 : System) → IsLegal s → Runs s p
 legal_more s p s2 legal runs = rw (runs.adds.programs, runs.adds.items, runs.adds.statements, runs.adds.limit) (record {
   boot = legal.boot;
   boots = legal.boots;
+  sized = legal.sized;
   history = history_more s.lab.programs legal.boot s.lab.world s2.lab.world s.items p runs.item legal.history runs.step;
   room = omega (arith, length-append s.items (runs.item ∷ []), runs.room);
 })

@@ -2,6 +2,7 @@
 use Rattle.std.specs.Prelude.{ℕ, ◌≡◌, ◌<◌, ◌≤◌, ◌-◌, false, List, [], ◌∷◌, ◌++◌, length, IsTrue}
 use Rattle.zl_code.specs.Common.{World as WorldValue, Library, Step, IsLegalHistory}
 use Rattle.zl_code.specs.Boot.{IsBooted}
+use Rattle.zl_code.specs.Headline.{IsSizedBoot, CoveredGoWell}
 use Rattle.zl_code.specs.declared.boot.Statement.{Statement}
 use Rattle.zl_code.specs.declared.history.TraceItem.{TraceItem}
 use Rattle.zl_calls.specs.World.{World, is_ready_in}
@@ -26,6 +27,7 @@ pub record System : Type 0 where
 pub record IsLegal (s : System) : Type 0 where
   pub boot : WorldValue
   pub boots : IsBooted s.lab.programs s.statements s.limit boot
+  pub sized : IsSizedBoot s.lab.programs s.statements boot
   pub history : IsLegalHistory s.lab.programs boot s.items s.lab.world
   pub room : length s.items ≤ s.limit
 
@@ -33,6 +35,7 @@ pub record IsLegal (s : System) : Type 0 where
 pub record HasBooted (lib : Library) (statements : List Statement) (limit : ℕ) (s : System) : Type 0 where
   pub programs : s.lab.programs ≡ lib
   pub boots : IsBooted lib statements limit s.lab.world
+  pub sized : IsSizedBoot lib statements s.lab.world
   pub items : s.items ≡ []
   pub statements_are : s.statements ≡ statements
   pub limit_is : s.limit ≡ limit
@@ -42,6 +45,11 @@ pub record HasBooted (lib : Library) (statements : List Statement) (limit : ℕ)
 pub record IsWhole (s : System) : Type 0 where
   pub legal : IsLegal s
   pub are_ready : AreReady s.lab.world s.ready
+
+-- its items are a legal history, in which each covered process goes well
+pub record AreSafe (s : System) : Type 0 where
+  pub legal : IsLegal s
+  pub covered : CoveredGoWell s.lab.programs legal.boot s.items
 
 -- ---- what comes to it
 

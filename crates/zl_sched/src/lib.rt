@@ -15,3 +15,4 @@ mod ready;
 mod system;
 
 pub use system::{End, Stepped, System};
+pub use zl_code::{Boot, BootFault, TraceItem};

@@ -7,7 +7,7 @@ ghost use Rattle.zl_calls.specs.World.{is_ready_in};
 ghost use Rattle.zl_sched.specs.Follows.{turns_of};
 ghost use Rattle.zl_sched.specs.Queueing.{leaves_ready as item_leaves_ready};
 ghost use Rattle.zl_sched.specs.Ready.{AreReady, IsIdle};
-ghost use Rattle.zl_sched.specs.System.{HasBooted, IsLegal, Turns, Walks};
+ghost use Rattle.zl_sched.specs.System.{AreSafe, HasBooted, IsLegal, Turns, Walks};
 
 use crate::ready::{is_ready, move_last, ready_by_koid, requeue};
 use std::alloc::{AllocError, Global};
@@ -134,11 +134,16 @@ impl System {
     }
 
     /// The trace: a legal history from a boot world to the world as it stands, with at most as many
-    /// items as the boot's limit.
+    /// items as the boot's limit. In it no process of a program that is listed as checked is answered
+    /// BAD_HANDLE, WRONG_TYPE or ACCESS_DENIED from its start on, stuck or ended by a policy, and each
+    /// keeps its budget, until somebody kills it.
     pub fn items(&self) -> &[TraceItem]
         ensures items { result.now ≡ self.now.items }
         ensures legal { IsLegal self.now }
+        ensures safe { AreSafe self.now }
     {
+        // Its clause has that checked programs are as the verifier's acceptance says.
+        self.world.programs().len();
         self.items.as_slice()
     }
 

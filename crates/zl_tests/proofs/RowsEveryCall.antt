@@ -1,5 +1,6 @@
--- A checked program that goes through each of the 23 calls: its process starts properly, and each call is answered OK. So the headline speaks of something.
-use Rattle.zl_code.proofs.Common.{◌≡◌, ℕ, arith, true, false, List, [], ◌∷◌, ◌++◌, refl, map, replicate, pos, Some, None, World, Process, Library, Choice, Values, IsBoot, IsLegalHistory, boot_fault, boot_effect, origin, settled_in, Settles-by, started_process, creates, rights_of}
+-- A checked program that goes through each of the 23 calls: its process starts properly, each call is answered OK, it waits for a checked child that it starts, and wakes. So the headline speaks of something.
+use Rattle.std.proofs.lemmas.Option.{none-some, same_Some}
+use Rattle.zl_code.proofs.Common.{◌≡◌, ℕ, zero, suc, subst, slice_get, arith, true, false, List, [], ◌∷◌, ◌++◌, refl, map, replicate, pos, Some, None, World, Process, Library, Choice, Values, IsBoot, IsLegalHistory, boot_fault, boot_effect, origin, settled_in, Settles-by, started_process, creates, rights_of}
 use Rattle.zl_rights.specs.declared.kind.Kind.{Kind}
 use Rattle.zl_rights.specs.declared.kind.Kind.TheVariants as kind
 use Rattle.zl_rights.specs.declared.policy.Condition.{Condition}
@@ -18,14 +19,14 @@ use Rattle.zl_code.specs.declared.image.Start.{Start}
 use Rattle.zl_code.specs.declared.instr.CallInstr.TheVariants as call
 use Rattle.zl_code.specs.declared.instr.Instr.TheVariants as instr
 use Rattle.zl_code.specs.declared.instr.LocalInstr.TheVariants as local
-use Rattle.zl_code.specs.Image.{Image}
+use Rattle.zl_code.specs.Image.{Image, Program}
 use Rattle.zl_code.specs.Spells.{local_parts}
+use Rattle.zl_code.specs.Headline.{GoesWell, IsNeverRefused, IsStarted, IsSizedBoot, IsProperStart, IsCoveredFrom, CoveredGoWell, by_boot}
 use Rattle.zl_code.proofs.Running.{run_by, IsLegalHistory-by, computing, world_after}
-use Rattle.zl_verify.specs.Checks.{IsAccepted}
+use Rattle.zl_verify.specs.Checks.{IsAccepted, HasStepBound}
+use Rattle.zl_verify.specs.Covered.{IsVerified}
+use Rattle.zl_verify.proofs.CoveredRuns.{covered_go_well}
 use Rattle.zl_tests.proofs.Typed.{found, numbers, IsTyping-by, IsStepBound-by, typing}
-use Rattle.zl_verify.specs.Headline.{GoesWell, IsNeverRefused, IsStarted}
-use Rattle.zl_verify.specs.SizedLaws.{IsSizedBoot}
-use Rattle.zl_verify.specs.WakeLaws.{IsProperStart}
 
 -- ---- the program
 
@@ -80,8 +81,9 @@ image = record {
       ∷ instr.Call (call.Close 31 12)
       ∷ instr.Local (local.Const 18 1)
       ∷ instr.Call (call.ProcessCreate 31 5 18 12)
-      ∷ instr.Local (local.JumpZero 12 36)
+      ∷ instr.Local (local.JumpZero 12 37)
       ∷ instr.Call (call.ProcessStart 31 12 3 16)
+      ∷ instr.Call (call.WaitOne 31 12 7 30)
       ∷ instr.Call (call.TaskKill 31 5)
       ∷ instr.Call (call.Close 31 12)
       ∷ instr.Call (call.Replace 31 4 13 4)
@@ -90,17 +92,23 @@ image = record {
       ∷ [];
 }
 
--- program 0 is that one, checked; program 1, not checked, exits with its word
+-- the child gets an event that it may signal, and exits with its word
+abbrev child_image : Image
+child_image = record { raw = false; memory = 0; budget = 1; needs = []; starts = start kind.Event 4096 ∷ []; slots = []; code = instr.Call (call.ProcessExit 1) ∷ [] }
+
+-- program 0 is the first, program 1 that of the child, both checked
 abbrev library : Library
-library =
-    record { checked = true; image = image }
-    ∷ record { checked = false; image = record { raw = true; memory = 0; budget = 1; needs = []; starts = []; slots = []; code = instr.Call (call.ProcessExit 1) ∷ [] } }
-    ∷ []
+library = record { checked = true; image = image } ∷ record { checked = true; image = child_image } ∷ []
 
 -- The image has a typing, and a step bound of it.
 accepted : IsAccepted image (found image) (numbers image)
 unfolding typing
 accepted = record { typing = IsTyping-by image (found image) refl; bound = IsStepBound-by image (found image) (numbers image) refl }
+
+-- So has that of the child.
+accepted_child : IsAccepted child_image (found child_image) (numbers child_image)
+unfolding typing
+accepted_child = record { typing = IsTyping-by child_image (found child_image) refl; bound = IsStepBound-by child_image (found child_image) (numbers child_image) refl }
 
 -- ---- the boot
 
@@ -177,11 +185,9 @@ allowed condition.NewEvent = refl
 allowed condition.NewPort = refl
 allowed condition.NewProcess = refl
 
-starts_properly : IsProperStart image boot 7 process
+starts_properly : IsProperStart library image boot 7 process
 unfolding computing boot_effect
 starts_properly = record {
-  library = library;
-  program = 0;
   checked = true;
   running = refl;
   handles = handles;
@@ -189,22 +195,30 @@ starts_properly = record {
   word = 0;
   made = refl;
   free = refl;
-  declared = ((refl, refl), ((refl, refl), ((refl, refl), ((refl, refl), ((refl, refl), ((refl, refl), tt))))));
+  declared = refl;
   small = omega arith;
   allowed = λ c among. allowed c;
 }
 
 starts : IsStarted library image boot 7
 unfolding computing boot_effect
-starts = record { process = process; there = refl; ready = refl; checked = true; program = refl; proper = starts_properly }
+starts = record { process = process; there = refl; proper = starts_properly }
 
 -- ---- the run
 
--- the values that new handles get, turn by turn; the one removed last comes first
-abbrev turns : List (ℕ × Choice)
-turns = map (λ vs. (7, Values vs)) (
+-- turns of process 7, in which new handles get these values; the one removed last comes first
+abbrev own_turns : List (List ℕ) → List (ℕ × Choice)
+own_turns values = map (λ vs. (7, Values vs)) values
+
+-- up to the start of the child, which is process 13
+abbrev first_turns : List (ℕ × Choice)
+first_turns = own_turns (
     replicate 13 []
-    ++ ((16 ∷ []) ∷ [] ∷ (16 ∷ []) ∷ [] ∷ (16 ∷ 20 ∷ []) ∷ [] ∷ [] ∷ (20 ∷ []) ∷ [] ∷ (20 ∷ []) ∷ [] ∷ [] ∷ [] ∷ (20 ∷ []) ∷ [] ∷ [] ∷ (20 ∷ []) ∷ [] ∷ (9 ∷ []) ∷ replicate 4 []))
+    ++ ((16 ∷ []) ∷ [] ∷ (16 ∷ []) ∷ [] ∷ (16 ∷ 20 ∷ []) ∷ [] ∷ [] ∷ (20 ∷ []) ∷ [] ∷ (20 ∷ []) ∷ [] ∷ [] ∷ [] ∷ (20 ∷ []) ∷ [] ∷ [] ∷ (20 ∷ []) ∷ [] ∷ []))
+
+-- the start; process 7 waits until the child has ended, and goes on to its own end
+abbrev turns : List (ℕ × Choice)
+turns = first_turns ++ (own_turns ((9 ∷ []) ∷ [] ∷ []) ++ ((13, Values []) ∷ own_turns (replicate 4 [])))
 
 abbrev ok : CallName → TraceItem
 ok called = item.Call 7 called (outcome.Answered status.Ok)
@@ -212,16 +226,26 @@ ok called = item.Call 7 called (outcome.Answered status.Ok)
 abbrev one : TraceItem
 one = item.Run 7 1
 
-abbrev items : List TraceItem
-items =
+-- what is told up to the start of the child
+abbrev first_items : List TraceItem
+first_items =
     one ∷ ok name.Signal ∷ ok name.WaitOne ∷ ok name.WaitPoll ∷ ok name.WaitAsync ∷ ok name.PortWait ∷ ok name.PortQueue ∷ ok name.PortPoll
     ∷ ok name.WaitAsync ∷ ok name.PortCancel
     ∷ one ∷ ok name.SignalPeer ∷ ok name.ChanWrite ∷ ok name.ChanReadEtc ∷ ok name.Close
     ∷ ok name.Dup ∷ ok name.Close ∷ ok name.ChanCreate ∷ ok name.Close ∷ ok name.Close ∷ ok name.EventCreate ∷ ok name.Close ∷ ok name.PortCreate ∷ ok name.Close
-    ∷ one ∷ ok name.JobSetPolicy ∷ ok name.JobCreate ∷ ok name.Close ∷ one ∷ ok name.ProcessCreate ∷ one ∷ ok name.ProcessStart ∷ ok name.TaskKill ∷ ok name.Close
-    ∷ ok name.Replace
+    ∷ one ∷ ok name.JobSetPolicy ∷ ok name.JobCreate ∷ ok name.Close ∷ one ∷ ok name.ProcessCreate ∷ one ∷ []
+
+-- and behind it: process 7 waits, the child ends, and process 7 is awake and ends
+abbrev last_items : List TraceItem
+last_items =
+    item.Call 7 name.WaitOne outcome.Blocked
+    ∷ item.Call 13 name.ProcessExit (outcome.Ended (pos 0))
+    ∷ ok name.TaskKill ∷ ok name.Close ∷ ok name.Replace
     ∷ item.Call 7 name.ProcessExit (outcome.Ended (pos 0))
     ∷ []
+
+abbrev items : List TraceItem
+items = first_items ++ (ok name.ProcessStart ∷ last_items)
 
 abbrev end : World
 end = world_after boot (run_by library boot turns)
@@ -234,3 +258,26 @@ is_legal = IsLegalHistory-by library boot turns items refl refl refl
 goes_well : IsNeverRefused image → GoesWell image 7 items
 unfolding computing boot_effect
 goes_well never_refused = never_refused library statements boot boot end [] items 7 sized refl starts is_legal.run
+
+-- ---- who is covered
+
+-- process 7 from the boot on
+covered : IsCoveredFrom library boot items image 7 0 items
+unfolding computing boot_effect
+covered = record { items = []; parts = refl; place = refl; world = boot; comes = refl; started = by_boot refl refl refl; after = end; goes = is_legal.run }
+
+-- So who is covered goes well, process 7 and its child: no premise of the law is left.
+all_go_well : CoveredGoWell library boot items
+unfolding computing boot_effect
+all_go_well = covered_go_well library statements boot verified sized items
+  where
+    verified : IsVerified library
+    verified = record {
+      images = sized.images;
+      bounds = λ n i at. bound n i at;
+    }
+      where
+        bound : (n : ℕ) (i : Image) → slice_get library n ≡ Some (record { checked = true; image = i }) → HasStepBound i
+        bound zero i at = subst (λ (g : Program). HasStepBound g.image) (same_Some _ _ at) (record { states = _; typing = accepted.typing; steps = _; bound = accepted.bound })
+        bound (suc zero) i at = subst (λ (g : Program). HasStepBound g.image) (same_Some _ _ at) (record { states = _; typing = accepted_child.typing; steps = _; bound = accepted_child.bound })
+        bound (suc (suc n)) i at = absurd (none-some _ at)

@@ -15,7 +15,7 @@ use Rattle.zl_code.specs.Instructions.{Field, names, consumes, closes, Row, row_
 use Rattle.zl_code.specs.Spells.{Last, Numbers, Room, Places, Parts, call_parts, are_parts_in_range, is_call_in_range, are_registers}
 use Rattle.zl_code.specs.Asked.{used, those, is_written, listed_in, triples_from, triples_in}
 use Rattle.zl_code.specs.Request.{Site}
-use Rattle.zl_code.specs.Tests.{Operand, any}
+use Rattle.zl_code.specs.Operands.{Operand, any}
 use Rattle.zl_code.specs.Refusals.{needs, taking, operands_by, handle_operands, condition_of}
 use Rattle.zl_abs.specs.declared.value.AbsVal.{AbsVal}
 use Rattle.zl_abs.specs.declared.value.AbsVal.TheVariants.{Word, Has, KindOf, RightsOf}

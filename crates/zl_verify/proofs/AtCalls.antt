@@ -12,7 +12,7 @@ use Rattle.zl_code.specs.Spells.{is_call_in_range}
 use Rattle.zl_code.specs.Local.{local_effect}
 use Rattle.zl_code.specs.Request.{Site, name_of, site_of}
 use Rattle.zl_code.specs.Steps.{AtCall, IsStuck, moves, calls_at, next_of, next_at}
-use Rattle.zl_code.specs.Tests.{by_policy}
+use Rattle.zl_code.specs.Operands.{by_policy}
 use Rattle.zl_code.proofs.ImageRanges.{ranges}
 use Rattle.zl_abs.specs.declared.cause.Cause.{Cause}
 use Rattle.zl_abs.specs.Bounds.{bounds_of}

@@ -14,7 +14,7 @@ use Rattle.zl_code.specs.Image.{Image, instr_at, call_at, call_in}
 use Rattle.zl_code.specs.Instructions.{row_of}
 use Rattle.zl_code.specs.Spells.{is_in_range, is_call_in_range, call_parts}
 use Rattle.zl_code.specs.Local.{reg}
-use Rattle.zl_code.specs.Tests.{by_policy}
+use Rattle.zl_code.specs.Operands.{by_policy}
 use Rattle.zl_code.specs.CallTable.{wait_one, port_wait}
 use Rattle.zl_code.specs.Refusals.{handle_operands, condition_of}
 use Rattle.zl_code.specs.Request.{Site, site}

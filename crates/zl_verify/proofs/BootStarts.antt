@@ -2,74 +2,49 @@
 use Rattle.std.proofs.Common.{◌≡◌, ℕ, ◌+◌, ◌≤◌, ◌⊎◌, Bool, true, false, not, ◌||◌, ◌==◌, List, [], ◌∷◌, refl, sym, ap, ◌∙◌, subst, arith, IsTrue, Option, Some, None, option_map, inl, inr}
 use Rattle.std.specs.Prelude.{if◌then◌else◌, slice_get}
 use Rattle.std.specs.List.{AllByRecursion}
-use Rattle.std.specs.Option.{option_to_list}
 use Rattle.std.proofs.lemmas.Bool.{cases_Bool, eqb-true, not-false}
 use Rattle.std.proofs.lemmas.Option.{none-some, same_Some}
 use Rattle.zl_rights.specs.declared.entry.Entry.{Entry}
-use Rattle.zl_rights.specs.declared.kind.Kind.{Kind}
 use Rattle.zl_rights.specs.declared.policy.Condition.{Condition}
-use Rattle.zl_rights.specs.Common.{bits, within, get, lives, Settles, process_settled, without_others, World, Process, Body, EventBody, PortBody, ChannelEnd, ProcessBody}
-use Rattle.zl_rights.specs.Numbers.{same_kind, takes}
+use Rattle.zl_rights.specs.Common.{get, lives, Settles, process_settled, without_others, World, Process, Body, EventBody, PortBody, ChannelEnd, ProcessBody}
 use Rattle.zl_rights.specs.Signals.{has_child_job, has_child_process}
 use Rattle.zl_rights.proofs.MapLaws.{get-put, get-each}
 use Rattle.zl_code.specs.declared.boot.Grant.{Grant}
 use Rattle.zl_code.specs.declared.boot.Statement.{Statement}
 use Rattle.zl_code.specs.declared.boot.Statement.TheVariants as statement
-use Rattle.zl_code.specs.declared.image.Start.{Start}
 use Rattle.zl_code.specs.Image.{Image, Library, Program, is_among}
-use Rattle.zl_code.specs.Effects.{with_object, on_object, process_with}
-use Rattle.zl_code.specs.Jobs.{is_declared, job_within}
+use Rattle.zl_code.specs.Effects.{with_object, on_object, process_with, may_get_all}
+use Rattle.zl_code.specs.Jobs.{job_within}
 use Rattle.zl_code.specs.Starting.{created_process, program_in, program_of}
 use Rattle.zl_code.specs.Boot.{Boots, setting, are_declared, are_misfits, may_boot, boot_fault, boot_effect, handles_given, origin, process_with_all, started_process}
-use Rattle.zl_code.specs.Tests.{body_of, creates}
+use Rattle.zl_code.specs.Tests.{body_of}
+use Rattle.zl_code.specs.Operands.{creates}
 use Rattle.zl_code.specs.Sound.{IsSound}
+use Rattle.zl_code.specs.Headline.{word_of, IsSizedBoot, IsProperStart, IsStarted}
 use Rattle.zl_code.proofs.CanStart.{CanStart, can_start}
 use Rattle.zl_code.proofs.StepChanges.{no_child_booted, job_is_there}
 use Rattle.zl_code.proofs.SoundRuns.{IsBooting, origin_booting, still_booting, boot_sound}
-use Rattle.zl_abs.specs.Values.{ANY, kind_below}
-use Rattle.zl_abs.proofs.Order.{both}
-use Rattle.zl_verify.specs.SizedLaws.{word_of, IsSizedBoot}
-use Rattle.zl_verify.specs.WakeLaws.{AreAsDeclared, IsProperStart, IsBooted}
-use Rattle.zl_verify.specs.Conforms.{IsAs}
-use Rattle.zl_verify.specs.Headline.{IsStarted}
+use Rattle.zl_abs.specs.Values.{ANY}
+use Rattle.zl_verify.specs.WakeLaws.{IsBooted}
 use Rattle.zl_verify.proofs.OwnEffect.{AreAlike, alike_then, same_objects, made_alike, more_koids, neither_one, set_alike, same_policy}
 use Rattle.zl_verify.proofs.Woken.{settled_allowed}
 use Rattle.zl_verify.proofs.UnstartedRuns.{made_allows}
 
 -- ---- handles as they are declared
 
-takes_as : (k : Option Kind) (x : Kind) → takes (option_to_list k) x ≡ true → kind_below (Some x) k ≡ true
-takes_as None x e = refl
-takes_as (Some y) x e = by (same_kind x y) e
-  where
-    by : (b : Bool) → (b || false) ≡ true → b ≡ true
-    by true e = refl
-    by false e = cc
-
-pub one_declared : (s : Start) (x : Entry) → is_declared s x ≡ true → IsAs s.kind s.rights (Some x)
-one_declared s x e = let two = both (takes (option_to_list s.kind) x.kind) (within (bits s.rights) (bits x.rights)) e in (takes_as s.kind x.kind two.0, two.1)
-
-all_declared : (ss : List Start) (es : List Entry) → are_declared ss es ≡ true → AreAsDeclared ss es
-all_declared [] [] e = tt
-all_declared [] (x ∷ es) e = cc
-all_declared (s ∷ ss) [] e = cc
-all_declared (s ∷ ss) (x ∷ es) e = let two = both (is_declared s x) (are_declared ss es) e in (one_declared s x two.0, all_declared ss es two.1)
-
 -- the program is checked, and has this image
 abbrev Checks : Option Program → Image → Type 0
 Checks o i = o ≡ Some (record { checked = true; image = i })
 
-none_misfits : (o : Option Program) (i : Image) (es : List Entry) → Checks o i → are_misfits o es ≡ false → AreAsDeclared i.starts es
-none_misfits o i es is fits =
-    let found : not (are_declared i.starts es) ≡ false = subst (λ x. are_misfits x es ≡ false) is fits in
-    all_declared i.starts es (not-false (are_declared i.starts es) found)
+none_misfits : (o : Option Program) (i : Image) (es : List Entry) → Checks o i → are_misfits o es ≡ false → are_declared i.starts es ≡ true
+none_misfits o i es is fits = not-false (are_declared i.starts es) (subst (λ x. are_misfits x es ≡ false) is fits)
 
 -- ---- what is true of each process within a boot
 
 -- q is as it was started; by a checked program with what that declares, in a job that allows what it needs
 record IsWellBooted (lib : Library) (w : World) (p : ℕ) (q : Process) : Type 0 where
   booted : IsBooted lib q
-  declared : (i : Image) → Checks (slice_get lib booted.program) i → AreAsDeclared i.starts booted.handles
+  declared : (i : Image) → Checks (slice_get lib booted.program) i → are_declared i.starts booted.handles ≡ true
   allowed : (i : Image) → Checks (slice_get lib booted.program) i → (c : Condition) → is_among i.needs c ≡ true → creates w p c ≡ None
 
 -- so is each process
@@ -182,27 +157,31 @@ same_program [] vs q = refl
 same_program (e ∷ es) [] q = refl
 same_program (e ∷ es) (v ∷ vs) q = same_program es vs (process_with v e q)
 
+still_runs : (lib : Library) (q : Process) (s : IsBooted lib q) → s.program ≡ q.program
+still_runs lib q s = sym (ap (λ (z : Process). z.program) s.made ∙ same_program s.handles s.values (created_process lib s.program))
+
 module _ (lib : Library) (statements : List Statement) (boot : World) (b : IsSizedBoot lib statements boot) (p : ℕ) where
   pub is_booted : (q : Process) → get boot.processes p ≡ Some q → IsBooted lib q
   is_booted q there = (boot_starts lib statements boot b p q there).booted
 
   -- where its handles are as its image declares, and its job allows what the image needs, it started properly
-  pub proper : (q : Process) (s : IsBooted lib q) → (i : Image) (checked : Bool) → slice_get lib s.program ≡ Some (record { checked = checked; image = i }) → AreAsDeclared i.starts s.handles → ((c : Condition) → IsTrue (is_among i.needs c) → creates boot p c ≡ None)
-      → IsProperStart i boot p q
+  pub proper : (q : Process) (s : IsBooted lib q) → (i : Image) (checked : Bool) → slice_get lib s.program ≡ Some (record { checked = checked; image = i }) → are_declared i.starts s.handles ≡ true → ((c : Condition) → IsTrue (is_among i.needs c) → creates boot p c ≡ None)
+      → IsProperStart lib i boot p q
   proper q s i checked running declared allowed = record {
-    library = lib;
-    program = s.program;
     checked = checked;
-    running = running;
+    running = ap (slice_get lib) (sym runs) ∙ running;
     handles = s.handles;
     values = s.values;
     word = s.word;
-    made = s.made;
-    free = s.free;
+    made = subst (λ n. q ≡ started_process lib n s.handles s.values s.word) runs s.made;
+    free = subst (λ n. may_get_all (created_process lib n) s.handles s.values ≡ true) runs s.free;
     declared = declared;
     small = s.small;
     allowed = allowed;
   }
+    where
+      runs : s.program ≡ q.program
+      runs = still_runs lib q s
 
   -- a checked program declares its handles, and its job allows what it needs
   pub boot_is_proper : (i : Image) → program_of lib boot p ≡ Some (record { checked = true; image = i }) → IsStarted lib i boot p
@@ -213,13 +192,9 @@ module _ (lib : Library) (statements : List Statement) (boot : World) (b : IsSiz
       by (Some q) there is =
           let well = boot_starts lib statements boot b p q there in
           let s = well.booted in
-          let runs : s.program ≡ q.program = sym (ap (λ (z : Process). z.program) s.made ∙ same_program s.handles s.values (created_process lib s.program)) in
-          let listed : Checks (slice_get lib s.program) i = ap (slice_get lib) runs ∙ is in
+          let listed : Checks (slice_get lib s.program) i = ap (slice_get lib) (still_runs lib q s) ∙ is in
           record {
             process = q;
             there = there;
-            ready = ap (λ (z : Process). z.state) s.made;
-            checked = true;
-            program = is;
             proper = proper q s i true listed (well.declared i listed) (well.allowed i listed);
           }

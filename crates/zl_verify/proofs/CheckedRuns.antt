@@ -14,15 +14,15 @@ use Rattle.zl_code.specs.declared.history.TraceItem.{TraceItem}
 use Rattle.zl_code.specs.Image.{Image, Library, call_at}
 use Rattle.zl_code.specs.Spells.{is_in_range}
 use Rattle.zl_code.specs.Steps.{Step, pid_of, Runs}
+use Rattle.zl_code.specs.Headline.{IsSizedBoot, executed, left_behind, KeepsBudget}
 use Rattle.zl_abs.specs.States.{State}
 use Rattle.zl_abs.specs.Typing.{IsTyping}
 use Rattle.zl_verify.specs.Conforms.{Conforms}
 use Rattle.zl_verify.specs.Steps.{is_pause, IsBelow, AllBelow, IsStepBound, OneOf}
-use Rattle.zl_verify.specs.SizedLaws.{IsSizedBoot}
-use Rattle.zl_verify.specs.WakeLaws.{IsRunStep, stays, wakes, OthersLeave, left_so, was_killed}
-use Rattle.zl_verify.specs.RunLaws.{IsFineItem, IsUnderWay, HasEnded, executed, left_behind, KeepsBudget}
+use Rattle.zl_verify.specs.WakeLaws.{IsFitStep, stays, wakes, OthersLeave, left_so, was_killed}
+use Rattle.zl_verify.specs.RunLaws.{IsFineItem, IsUnderWay, HasEnded}
 use Rattle.zl_verify.proofs.Counting.{has_edge}
-use Rattle.zl_verify.proofs.Woken.{sound_before}
+use Rattle.zl_verify.proofs.Woken.{fit_of, sound_before}
 use Rattle.zl_verify.proofs.Others.{others_end, over_after_act}
 use Rattle.zl_verify.proofs.Ended.{ended_still}
 use Rattle.zl_verify.proofs.OwnSteps.{fine_other, Went, goes, pauses, Stopped, by_exit, by_kill, under_way, under_way_steps}
@@ -34,7 +34,7 @@ one_more lib boot [] w x mid e step = (mid, subst (λ v. Step lib v (pid_of x) x
 one_more lib boot (y ∷ items) w x mid (first, before, rest) step = (first, before, one_more lib first items w x mid rest step)
 
 -- who is over takes no step
-no_step : (lib : Library) (w : World) (p : ℕ) (x : TraceItem) (w2 : World) → IsRunStep lib w p x w2 → HasEnded w p → ⊥
+no_step : (lib : Library) (w : World) (p : ℕ) (x : TraceItem) (w2 : World) → IsFitStep lib w p x w2 → HasEnded w p → ⊥
 no_step lib w p x w2 b o =
     let same : o.process ≡ b.step.process = same_Some o.process b.step.process (sym o.there ∙ b.step.is_there) in
     let bad : false ≡ true = sym (ap has_ended b.step.is_ready) ∙ (ap (λ (y : Process). has_ended y.state) (sym same) ∙ o.over) in
@@ -48,10 +48,10 @@ module _ (lib : Library) (i : Image) (t : ℕ → Option State) (range : is_in_r
   -- ---- no refusal
 
   -- p is under way, or over
-  abbrev StandsIn : World → ℕ → Type 0
+  abbrev pub StandsIn : World → ℕ → Type 0
   StandsIn w p = IsUnderWay lib i t w p ⊎ HasEnded w p
 
-  module _ (w : World) (m : ℕ) (x : TraceItem) (w2 : World) (b : IsRunStep lib w m x w2) where
+  module _ (w : World) (m : ℕ) (x : TraceItem) (w2 : World) (b : IsFitStep lib w m x w2) where
     -- who is over stays so while others act
     over_still : (p : ℕ) → (m == p) ≡ false → HasEnded w p → HasEnded w2 p
     over_still p apart o = record {
@@ -79,7 +79,7 @@ module _ (lib : Library) (i : Image) (t : ℕ → Option State) (range : is_in_r
         by (was_killed at) = inr (killed_there w2 p u.process at)
     other_stands p apart (inr o) = inr (over_still p apart o)
 
-  stands_still : (w : World) (x : TraceItem) (w2 : World) → IsRunStep lib w (pid_of x) x w2 → (p : ℕ) → StandsIn w p → IsFineItem p x × StandsIn w2 p
+  pub stands_still : (w : World) (x : TraceItem) (w2 : World) → IsFitStep lib w (pid_of x) x w2 → (p : ℕ) → StandsIn w p → IsFineItem p x × StandsIn w2 p
   stands_still w x w2 b p s = by (cases_Bool (pid_of x == p))
     where
       by : ((pid_of x == p) ≡ true) ⊎ ((pid_of x == p) ≡ false) → IsFineItem p x × StandsIn w2 p
@@ -92,13 +92,13 @@ module _ (lib : Library) (i : Image) (t : ℕ → Option State) (range : is_in_r
     run_fine : (more items : List TraceItem) (w after : World) → Runs lib boot items w → StandsIn w p → Runs lib w more after → AllByRecursion (IsFineItem p) more
     run_fine [] items w after run s e = tt
     run_fine (x ∷ more) items w after run s (mid, step, rest) =
-        let (fine, later) = stands_still w x mid (record { statements = statements; boot = boot; items = items; begins = begins; run = run; step = step }) p s in
+        let (fine, later) = stands_still w x mid (fit_of lib w (pid_of x) x mid (record { statements = statements; boot = boot; items = items; begins = begins; run = run; step = step })) p s in
         (fine, run_fine more (items ++ (x ∷ [])) mid after (one_more lib boot items w x mid run step) later rest)
 
     run_stands : (more items : List TraceItem) (w after : World) → Runs lib boot items w → StandsIn w p → Runs lib w more after → StandsIn after p
     run_stands [] items w after run s e = rw e s
     run_stands (x ∷ more) items w after run s (mid, step, rest) =
-        let (fine, later) = stands_still w x mid (record { statements = statements; boot = boot; items = items; begins = begins; run = run; step = step }) p s in
+        let (fine, later) = stands_still w x mid (fit_of lib w (pid_of x) x mid (record { statements = statements; boot = boot; items = items; begins = begins; run = run; step = step })) p s in
         run_stands more (items ++ (x ∷ [])) mid after (one_more lib boot items w x mid run step) later rest
 
     pub stays_so : (items more : List TraceItem) (w after : World) → Runs lib boot items w → IsUnderWay lib i t w p → Runs lib w more after → StandsIn after p
@@ -171,7 +171,7 @@ module _ (lib : Library) (i : Image) (t : ℕ → Option State) (range : is_in_r
     abbrev CountsIn : World → ℕ → ℕ → Type 0
     CountsIn w p left = ((u : IsUnderWay lib i t w p) × IsCounted u.process left) ⊎ HasEnded w p
 
-    module _ (w : World) (m : ℕ) (x : TraceItem) (w2 : World) (b : IsRunStep lib w m x w2) where
+    module _ (w : World) (m : ℕ) (x : TraceItem) (w2 : World) (b : IsFitStep lib w m x w2) where
       own_counts : (left : ℕ) → CountsIn w m left → IsSomeAnd (left_behind i.budget left (executed x)) (CountsIn w2 m)
       own_counts left (inl (u, c)) = by ((under_way_steps lib i t range typing w m x w2 b u).1)
         where
@@ -203,8 +203,8 @@ module _ (lib : Library) (i : Image) (t : ℕ → Option State) (range : is_in_r
       run_counts (x ∷ more) items w after left run s (mid, step, rest) =
           by (λ fewer still. run_counts more (items ++ (x ∷ [])) mid after fewer (one_more lib boot items w x mid run step) still rest) (cases_Bool (pid_of x == p))
         where
-          b : IsRunStep lib w (pid_of x) x mid
-          b = record { statements = statements; boot = boot; items = items; begins = begins; run = run; step = step }
+          b : IsFitStep lib w (pid_of x) x mid
+          b = fit_of lib w (pid_of x) x mid (record { statements = statements; boot = boot; items = items; begins = begins; run = run; step = step })
 
           all_later : (o : Option ℕ) → ((fewer : ℕ) → CountsIn mid p fewer → KeepsBudget i.budget p fewer more) → IsSomeAnd o (CountsIn mid p) → IsSomeAnd o (λ fewer. KeepsBudget i.budget p fewer more)
           all_later None later h = absurd h

@@ -26,32 +26,33 @@ use Rattle.zl_code.specs.declared.history.TraceItem.TheVariants as item
 use Rattle.zl_code.specs.declared.image.Start.{Start}
 use Rattle.zl_code.specs.Image.{Image, Library, Program}
 use Rattle.zl_code.specs.First.{first_some}
-use Rattle.zl_code.specs.Tests.{Operand, entry_at, object_at, creates, ends_if_kill, faults, by_look_up, operand, operand_after, seen_after, contains, examined, unless_allowed, action_of, parent_of, by_policy}
+use Rattle.zl_code.specs.Tests.{entry_at, object_at, action_of, parent_of}
+use Rattle.zl_code.specs.Operands.{Operand, creates, ends_if_kill, faults, by_look_up, operand, operand_after, seen_after, contains, examined, unless_allowed, by_policy}
 use Rattle.zl_code.specs.Effects.{on_process, process_with, may_get, may_get_all}
 use Rattle.zl_code.specs.Starting.{is_created, started_with, program_in, program_of}
 use Rattle.zl_code.specs.Jobs.{is_only_start, misfits}
+use Rattle.zl_code.specs.Boot.{are_declared}
 use Rattle.zl_code.specs.Refusals.{refusal, handle_operands, condition_of}
 use Rattle.zl_code.specs.CallTable.{Request, process_start, listed, effect, new_handles, gives_ok}
 use Rattle.zl_code.specs.Request.{Site, site}
 use Rattle.zl_code.specs.Calls.{Calls, CallBy, Choice, Refused, WantsMemory, Values, taken_handles, taken, may_choose, replied, with_effect}
 use Rattle.zl_code.specs.Steps.{AtCall, Acts, Runs, pid_of}
 use Rattle.zl_code.specs.Sound.{IsSound}
+use Rattle.zl_code.specs.Headline.{IsSizedBoot, StartsChild, IsStarted}
 use Rattle.zl_abs.specs.Values.{ANY}
-use Rattle.zl_verify.specs.SizedLaws.{IsSizedBoot}
-use Rattle.zl_verify.specs.WakeLaws.{IsRunStep, AreAsDeclared, StartsChild}
-use Rattle.zl_verify.specs.Headline.{IsStarted}
+use Rattle.zl_verify.specs.Covered.{AreUnstarted}
+use Rattle.zl_verify.specs.WakeLaws.{IsRunStep, IsFitStep}
 use Rattle.zl_verify.proofs.Ordinary.{is_good, AreOrdinary, listed_ordinary}
 use Rattle.zl_verify.proofs.Working.{listed_none, test_fails}
 use Rattle.zl_verify.proofs.OwnEffect.{starts_created, no_child, same_policy}
 use Rattle.zl_verify.proofs.Others.{HasSite, site_for, left_other, replied_other, left_by_step}
 use Rattle.zl_verify.proofs.Giving.{getting_all}
 use Rattle.zl_verify.proofs.SizedCalls.{IsSizedRequest, request_sized}
-use Rattle.zl_verify.proofs.SizedRuns.{world_sized}
-use Rattle.zl_verify.proofs.Woken.{sound_before, settled_there, allowed_after}
+use Rattle.zl_verify.proofs.Woken.{fit_of, sound_before, settled_there, allowed_after}
 use Rattle.zl_verify.proofs.Ended.{awake_still}
 use Rattle.zl_verify.proofs.CheckedRuns.{one_more}
-use Rattle.zl_verify.proofs.BootStarts.{is_booted, one_declared}
-use Rattle.zl_verify.proofs.Unstarted.{AreUnstarted, inserted_at, changed_at}
+use Rattle.zl_verify.proofs.BootStarts.{is_booted}
+use Rattle.zl_verify.proofs.Unstarted.{inserted_at, changed_at}
 use Rattle.zl_verify.proofs.UnstartedRuns.{lives_new, step_unstarted}
 
 -- ---- a refusal isn't OK
@@ -125,7 +126,7 @@ module _ (w : World) (p : ℕ) where
 record IsOnly (ss : List Start) (o : Option Entry) : Type 0 where
   entry : Entry
   there : o ≡ Some entry
-  declared : AreAsDeclared ss (entry ∷ [])
+  declared : are_declared ss (entry ∷ []) ≡ true
 
 only_one : (ss : List Start) (o : Option Entry) → is_only_start ss o ≡ true → IsOnly ss o
 only_one [] None e = cc
@@ -133,7 +134,7 @@ only_one [] (Some x) e = cc
 only_one (s ∷ []) None e = cc
 only_one (s ∷ r ∷ ss) None e = cc
 only_one (s ∷ r ∷ ss) (Some x) e = cc
-only_one (s ∷ []) (Some x) e = record { entry = x; there = refl; declared = (one_declared s x e, tt) }
+only_one (s ∷ []) (Some x) e = record { entry = x; there = refl; declared = rw e refl }
 
 fits_declared : (o : Option Program) (i : Image) (e : Option Entry) → o ≡ Some (record { checked = true; image = i }) → misfits o e ≡ false → is_only_start i.starts e ≡ true
 fits_declared None i e is fits = cc
@@ -169,10 +170,10 @@ record IsReadyChild (lib : Library) (i : Image) (w u : World) (k word : ℕ) : T
   value : ℕ
   there : get u.processes k ≡ Some (process_with value entry (started_with (value ∷ []) word before))
   free : may_get_all before (entry ∷ []) (value ∷ []) ≡ true
-  declared : AreAsDeclared i.starts (entry ∷ [])
+  declared : are_declared i.starts (entry ∷ []) ≡ true
 
 -- the process that isn't started
-found_created : (w : World) (k : ℕ) → is_process w is_created k ≡ true → (x : Process) × (get w.processes k ≡ Some x) × (is_created x.state ≡ true)
+pub found_created : (w : World) (k : ℕ) → is_process w is_created k ≡ true → (x : Process) × (get w.processes k ≡ Some x) × (is_created x.state ≡ true)
 unfolding is_process
 found_created w k e = by (get w.processes k) refl e
   where
@@ -237,7 +238,7 @@ module _ (lib : Library) (w : World) (p : ℕ) (caller : Process) (there : get w
 
 -- ---- the law
 
-boot_unstarted : (lib : Library) (statements : List Statement) (boot : World) → IsSizedBoot lib statements boot → AreUnstarted lib boot
+pub boot_unstarted : (lib : Library) (statements : List Statement) (boot : World) → IsSizedBoot lib statements boot → AreUnstarted lib boot
 boot_unstarted lib statements boot b k x at new =
     let started = is_booted lib statements boot b k x at in
     let bad : false ≡ true = sym (ap (λ (z : Process). is_created z.state) started.made) ∙ new in
@@ -247,19 +248,16 @@ module _ (lib : Library) (statements : List Statement) (boot : World) (begins : 
   run_unstarted : (more items : List TraceItem) (w after : World) → Runs lib boot items w → AreUnstarted lib w → Runs lib w more after → AreUnstarted lib after
   run_unstarted [] items w after run all e = rw e all
   run_unstarted (x ∷ more) items w after run all (mid, step, rest) =
-      let b : IsRunStep lib w (pid_of x) x mid = record { statements = statements; boot = boot; items = items; begins = begins; run = run; step = step } in
+      let b : IsFitStep lib w (pid_of x) x mid = fit_of lib w (pid_of x) x mid (record { statements = statements; boot = boot; items = items; begins = begins; run = run; step = step }) in
       run_unstarted more (items ++ (x ∷ [])) mid after (one_more lib boot items w x mid run step) (step_unstarted lib w (pid_of x) x mid b (sound_before lib w (pid_of x) x mid b) all) rest
 
-module _ (lib : Library) (w : World) (p : ℕ) (x : TraceItem) (w2 : World) (b : IsRunStep lib w p x w2) (i : Image) (k : ℕ) (told : x ≡ item.Call p name.ProcessStart (outcome.Answered status.Ok)) (c : StartsChild lib w p b.step.process k)
+module _ (lib : Library) (w : World) (p : ℕ) (x : TraceItem) (w2 : World) (b : IsFitStep lib w p x w2) (unstarted : AreUnstarted lib w) (i : Image) (k : ℕ) (told : x ≡ item.Call p name.ProcessStart (outcome.Answered status.Ok)) (c : StartsChild lib w p b.step.process k)
     (program : program_of lib w k ≡ Some (record { checked = true; image = i })) where
   abbrev own : Process
   own = b.step.process
 
   sound : IsSound w
   sound = sound_before lib w p x w2 b
-
-  unstarted : AreUnstarted lib w
-  unstarted = run_unstarted lib b.statements b.boot b.begins b.items [] b.boot w refl (boot_unstarted lib b.statements b.boot b.begins) b.run
 
   calls : Calls lib w p (site (process_start c.process c.handle c.word) c.site.consumed c.site.destinations) (outcome.Answered status.Ok) b.step.acted
   calls =
@@ -279,7 +277,7 @@ module _ (lib : Library) (w : World) (p : ℕ) (x : TraceItem) (w2 : World) (b :
   word_small : c.word ≤ ANY
   word_small =
       let (call, here) = at_site in
-      subst IsSizedRequest c.asks (request_sized own.cpu ((world_sized lib b.statements b.boot w b.items b.begins b.run).cpus p own b.step.is_there) call c.site here)
+      subst IsSizedRequest c.asks (request_sized own.cpu (b.sized.cpus p own b.step.is_there) call c.site here)
     where
       at_site : HasSite own.cpu (AtCall name.ProcessStart c.site)
       at_site = subst (HasSite own.cpu) c.next (site_for lib own)
@@ -296,12 +294,7 @@ module _ (lib : Library) (w : World) (p : ℕ) (x : TraceItem) (w2 : World) (b :
           record {
             process = y;
             there = at;
-            ready = refl;
-            checked = true;
-            program = runs_program;
             proper = record {
-              library = lib;
-              program = r.before.program;
               checked = true;
               running = runs_program;
               handles = r.entry ∷ [];
@@ -316,3 +309,9 @@ module _ (lib : Library) (w : World) (p : ℕ) (x : TraceItem) (w2 : World) (b :
                   ∙ (same_policy w b.step.acted k r.before sound r.was (lives_new r.before.state r.new) (left_by_step lib w p x w2 sound b.step).alike d ∙ kept.allowed (record { checked = true; image = i }) runs_program refl d named);
             };
           }
+
+-- so it is in a run
+pub child_starts_in_run : (lib : Library) (w : World) (p : ℕ) (x : TraceItem) (w2 : World) → (b : IsRunStep lib w p x w2) → (i : Image) (k : ℕ) → x ≡ item.Call p name.ProcessStart (outcome.Answered status.Ok) → StartsChild lib w p b.step.process k
+    → program_of lib w k ≡ Some (record { checked = true; image = i }) → IsStarted lib i w2 k
+child_starts_in_run lib w p x w2 b i k told c program =
+    child_starts lib w p x w2 (fit_of lib w p x w2 b) (run_unstarted lib b.statements b.boot b.begins b.items [] b.boot w refl (boot_unstarted lib b.statements b.boot b.begins) b.run) i k told c program

@@ -15,8 +15,9 @@ use Rattle.zl_code.specs.First.{first_some}
 use Rattle.zl_code.specs.Limits.{register_count}
 use Rattle.zl_code.specs.declared.image.SlotArray.{SlotArray}
 use Rattle.zl_code.specs.declared.history.Outcome.{Outcome}
-use Rattle.zl_code.specs.Tests.{Operand, entry_at, contains, operand, operand_after, seen_after}
-use Rattle.zl_code.specs.Tests.{examined as examined_at}
+use Rattle.zl_code.specs.Tests.{entry_at}
+use Rattle.zl_code.specs.Operands.{Operand, contains, operand, operand_after, seen_after}
+use Rattle.zl_code.specs.Operands.{examined as examined_at}
 use Rattle.zl_abs.specs.declared.value.AbsVal.{AbsVal}
 use Rattle.zl_abs.specs.declared.value.AbsVal.TheVariants.{Word, Has, KindOf, RightsOf}
 use Rattle.zl_abs.specs.declared.cause.Cause.{Cause}

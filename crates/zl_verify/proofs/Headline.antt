@@ -1,24 +1,24 @@
 -- The headline of an image with a typing and a step bound, from the laws of runs.
-use Rattle.std.proofs.Common.{◌≡◌, ℕ, zero, suc, true, List, [], ◌∷◌, refl, subst, Option, Some, IsTrue}
+use Rattle.std.proofs.Common.{◌≡◌, ℕ, zero, suc, true, List, [], ◌∷◌, refl, ap, subst, Option, Some, IsTrue}
 use Rattle.std.specs.Prelude.{slice_get}
 use Rattle.std.specs.List.{AllByRecursion}
 use Rattle.std.proofs.lemmas.Option.{none-some, same_Some}
-use Rattle.zl_rights.specs.Common.{World}
+use Rattle.zl_rights.specs.Common.{runs, World, Process}
 use Rattle.zl_code.specs.declared.history.Outcome.TheVariants as outcome
 use Rattle.zl_code.specs.declared.history.TraceItem.{TraceItem}
 use Rattle.zl_code.specs.declared.history.TraceItem.TheVariants as item
 use Rattle.zl_code.specs.Image.{Image, Library, Program}
 use Rattle.zl_code.specs.Spells.{is_in_range}
+use Rattle.zl_code.specs.Headline.{EndsItself, HasNoFault, IsNeverRefused, IsNotStuck, IsStarted}
 use Rattle.zl_abs.specs.States.{State}
 use Rattle.zl_abs.specs.Typing.{IsTyping}
-use Rattle.zl_verify.specs.Headline.{EndsItself, HasNoFault, IsNeverRefused, IsNotStuck, IsStarted}
 use Rattle.zl_verify.specs.RunLaws.{IsFineItem, IsUnderWay}
 use Rattle.zl_verify.specs.Steps.{IsStepBound}
 use Rattle.zl_verify.proofs.CheckedRuns.{budget_kept, never_refused}
 use Rattle.zl_verify.proofs.Starting.{starts_conforming}
 
 -- what is true of each is true of the one that was looked up
-program_in : (lib : Library) (n : ℕ) (g : Program) → AllByRecursion (λ x. IsTrue (is_in_range x.image)) lib → slice_get lib n ≡ Some g → IsTrue (is_in_range g.image)
+pub program_in : (lib : Library) (n : ℕ) (g : Program) → AllByRecursion (λ x. IsTrue (is_in_range x.image)) lib → slice_get lib n ≡ Some g → IsTrue (is_in_range g.image)
 program_in [] n g all at = absurd (none-some g at)
 program_in (x ∷ lib) zero g all at = subst (λ (y : Program). IsTrue (is_in_range y.image)) (same_Some x g at) all.0
 program_in (x ∷ lib) (suc n) g all at = program_in lib n g all.1 at
@@ -51,17 +51,17 @@ module _ (p : ℕ) where
 
 -- an image of the library is in its ranges
 pub in_range : (lib : Library) (i : Image) (w : World) (p : ℕ) → AllByRecursion (λ x. IsTrue (is_in_range x.image)) lib → IsStarted lib i w p → is_in_range i ≡ true
-in_range lib i w p images started = program_in lib started.process.program _ images started.program
+in_range lib i w p images started = program_in lib started.process.program _ images started.proper.running
 
 -- who was properly started is under way
 pub started_under_way : (lib : Library) (i : Image) (t : ℕ → Option State) → is_in_range i ≡ true → IsTyping i t → (w : World) (p : ℕ) → IsStarted lib i w p → IsUnderWay lib i t w p
 started_under_way lib i t range typing w p started = record {
   process = started.process;
   there = started.there;
-  running = rw started.ready refl;
-  checked = started.checked;
-  program = started.program;
-  conforms = starts_conforming i t range typing w p started.process started.proper;
+  running = ap (λ (z : Process). runs z.state) started.proper.made;
+  checked = started.proper.checked;
+  program = started.proper.running;
+  conforms = starts_conforming i t range typing lib w p started.process started.proper;
 }
 
 pub headline : (i : Image) (t : ℕ → Option State) (steps : ℕ → Option ℕ) → IsTyping i t → IsStepBound i t steps → IsNeverRefused i

@@ -58,8 +58,10 @@ pub mod Unstarted
 pub mod UnstartedRuns
 pub mod BootStarts
 pub mod ChildStarts
+pub mod Idling
+pub mod Covering
 mod Headline
 mod NoLeak
+pub mod CoveredRuns
 mod RowsConforms
 mod RowsNoLeak
-mod RowsRuns

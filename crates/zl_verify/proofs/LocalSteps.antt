@@ -18,7 +18,7 @@ use Rattle.zl_code.specs.Local.{local_effect}
 use Rattle.zl_code.specs.Request.{Site, site_of, name_of}
 use Rattle.zl_code.specs.Steps.{Next, Moves, IsStuck, moves, calls_at, next_of, next_at}
 use Rattle.zl_code.specs.Effects.{on_process}
-use Rattle.zl_code.specs.Tests.{creates}
+use Rattle.zl_code.specs.Operands.{creates}
 use Rattle.zl_code.specs.Handles.{HandlesAreSound}
 use Rattle.zl_code.specs.declared.history.CallName.{CallName}
 use Rattle.zl_code.proofs.ImageRanges.{ranges}
@@ -35,6 +35,7 @@ use Rattle.zl_abs.specs.Typing.{Holds as RuleHolds}
 use Rattle.zl_abs.proofs.Order.{both, within_trans}
 use Rattle.zl_verify.specs.Steps.{targets_of, leads, OneOf}
 use Rattle.zl_verify.specs.Conforms.{Table, Holds, IsMemory, WaitsAt, Conforms}
+use Rattle.zl_verify.specs.Covered.{StandsBy, IsAble}
 use Rattle.zl_verify.specs.LocalLaws.{GoesOn}
 use Rattle.zl_verify.proofs.Weakening.{weaken}
 use Rattle.zl_verify.proofs.Refining.{Known}
@@ -125,6 +126,78 @@ abbrev moved_to : Cpu → Next → Cpu
 moved_to d (Moves c) = c
 moved_to d _ = d
 
+-- ---- a Cpu by itself
+
+module _ (i : Image) (t : ℕ → Option State) (range : IsTrue (is_in_range i)) (typing : IsTyping i t) (f : Table)
+    (known : (v : ℕ) (e : Entry) → f v ≡ Some e → within (bits e.rights) KNOWN_RIGHTS ≡ true) (c0 : Cpu) (k : StandsBy i t f c0) where
+  holds_at : (o : Option Instr) → instr_at i c0.counter ≡ o → RuleHolds t (rule_by (bounds_of i.code) i c0.counter k.state o)
+  unfolding rule_with
+  holds_at o is = rw is at (typing.holds c0.counter k.state k.stands)
+
+  local_range : (x : LocalInstr) → instr_at i c0.counter ≡ Some (instr.Local x) → is_local_in_range x ≡ true
+  local_range x is = rw is at (in_range_at i.raw i.code c0.counter (ranges i range).code)
+
+  arrives : (x : LocalInstr) → instr_at i c0.counter ≡ Some (instr.Local x) → Arrives f i c0.counter (target_of x) (local_rule (bounds_of i.code) i x k.state) (local_effect x c0)
+  arrives x is = agrees c0 k.holds (typing.state c0.counter k.state k.stands) k.memory known (bounds_of i.code) x (local_range x is)
+
+  leads_here : (x : LocalInstr) → instr_at i c0.counter ≡ Some (instr.Local x)
+      → targets_of (and_then (local_rule (bounds_of i.code) i x k.state) (edges (length i.code) c0.counter (target_of x))) ≡ leads i t c0.counter
+  unfolding rule_with
+  leads_here x is = rw (k.stands, is) refl
+
+  stepped : (x : LocalInstr) → instr_at i c0.counter ≡ Some (instr.Local x) → (c : Cpu) → local_effect x c0 ≡ Some c → OneOf (λ n. c.counter ≡ n) (leads i t c0.counter) × StandsBy i t f c
+  stepped x is c effect =
+      let r = reached t f i c (length i.code) c0.counter (target_of x) (local_rule (bounds_of i.code) i x k.state) (holds_at (Some (instr.Local x)) is) (rw effect at (arrives x is)) in
+      (subst (OneOf (λ n. c.counter ≡ n)) (leads_here x is) r.1.follows, record { state = r.1.state; stands = r.1.stands; holds = r.1.holds; memory = r.0 })
+
+  -- a local instruction leads along a followed edge
+  pub moves_on : (c : Cpu) → next_at i c0 ≡ Moves c → OneOf (λ n. c.counter ≡ n) (leads i t c0.counter) × StandsBy i t f c
+  unfolding next_at
+  moves_on c = by (instr_at i c0.counter) refl
+    where
+      one : (x : LocalInstr) → instr_at i c0.counter ≡ Some (instr.Local x) → (o : Option Cpu) → local_effect x c0 ≡ o → moves o ≡ Moves c → OneOf (λ n. c.counter ≡ n) (leads i t c0.counter) × StandsBy i t f c
+      one x is None effect e = cc
+      one x is (Some d) effect e = stepped x is c (effect ∙ ap Some (ap (moved_to d) e))
+
+      no_move : (call : CallName) (o : Option Site) → calls_at call o ≡ Moves c → ⊥
+      no_move call None e = cc
+      no_move call (Some s) e = cc
+
+      by : (o : Option Instr) → instr_at i c0.counter ≡ o → next_of o c0 ≡ Moves c → OneOf (λ n. c.counter ≡ n) (leads i t c0.counter) × StandsBy i t f c
+      by None is e = cc
+      by (Some (instr.Local x)) is e = one x is (local_effect x c0) refl e
+      by (Some (instr.Call x)) is e = absurd (no_move (name_of x) (site_of x c0) e)
+      by (Some (instr.Unknown bytes)) is e = cc
+
+  call_goes : (x : CallInstr) → instr_at i c0.counter ≡ Some (instr.Call x) → (o : Option Site) → site_of x c0 ≡ o → calls_at (name_of x) o ≢ IsStuck
+  call_goes x is (Some s) site e = cc
+  call_goes x is None site e =
+      let given = call_is_given t (length i.code) c0.counter 0 (call_rule (bounds_of i.code) i x k.state) (holds_at (Some (instr.Call x)) is) in
+      has_site x c0 (memory_there c0 k.holds k.memory (bounds_of i.code) x given) site
+
+  pub never_stuck : next_at i c0 ≢ IsStuck
+  unfolding next_at
+  never_stuck = by (instr_at i c0.counter) refl
+    where
+      one : (x : LocalInstr) → instr_at i c0.counter ≡ Some (instr.Local x) → (o : Option Cpu) → local_effect x c0 ≡ o → moves o ≢ IsStuck
+      one x is None effect e =
+          effect_there t f i (length i.code) c0.counter (target_of x) (local_rule (bounds_of i.code) i x k.state) (holds_at (Some (instr.Local x)) is) (rw effect at (arrives x is))
+      one x is (Some d) effect e = cc
+
+      by : (o : Option Instr) → instr_at i c0.counter ≡ o → next_of o c0 ≢ IsStuck
+      by None is e = holds_at None is
+      by (Some (instr.Local x)) is e = one x is (local_effect x c0) refl e
+      by (Some (instr.Call x)) is e = call_goes x is (site_of x c0) refl e
+      by (Some (instr.Unknown bytes)) is e = holds_at (Some (instr.Unknown bytes)) is
+
+-- ---- the law of a Cpu
+
+pub able_goes : (i : Image) (c : Cpu) → IsTrue (is_in_range i) → IsAble i c → next_at i c ≢ IsStuck
+able_goes i c range a = never_stuck i a.typing range a.types a.table a.known c a.by
+
+pub able_still : (i : Image) (c d : Cpu) → IsTrue (is_in_range i) → IsAble i c → next_at i c ≡ Moves d → IsAble i d
+able_still i c d range a next = record { typing = a.typing; types = a.types; table = a.table; known = a.known; by = (moves_on i a.typing range a.types a.table a.known c a.by d next).1 }
+
 -- ---- the law
 
 module _ (i : Image) (t : ℕ → Option State) (w : World) (p : ℕ) (q : Process) (range : IsTrue (is_in_range i)) (typing : IsTyping i t) (sound : HandlesAreSound w)
@@ -132,20 +205,12 @@ module _ (i : Image) (t : ℕ → Option State) (w : World) (p : ℕ) (q : Proce
   known : (v : ℕ) (e : Entry) → get q.handles v ≡ Some e → within (bits e.rights) KNOWN_RIGHTS ≡ true
   known v e is = within_trans KNOWN_RIGHTS (default_rights_of e.kind) (bits e.rights) (defaults_known e.kind) (sound.rights p v q e is_there is)
 
-  holds_at : (o : Option Instr) → instr_at i q.cpu.counter ≡ o → RuleHolds t (rule_by (bounds_of i.code) i q.cpu.counter k.state o)
-  unfolding rule_with
-  holds_at o is = rw is at (typing.holds q.cpu.counter k.state k.stands)
+  stands_by : StandsBy i t (get q.handles) q.cpu
+  stands_by = record { state = k.state; stands = k.stands; holds = k.holds; memory = k.memory }
 
-  local_range : (x : LocalInstr) → instr_at i q.cpu.counter ≡ Some (instr.Local x) → is_local_in_range x ≡ true
-  local_range x is = rw is at (in_range_at i.raw i.code q.cpu.counter (ranges i range).code)
-
-  arrives : (x : LocalInstr) → instr_at i q.cpu.counter ≡ Some (instr.Local x) → Arrives (get q.handles) i q.cpu.counter (target_of x) (local_rule (bounds_of i.code) i x k.state) (local_effect x q.cpu)
-  arrives x is = agrees q.cpu k.holds (typing.state q.cpu.counter k.state k.stands) k.memory known (bounds_of i.code) x (local_range x is)
-
-  leads_here : (x : LocalInstr) → instr_at i q.cpu.counter ≡ Some (instr.Local x)
-      → targets_of (and_then (local_rule (bounds_of i.code) i x k.state) (edges (length i.code) q.cpu.counter (target_of x))) ≡ leads i t q.cpu.counter
-  unfolding rule_with
-  leads_here x is = rw (k.stands, is) refl
+  -- its Cpu by itself is so too
+  pub able_of : IsAble i q.cpu
+  able_of = record { typing = t; types = typing; table = get q.handles; known = known; by = stands_by }
 
   still_allowed : (c : Cpu) (condition : Condition) → IsTrue (is_among i.needs condition) → creates (on_process w p (λ x. record x { cpu = c })) p condition ≡ None
   unfolding creates on_process
@@ -154,49 +219,13 @@ module _ (i : Image) (t : ℕ → Option State) (w : World) (p : ℕ) (q : Proce
   waits_nowhere : (c : Cpu) → q.state ≡ Ready → WaitsAt q.state (call_at i c.counter)
   waits_nowhere c ready = rw ready tt
 
-  stepped : (x : LocalInstr) → instr_at i q.cpu.counter ≡ Some (instr.Local x) → q.state ≡ Ready → (c : Cpu) → local_effect x q.cpu ≡ Some c → GoesOn i t w p q c
-  stepped x is ready c effect =
-      let r = reached t (get q.handles) i c (length i.code) q.cpu.counter (target_of x) (local_rule (bounds_of i.code) i x k.state) (holds_at (Some (instr.Local x)) is) (rw effect at (arrives x is)) in
+  pub goes_on : q.state ≡ Ready → (c : Cpu) → next_at i q.cpu ≡ Moves c → GoesOn i t w p q c
+  goes_on ready c next =
+      let (follows, s) = moves_on i t range typing (get q.handles) known q.cpu stands_by c next in
       record {
-        follows = subst (OneOf (λ n. c.counter ≡ n)) (leads_here x is) r.1.follows;
-        conforms = record { state = r.1.state; stands = r.1.stands; holds = r.1.holds; memory = r.0; allowed = still_allowed c; waits = waits_nowhere c ready };
+        follows = follows;
+        conforms = record { state = s.state; stands = s.stands; holds = s.holds; memory = s.memory; allowed = still_allowed c; waits = waits_nowhere c ready };
       }
 
-  pub goes_on : q.state ≡ Ready → (c : Cpu) → next_at i q.cpu ≡ Moves c → GoesOn i t w p q c
-  unfolding next_at
-  goes_on ready c = by (instr_at i q.cpu.counter) refl
-    where
-      one : (x : LocalInstr) → instr_at i q.cpu.counter ≡ Some (instr.Local x) → (o : Option Cpu) → local_effect x q.cpu ≡ o → moves o ≡ Moves c → GoesOn i t w p q c
-      one x is None effect e = cc
-      one x is (Some d) effect e = stepped x is ready c (effect ∙ ap Some (ap (moved_to d) e))
-
-      no_move : (call : CallName) (o : Option Site) → calls_at call o ≡ Moves c → ⊥
-      no_move call None e = cc
-      no_move call (Some s) e = cc
-
-      by : (o : Option Instr) → instr_at i q.cpu.counter ≡ o → next_of o q.cpu ≡ Moves c → GoesOn i t w p q c
-      by None is e = cc
-      by (Some (instr.Local x)) is e = one x is (local_effect x q.cpu) refl e
-      by (Some (instr.Call x)) is e = absurd (no_move (name_of x) (site_of x q.cpu) e)
-      by (Some (instr.Unknown bytes)) is e = cc
-
-  call_goes : (x : CallInstr) → instr_at i q.cpu.counter ≡ Some (instr.Call x) → (o : Option Site) → site_of x q.cpu ≡ o → calls_at (name_of x) o ≢ IsStuck
-  call_goes x is (Some s) site e = cc
-  call_goes x is None site e =
-      let given = call_is_given t (length i.code) q.cpu.counter 0 (call_rule (bounds_of i.code) i x k.state) (holds_at (Some (instr.Call x)) is) in
-      has_site x q.cpu (memory_there q.cpu k.holds k.memory (bounds_of i.code) x given) site
-
   pub not_stuck : next_at i q.cpu ≢ IsStuck
-  unfolding next_at
-  not_stuck = by (instr_at i q.cpu.counter) refl
-    where
-      one : (x : LocalInstr) → instr_at i q.cpu.counter ≡ Some (instr.Local x) → (o : Option Cpu) → local_effect x q.cpu ≡ o → moves o ≢ IsStuck
-      one x is None effect e =
-          effect_there t (get q.handles) i (length i.code) q.cpu.counter (target_of x) (local_rule (bounds_of i.code) i x k.state) (holds_at (Some (instr.Local x)) is) (rw effect at (arrives x is))
-      one x is (Some d) effect e = cc
-
-      by : (o : Option Instr) → instr_at i q.cpu.counter ≡ o → next_of o q.cpu ≢ IsStuck
-      by None is e = holds_at None is
-      by (Some (instr.Local x)) is e = one x is (local_effect x q.cpu) refl e
-      by (Some (instr.Call x)) is e = call_goes x is (site_of x q.cpu) refl e
-      by (Some (instr.Unknown bytes)) is e = holds_at (Some (instr.Unknown bytes)) is
+  not_stuck = never_stuck i t range typing (get q.handles) known q.cpu stands_by

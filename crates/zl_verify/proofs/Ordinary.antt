@@ -10,7 +10,7 @@ use Rattle.zl_code.specs.First.{first_some}
 use Rattle.zl_code.specs.Image.{Library}
 use Rattle.zl_code.specs.Tests.{answer_if}
 use Rattle.zl_code.specs.CallTable.{Request, listed, close, dup, replace, chan_create, chan_write, chan_read_etc, event_create, signal, signal_peer, wait_one, wait_poll, wait_async, port_create, port_queue, port_wait, port_poll, port_cancel, process_create, process_start, process_exit, task_kill, job_create, job_set_policy}
-use Rattle.zl_verify.specs.CallLaws.{is_fault}
+use Rattle.zl_code.specs.Headline.{is_fault}
 
 abbrev pub is_good : Status → Bool
 is_good status.Ok = true

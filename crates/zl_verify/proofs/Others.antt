@@ -19,7 +19,8 @@ use Rattle.zl_code.specs.declared.instr.CallInstr.{CallInstr}
 use Rattle.zl_code.specs.Image.{Image, Library, Program, instr_at, is_among}
 use Rattle.zl_code.specs.Spells.{is_in_range}
 use Rattle.zl_code.specs.Local.{reg, local_effect}
-use Rattle.zl_code.specs.Tests.{object_at, creates}
+use Rattle.zl_code.specs.Tests.{object_at}
+use Rattle.zl_code.specs.Operands.{creates}
 use Rattle.zl_code.specs.Effects.{on_process, on_object, with_object, process_without, process_ended, insert_all, remove_all, ended, storing, waiting}
 use Rattle.zl_code.specs.Starting.{is_created, created_process, started_with}
 use Rattle.zl_code.specs.Jobs.{is_within, process_killed, with_killed}
@@ -33,7 +34,7 @@ use Rattle.zl_code.proofs.Entering.{left_behind}
 use Rattle.zl_abs.specs.States.{State}
 use Rattle.zl_abs.specs.Typing.{IsTyping}
 use Rattle.zl_verify.specs.Conforms.{Conforms}
-use Rattle.zl_verify.specs.WakeLaws.{IsRunStep, OthersLeave, left_so, was_killed}
+use Rattle.zl_verify.specs.WakeLaws.{IsFitStep, OthersLeave, left_so, was_killed}
 use Rattle.zl_verify.proofs.OwnTable.{changed_elsewhere, inserted_elsewhere}
 use Rattle.zl_verify.proofs.OwnEffect.{starts_created, no_child, other_koid, AreAlike, alike_then, same_objects, alike_after, same_policy}
 use Rattle.zl_verify.proofs.Sites.{SiteAt, site_at, process_create_at, process_start_at, task_kill_at}
@@ -223,7 +224,7 @@ module _ (lib : Library) (w : World) (p : ℕ) (x : TraceItem) (w2 : World) (sou
 
 -- ---- the law
 
-module _ (i : Image) (t : ℕ → Option State) (range : is_in_range i ≡ true) (typing : IsTyping i t) (lib : Library) (w : World) (p : ℕ) (x : TraceItem) (w2 : World) (b : IsRunStep lib w p x w2) (q : ℕ) (process : Process) (apart : (p == q) ≡ false)
+module _ (i : Image) (t : ℕ → Option State) (range : is_in_range i ≡ true) (typing : IsTyping i t) (lib : Library) (w : World) (p : ℕ) (x : TraceItem) (w2 : World) (b : IsFitStep lib w p x w2) (q : ℕ) (process : Process) (apart : (p == q) ≡ false)
     (there : get w.processes q ≡ Some process) (running : runs process.state ≡ true) (k : Conforms i t w q process) where
   sound : IsSound w
   sound = sound_before lib w p x w2 b

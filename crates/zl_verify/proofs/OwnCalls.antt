@@ -22,13 +22,15 @@ use Rattle.zl_code.specs.Steps.{AtCall, IsStuck, next_at}
 use Rattle.zl_code.specs.Instructions.{row_of}
 use Rattle.zl_code.specs.Local.{reg}
 use Rattle.zl_code.specs.Effects.{signed_word, on_process, waiting}
-use Rattle.zl_code.specs.Tests.{object_at, creates, examined}
+use Rattle.zl_code.specs.Tests.{object_at}
+use Rattle.zl_code.specs.Operands.{creates, by_policy, examined}
 use Rattle.zl_code.specs.Waiting.{is_active_at, packet_awaited, packets_at}
 use Rattle.zl_code.specs.CallTable.{process_exit, task_kill, listed, entering_at, stored_by, gives_ok, gives_refused, awaited_by, ends_caller, outcome_of}
 use Rattle.zl_code.specs.Jobs.{is_within}
-use Rattle.zl_code.specs.Refusals.{handle_operands, refusal}
+use Rattle.zl_code.specs.Refusals.{condition_of, handle_operands, refusal}
 use Rattle.zl_code.specs.Request.{Site, site, name_of}
 use Rattle.zl_code.specs.Calls.{Calls, CallBy, Choice, Refused, WantsMemory, Values, taken_handles, may_choose, taken, cpu_answered, replied, with_effect, after_refusal, after_ok}
+use Rattle.zl_code.specs.Headline.{is_fault}
 use Rattle.zl_code.proofs.Entering.{left_behind}
 use Rattle.zl_abs.specs.States.{State, with_all}
 use Rattle.zl_abs.specs.Rule.{and_then, edges, passes}
@@ -36,7 +38,7 @@ use Rattle.zl_abs.specs.CallRules.{goes_on, stops}
 use Rattle.zl_abs.specs.Typing.{rule_with, IsTyping}
 use Rattle.zl_verify.specs.Steps.{targets_of, OneOf}
 use Rattle.zl_verify.specs.Conforms.{Holds, IsMemory, WaitsAt, Conforms}
-use Rattle.zl_verify.specs.CallLaws.{StandsAtCall, is_fault, ends_of, IsAnswered, IsWaiting, IsOwnEnd, exits, kills, CanCall}
+use Rattle.zl_verify.specs.CallLaws.{StandsAtCall, ends_of, IsAnswered, IsWaiting, IsOwnEnd, exits, kills, CanCall}
 use Rattle.zl_verify.proofs.Writing.{nothing_at_0}
 use Rattle.zl_verify.proofs.Refining.{Known}
 use Rattle.zl_verify.proofs.LocalSteps.{reached, not_stuck}
@@ -285,3 +287,10 @@ can_call i t w p q range typing sound there k x is = by (reads i q.cpu x is)
     by : (next_at i q.cpu ≡ IsStuck) ⊎ ((s : Site) × (next_at i q.cpu ≡ AtCall (name_of x) s)) → CanCall i q.cpu x
     by (inl stuck) = absurd (not_stuck i t w p q range typing sound there k stuck)
     by (inr (s, next)) = record { site = s; next = next }
+
+-- its operands pass, and its policy allows what it makes
+pub operands_pass : (i : Image) (t : ℕ → Option State) (w : World) (p : ℕ) (q : Process) (called : CallName) (s : Site) → StandsAtCall i t w p q called s → examined w p [] (handle_operands s.request) ≡ None
+operands_pass i t w p q called s k = not_refused (is_ruled i t w p q called s k).before
+
+pub policy_passes : (i : Image) (t : ℕ → Option State) (w : World) (p : ℕ) (q : Process) (called : CallName) (s : Site) → StandsAtCall i t w p q called s → by_policy w p (condition_of s.request) ≡ None
+policy_passes i t w p q called s k = (is_ruled i t w p q called s k).before.allowed

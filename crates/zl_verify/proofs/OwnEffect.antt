@@ -17,7 +17,8 @@ use Rattle.zl_rights.specs.declared.policy.Condition.{Condition}
 use Rattle.zl_rights.proofs.MapLaws.{get-put, get-update, get-each}
 use Rattle.zl_code.specs.Image.{Library}
 use Rattle.zl_code.specs.declared.instr.CallInstr.{CallInstr}
-use Rattle.zl_code.specs.Tests.{object_at, body_in, body_of, parent_in, parent_of, policy_in, action_of, unless_allowed, creates}
+use Rattle.zl_code.specs.Tests.{object_at, body_in, body_of, parent_in, parent_of, policy_in, action_of}
+use Rattle.zl_code.specs.Operands.{unless_allowed, creates}
 use Rattle.zl_code.specs.Effects.{on_process, on_object, with_object, insert_all, storing, message_sent, message_read}
 use Rattle.zl_code.specs.Starting.{is_created, created_process, started_with}
 use Rattle.zl_code.specs.Jobs.{is_dead, has_child, is_within, body_killed, object_killed, process_killed, with_killed, body_with_policy, policy_changed, job_within}

@@ -22,12 +22,13 @@ use Rattle.zl_code.specs.Refusals.{refusal}
 use Rattle.zl_code.specs.Calls.{Calls, CallBy, Choice, Refused, WantsMemory, Values, taken, taken_handles, with_effect, ok_outcome, after_ok}
 use Rattle.zl_code.specs.Steps.{Next, Moves, AtCall, IsStuck, next_at, next_in, Acts, pid_of}
 use Rattle.zl_code.specs.Sound.{IsSound}
+use Rattle.zl_code.specs.Headline.{MayEnd, is_pause_name, executed}
 use Rattle.zl_abs.specs.States.{State}
 use Rattle.zl_abs.specs.Typing.{IsTyping}
 use Rattle.zl_verify.specs.Conforms.{WaitsAt, Conforms}
 use Rattle.zl_verify.specs.CallLaws.{ends_by, ends_of, StandsAtCall, IsAnswered, IsWaiting, IsOwnEnd, exits, kills}
-use Rattle.zl_verify.specs.WakeLaws.{IsRunStep, EndsStep, stays, wakes}
-use Rattle.zl_verify.specs.RunLaws.{MayEnd, is_pause_name, executed, IsFineItem, IsUnderWay, HasEnded}
+use Rattle.zl_verify.specs.WakeLaws.{IsFitStep, EndsStep, stays, wakes}
+use Rattle.zl_verify.specs.RunLaws.{IsFineItem, IsUnderWay, HasEnded}
 use Rattle.zl_verify.specs.Steps.{is_pause, leads, leads_by, OneOf}
 use Rattle.zl_verify.proofs.LocalSteps.{goes_on, not_stuck}
 use Rattle.zl_verify.proofs.AtCalls.{at_call}
@@ -36,7 +37,6 @@ use Rattle.zl_verify.proofs.OwnTable.{changed_here, losing_all, losing_same, rem
 use Rattle.zl_verify.proofs.OwnCalls.{promised, Promised}
 use Rattle.zl_verify.proofs.OwnEffect.{caller_ending}
 use Rattle.zl_verify.proofs.SizedWorlds.{queues_sized}
-use Rattle.zl_verify.proofs.SizedRuns.{world_sized}
 use Rattle.zl_verify.proofs.Woken.{sound_before, ends_step}
 use Rattle.zl_verify.proofs.Ended.{ended_still}
 
@@ -120,7 +120,7 @@ module _ (lib : Library) (i : Image) (t : ℕ → Option State) (range : is_in_r
   under_way p y w2 checked program running (wakes awaited ds waited a) =
       record { process = a.after; there = a.there; running = ap runs a.ready; checked = checked; program = ap (slice_get lib) a.program ∙ program; conforms = a.conforms }
 
-  module _ (w : World) (p : ℕ) (x : TraceItem) (w2 : World) (b : IsRunStep lib w p x w2) (checked : Bool) (program : slice_get lib b.step.process.program ≡ Some (record { checked = checked; image = i })) (k : Conforms i t w p b.step.process) where
+  module _ (w : World) (p : ℕ) (x : TraceItem) (w2 : World) (b : IsFitStep lib w p x w2) (checked : Bool) (program : slice_get lib b.step.process.program ≡ Some (record { checked = checked; image = i })) (k : Conforms i t w p b.step.process) where
     abbrev own : Process
     own = b.step.process
 
@@ -156,7 +156,7 @@ module _ (lib : Library) (i : Image) (t : ℕ → Option State) (range : is_in_r
         range = range;
         typing = typing;
         sound = sound;
-        sized = queues_sized w (world_sized lib b.statements b.boot w b.items b.begins b.run);
+        sized = queues_sized w b.sized;
         there = b.step.is_there;
         ready = b.step.is_ready;
         conforms = k;
@@ -231,7 +231,7 @@ module _ (lib : Library) (i : Image) (t : ℕ → Option State) (range : is_in_r
     own_step = by_next (next_at i own.cpu) refl (subst (λ n. Acts lib w p n x b.step.acted) (ap (λ o. next_in o own.cpu) program) b.step.acts)
 
   -- the step of a process that is under way
-  pub under_way_steps : (w : World) (m : ℕ) (x : TraceItem) (w2 : World) → IsRunStep lib w m x w2 → (u : IsUnderWay lib i t w m)
+  pub under_way_steps : (w : World) (m : ℕ) (x : TraceItem) (w2 : World) → IsFitStep lib w m x w2 → (u : IsUnderWay lib i t w m)
       → IsFineItem m x × (((after : IsUnderWay lib i t w2 m) × Went i t u.process after.process x) ⊎ (HasEnded w2 m × Stopped i u.process x))
   under_way_steps w m x w2 b u =
       let same : b.step.process ≡ u.process = same_Some b.step.process u.process (sym b.step.is_there ∙ u.there) in

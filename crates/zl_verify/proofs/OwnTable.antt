@@ -8,7 +8,7 @@ use Rattle.std.proofs.Common.{arith, ◌⊎◌, inl, inr}
 use Rattle.zl_rights.specs.declared.entry.Entry.{Entry}
 use Rattle.zl_rights.specs.Common.{Map, get, without, has_key, World, Process}
 use Rattle.zl_rights.proofs.MapLaws.{get-update}
-use Rattle.zl_code.specs.Tests.{Operand}
+use Rattle.zl_code.specs.Operands.{Operand}
 use Rattle.zl_code.specs.CallTable.{Request, process_start, new_handles, choosing}
 use Rattle.zl_code.specs.Effects.{on_process, insert_all, remove_all, process_with, process_without, storing, may_get_all}
 use Rattle.zl_code.specs.Local.{overwritten}

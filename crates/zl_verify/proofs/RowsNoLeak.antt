@@ -15,7 +15,7 @@ use Rattle.zl_code.specs.declared.instr.Instr.TheVariants as instr
 use Rattle.zl_code.specs.declared.instr.LocalInstr.TheVariants as local
 use Rattle.zl_code.specs.declared.instr.CallInstr.TheVariants as call
 use Rattle.zl_code.specs.Image.{Image}
-use Rattle.zl_code.specs.Tests.{creates}
+use Rattle.zl_code.specs.Operands.{creates}
 use Rattle.zl_abs.specs.declared.value.AbsVal.{AbsVal}
 use Rattle.zl_abs.specs.declared.value.AbsVal.TheVariants.{Word, Has}
 use Rattle.zl_abs.specs.Values.{ANY}

@@ -42,7 +42,8 @@ use Rattle.zl_verify.proofs.Giving.{status_few, kind_few, HasFewRights}
 use Rattle.zl_verify.proofs.Sites.{SiteAt, replace_at, chan_write_at, wait_async_at, port_queue_at, process_start_at}
 use Rattle.zl_verify.proofs.Working.{listed_none, test_fails, test_passes}
 use Rattle.zl_verify.proofs.SizedCpus.{AreSmall, registers_written, answered_sized, blank_sized, started_sized}
-use Rattle.zl_verify.proofs.SizedWorlds.{IsSized, IsSizedProcess, IsSizedAt, IsSizedObject, all_filtered, all_behind, each_update, each_each, queues_sized, active_sized, process_sized, new_process_sized, removed_sized, inserted_sized, stored_sized, ended_sized, waiting_sized, object_sized, new_object_sized, fewer_waits, wait_sized}
+use Rattle.zl_verify.specs.SizedLaws.{IsSized, IsSizedObject}
+use Rattle.zl_verify.proofs.SizedWorlds.{IsSizedProcess, IsSizedAt, all_filtered, all_behind, each_update, each_each, queues_sized, active_sized, process_sized, new_process_sized, removed_sized, inserted_sized, stored_sized, ended_sized, waiting_sized, object_sized, new_object_sized, fewer_waits, wait_sized}
 
 -- ---- what is asked for
 

@@ -23,14 +23,16 @@ use Rattle.zl_code.specs.Starting.{created_process}
 use Rattle.zl_code.specs.Steps.{Next, Moves, AtCall, IsStuck, moves, calls_at, next_of, next_at, next_in, next_for, Acts, Step, pid_of, Runs, single, IsLegalHistory}
 use Rattle.zl_code.specs.Handles.{Throughout}
 use Rattle.zl_code.specs.Sound.{IsSound}
+use Rattle.zl_code.specs.Headline.{word_of, IsSizedBoot}
 use Rattle.zl_code.proofs.ImageRanges.{ranges}
 use Rattle.zl_code.proofs.SoundRuns.{step_sound, boot_sound}
 use Rattle.zl_abs.specs.Values.{ANY}
-use Rattle.zl_verify.specs.SizedLaws.{IsSizedCpu, word_of, IsSizedBoot}
+use Rattle.zl_verify.specs.SizedLaws.{IsSizedCpu}
 use Rattle.zl_verify.proofs.LocalSteps.{in_range_at}
 use Rattle.zl_verify.proofs.Sites.{site_at}
 use Rattle.zl_verify.proofs.SizedCpus.{blank_sized, started_sized, local_sized}
-use Rattle.zl_verify.proofs.SizedWorlds.{object_sized, IsSized, IsSizedObject, process_sized, new_process_sized, ended_sized, new_object_sized, settled_sized, wakes_sized}
+use Rattle.zl_verify.specs.SizedLaws.{IsSized, IsSizedObject}
+use Rattle.zl_verify.proofs.SizedWorlds.{object_sized, process_sized, new_process_sized, ended_sized, new_object_sized, settled_sized, wakes_sized}
 use Rattle.zl_verify.proofs.SizedCalls.{policy_set_sized, IsSizedRequest, request_sized, chosen_small, empty_sized, call_sized}
 
 -- ---- what stands next
@@ -77,7 +79,7 @@ module _ (lib : Library) (images : AllByRecursion (λ g. IsTrue (is_in_range g.i
   acted_sized w p x after sound s step =
       act_sized w p step.process step.is_there sound s (next_for lib step.process) (library_sized lib images step.process.program step.process.cpu (s.cpus p step.process step.is_there)) x step.acted step.acts
 
-  step_sized : (w : World) (p : ℕ) (x : TraceItem) (after : World) → IsSound w → IsSized w → Step lib w p x after → IsSized after
+  pub step_sized : (w : World) (p : ℕ) (x : TraceItem) (after : World) → IsSound w → IsSized w → Step lib w p x after → IsSized after
   step_sized w p x after sound s step = rw step.ends_awake (wakes_sized step.settled (settled_sized step.acted step.settled step.settles (acted_sized w p x after sound s step)))
 
   run_sized : (w : World) (items : List TraceItem) (after : World) → IsSound w → IsSized w → Runs lib w items after → IsSized after
@@ -129,7 +131,7 @@ origin_sized = record {
     by k o true is = subst (λ (x : Object). IsSizedObject x.body x.raised) (same_Some root o is) (empty_sized root.body refl refl)
     by k o false is = absurd (none-some o is)
 
-boot_sized : (lib : Library) (statements : List Statement) (w : World) → IsSizedBoot lib statements w → IsSized w
+pub boot_sized : (lib : Library) (statements : List Statement) (w : World) → IsSizedBoot lib statements w → IsSized w
 boot_sized lib statements w b = settled_sized b.boots.made w b.boots.settles (boots_sized lib origin statements b.boots.made b.words origin_sized b.boots.boots)
 
 -- ---- runs and histories from a boot world

@@ -18,7 +18,7 @@ use Rattle.zl_code.specs.Waiting.{packets_in, registered}
 use Rattle.zl_code.proofs.MapKept.{Each, each_put, each_where_key}
 use Rattle.zl_abs.specs.Values.{ANY}
 use Rattle.zl_verify.specs.CallLaws.{IsSizedMessage, IsSizedPacket, QueuesAreSized}
-use Rattle.zl_verify.specs.SizedLaws.{IsSizedCpu}
+use Rattle.zl_verify.specs.SizedLaws.{IsSizedCpu, IsSizedObject, IsSizedWait, AllAreSized, IsSized}
 use Rattle.zl_verify.proofs.Memories.{AreBytes, bytes_over}
 use Rattle.zl_verify.proofs.Calm.{active_few}
 use Rattle.zl_verify.proofs.SizedCpus.{AreSmall, answered_sized}
@@ -62,32 +62,11 @@ module _ {X : Type 0} (P : X → Type 0) (m : Map X) (all : Each P m) where
 
 -- ---- sized worlds
 
--- an object keeps messages, packets and signals of their sizes
-pub record IsSizedObject (body : Body) (raised : ℕ) : Type 0 where
-  pub messages : AllByRecursion IsSizedMessage (queue_of body)
-  pub packets : AllByRecursion IsSizedPacket (packets_in (Some body))
-  pub signals : raised ≤ 0xffff_ffff
-
--- the packet of a wait fits who receives it
-pub record IsSizedWait (x : Wait) : Type 0 where
-  pub key : x.key ≤ ANY
-  pub mask : x.mask ≤ ANY
-
 abbrev pub IsSizedProcess : Process → Type 0
 IsSizedProcess q = IsSizedCpu q.cpu
 
 abbrev pub IsSizedAt : Object → Type 0
 IsSizedAt o = IsSizedObject o.body o.raised
-
--- processes, objects and waits are sized
-pub record AllAreSized (ps : Map Process) (os : Map Object) (ws : List Wait) : Type 0 where
-  pub cpus : (p : ℕ) (q : Process) → get ps p ≡ Some q → IsSizedCpu q.cpu
-  pub kept : (k : ℕ) (o : Object) → get os k ≡ Some o → IsSizedObject o.body o.raised
-  pub waits : AllByRecursion IsSizedWait ws
-
--- those of the world
-abbrev pub IsSized : World → Type 0
-IsSized w = AllAreSized w.processes w.objects w.waits
 
 pub queues_sized : (w : World) → IsSized w → QueuesAreSized w
 queues_sized w s = record { messages = λ k o there. (s.kept k o there).messages; packets = λ k o there. (s.kept k o there).packets }

@@ -13,8 +13,9 @@ use Rattle.zl_code.specs.Image.{Image}
 use Rattle.zl_code.specs.Instructions.{Row, row_of}
 use Rattle.zl_code.specs.Spells.{Parts, call_parts, is_call_in_range}
 use Rattle.zl_code.specs.Request.{Site}
-use Rattle.zl_code.specs.Tests.{Operand, handles_in, by_policy}
-use Rattle.zl_code.specs.Tests.{examined as examined_at}
+use Rattle.zl_code.specs.Tests.{handles_in}
+use Rattle.zl_code.specs.Operands.{Operand, by_policy}
+use Rattle.zl_code.specs.Operands.{examined as examined_at}
 use Rattle.zl_code.specs.Refusals.{handle_operands, condition_of}
 use Rattle.zl_code.specs.Calls.{taken_handles, taken, cpu_answered}
 use Rattle.zl_abs.specs.declared.value.AbsVal.{AbsVal}

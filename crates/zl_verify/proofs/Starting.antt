@@ -1,32 +1,36 @@
 -- A process that starts properly is as a typing of its image says at instruction 0.
-use Rattle.std.proofs.Common.{◌≡◌, ◌≢◌, ℕ, zero, suc, ◌+◌, ◌<◌, ◌≤◌, Bool, true, false, ◌&&◌, ◌==◌, List, [], ◌∷◌, map, length, refl, sym, ap, ◌∙◌, subst, Option, Some, None, arith, inl, inr, slice_set, slice_index}
+use Rattle.std.proofs.Common.{◌≡◌, ◌≢◌, ℕ, zero, suc, ◌+◌, ◌<◌, ◌≤◌, Bool, true, false, ◌&&◌, ◌||◌, ◌==◌, List, [], ◌∷◌, map, length, refl, sym, ap, ◌∙◌, subst, Option, Some, None, arith, inl, inr, slice_set, slice_index}
 use Rattle.std.specs.Prelude.{replicate}
 use Rattle.std.specs.List.{sum_by}
+use Rattle.std.specs.Option.{option_to_list}
 use Rattle.std.proofs.lemmas.Bool.Decides.{nat_tests}
 use Rattle.std.proofs.lemmas.List.{length-replicate}
 use Rattle.std.proofs.lemmas.List.Sums.{sum_by-cons}
 use Rattle.std.proofs.lemmas.Option.{none-some}
 use Rattle.zl_rights.specs.declared.entry.Entry.{Entry}
-use Rattle.zl_rights.specs.Common.{get, World, Cpu, Process}
+use Rattle.zl_rights.specs.Common.{bits, within, get, World, Cpu, Process}
+use Rattle.zl_rights.specs.Numbers.{same_kind, takes}
+use Rattle.zl_rights.specs.declared.kind.Kind.{Kind}
 use Rattle.zl_rights.specs.World.{written}
 use Rattle.zl_code.specs.declared.image.SlotArray.{SlotArray}
 use Rattle.zl_code.specs.declared.image.Start.{Start}
-use Rattle.zl_code.specs.Image.{Image}
+use Rattle.zl_code.specs.Image.{Image, Library}
 use Rattle.zl_code.specs.Limits.{register_count}
 use Rattle.zl_code.specs.Spells.{is_in_range}
 use Rattle.zl_code.specs.Effects.{process_with, may_get, may_get_all}
-use Rattle.zl_code.specs.Boot.{process_with_all}
+use Rattle.zl_code.specs.Boot.{are_declared, process_with_all}
+use Rattle.zl_code.specs.Jobs.{is_declared}
 use Rattle.zl_code.specs.Starting.{blank_cpu, created_process, set_from, with_handles, cpu_given}
+use Rattle.zl_code.specs.Headline.{IsProperStart}
 use Rattle.zl_code.proofs.ImageRanges.{ranges}
 use Rattle.zl_abs.specs.declared.value.AbsVal.{AbsVal}
 use Rattle.zl_abs.specs.declared.value.AbsVal.TheVariants.{Word}
-use Rattle.zl_abs.specs.Values.{ANY}
+use Rattle.zl_abs.specs.Values.{ANY, kind_below}
 use Rattle.zl_abs.specs.States.{State, IsState, value_at, with_value, with_all, start_value, starts_from, start_results, start_state}
 use Rattle.zl_abs.specs.Typing.{IsAbove, IsTyping}
 use Rattle.zl_abs.specs.CallRules.{is_result, are_distinct, has_one}
 use Rattle.zl_abs.proofs.Order.{both}
-use Rattle.zl_verify.specs.Conforms.{one_if, is_it, owners, keepers, place_at, Holds, IsMemory, Conforms}
-use Rattle.zl_verify.specs.WakeLaws.{AreAsDeclared, IsProperStart}
+use Rattle.zl_verify.specs.Conforms.{one_if, is_it, owners, keepers, place_at, Holds, IsAs, IsMemory, Conforms}
 use Rattle.zl_verify.proofs.Owners.{owns_0}
 use Rattle.zl_verify.proofs.Weakening.{weaken}
 use Rattle.zl_verify.proofs.Fitting.{Fits, AreInside, results}
@@ -128,33 +132,45 @@ none_held (d ∷ ds) = rw (zero_at d.0, none_held ds) refl
 
 -- ---- what they get
 
-declared_fit : (r : ℕ) (ss : List Start) (es : List Entry) → AreAsDeclared ss es → AllAs (starts_from r ss) es
+takes_as : (k : Option Kind) (x : Kind) → takes (option_to_list k) x ≡ true → kind_below (Some x) k ≡ true
+takes_as None x e = refl
+takes_as (Some y) x e = by (same_kind x y) e
+  where
+    by : (b : Bool) → (b || false) ≡ true → b ≡ true
+    by true e = refl
+    by false e = cc
+
+one_declared : (s : Start) (x : Entry) → is_declared s x ≡ true → IsAs s.kind s.rights (Some x)
+one_declared s x e = let two = both (takes (option_to_list s.kind) x.kind) (within (bits s.rights) (bits x.rights)) e in (takes_as s.kind x.kind two.0, two.1)
+
+declared_fit : (r : ℕ) (ss : List Start) (es : List Entry) → are_declared ss es ≡ true → AllAs (starts_from r ss) es
 declared_fit r [] [] d = tt
-declared_fit r [] (e ∷ es) d = absurd d
-declared_fit r (s ∷ ss) [] d = absurd d
-declared_fit r (s ∷ ss) (e ∷ es) (one, more) = (one, declared_fit (r + 1) ss es more)
+declared_fit r [] (e ∷ es) d = cc
+declared_fit r (s ∷ ss) [] d = cc
+declared_fit r (s ∷ ss) (e ∷ es) d = let two = both (is_declared s e) (are_declared ss es) d in (one_declared s e two.0, declared_fit (r + 1) ss es two.1)
 
 -- the values in the order of the registers: the word is the second
 abbrev told : List ℕ → ℕ → List ℕ
 told [] word = word ∷ []
 told (v ∷ vs) word = v ∷ word ∷ vs
 
-start_fits : (ss : List Start) (es : List Entry) (vs : List ℕ) (word : ℕ) (q : Process) → q.last ≡ None → word ≤ ANY → AreAsDeclared ss es → may_get_all q es vs ≡ true
+start_fits : (ss : List Start) (es : List Entry) (vs : List ℕ) (word : ℕ) (q : Process) → q.last ≡ None → word ≤ ANY → are_declared ss es ≡ true → may_get_all q es vs ≡ true
     → Fits (get q.handles) zeros no_values (start_results ss) (told vs word) (get (getting_all es vs q).handles)
 start_fits [] [] [] word q fresh small d may = (get q.handles, (small, small, refl), refl)
 start_fits [] [] (v ∷ vs) word q fresh small d may = cc
-start_fits [] (e ∷ es) vs word q fresh small d may = absurd d
-start_fits (s ∷ ss) [] vs word q fresh small d may = absurd d
+start_fits [] (e ∷ es) vs word q fresh small d may = cc
+start_fits (s ∷ ss) [] vs word q fresh small d may = cc
 start_fits (s ∷ ss) (e ∷ es) [] word q fresh small d may = cc
-start_fits (s ∷ ss) (e ∷ es) (v ∷ vs) word q fresh small (one, more) may =
+start_fits (s ∷ ss) (e ∷ es) (v ∷ vs) word q fresh small d may =
+    let named = both (is_declared s e) (are_declared ss es) d in
     let two = both (may_get q v) (may_get_all (process_with v e q) es vs) may in
     let (some, most, unused) = fresh_value q v (λ x is. absurd (none-some x (sym fresh ∙ is))) two.0 in (
       get (process_with v e q).handles,
-      inr (e, few most, some, unused, one, getting v e q),
+      inr (e, few most, some, unused, one_declared s e named.0, getting v e q),
       (
         get (process_with v e q).handles,
         (small, small, refl),
-        handles_fit (starts_from 2 ss) es vs (process_with v e q) (with_value (with_value zeros 0 (start_value s)) 1 (Word ANY)) (slice_set (slice_set no_values 0 v) 1 word) (λ x is. absurd (none-some x is)) two.1 (declared_fit 2 ss es more),
+        handles_fit (starts_from 2 ss) es vs (process_with v e q) (with_value (with_value zeros 0 (start_value s)) 1 (Word ANY)) (slice_set (slice_set no_values 0 v) 1 word) (λ x is. absurd (none-some x is)) two.1 (declared_fit 2 ss es named.1),
       ),
     )
   where
@@ -180,13 +196,13 @@ written_from r [] (v ∷ vs) xs same = cc
 written_from r (s ∷ ss) [] xs same = cc
 written_from r (s ∷ ss) (v ∷ vs) xs same = written_from (r + 1) ss vs (slice_set xs r v) (omega arith)
 
-as_many : (ss : List Start) (es : List Entry) (vs : List ℕ) (q : Process) → AreAsDeclared ss es → may_get_all q es vs ≡ true → length vs ≡ length ss
+as_many : (ss : List Start) (es : List Entry) (vs : List ℕ) (q : Process) → are_declared ss es ≡ true → may_get_all q es vs ≡ true → length vs ≡ length ss
 as_many [] [] [] q d may = refl
 as_many [] [] (v ∷ vs) q d may = cc
-as_many [] (e ∷ es) vs q d may = absurd d
-as_many (s ∷ ss) [] vs q d may = absurd d
+as_many [] (e ∷ es) vs q d may = cc
+as_many (s ∷ ss) [] vs q d may = cc
 as_many (s ∷ ss) (e ∷ es) [] q d may = cc
-as_many (s ∷ ss) (e ∷ es) (v ∷ vs) q (one, more) may = ap suc (as_many ss es vs (process_with v e q) more (both (may_get q v) (may_get_all (process_with v e q) es vs) may).1)
+as_many (s ∷ ss) (e ∷ es) (v ∷ vs) q d may = ap suc (as_many ss es vs (process_with v e q) (both (is_declared s e) (are_declared ss es) d).1 (both (may_get q v) (may_get_all (process_with v e q) es vs) may).1)
 
 start_registers : (ss : List Start) (vs xs : List ℕ) (word : ℕ) → length vs ≡ length ss → written xs (map (λ x. x.0) (start_results ss)) (told vs word) ≡ slice_set (with_handles vs xs) 1 word
 start_registers [] [] xs word same = refl
@@ -201,10 +217,10 @@ same_holding (e ∷ es) (v ∷ vs) q = same_holding es vs (process_with v e q)
 
 -- ---- the start
 
-module _ (i : Image) (t : ℕ → Option State) (range : is_in_range i ≡ true) (typing : IsTyping i t) (w : World) (p : ℕ) (q : Process) (k : IsProperStart i w p q) where
+module _ (i : Image) (t : ℕ → Option State) (range : is_in_range i ≡ true) (typing : IsTyping i t) (lib : Library) (w : World) (p : ℕ) (q : Process) (k : IsProperStart lib i w p q) where
   -- the process before its start
   abbrev first : Process
-  first = created_process k.library k.program
+  first = created_process lib q.program
 
   abbrev holding : Process
   holding = process_with_all k.handles k.values first

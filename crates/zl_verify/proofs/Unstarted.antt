@@ -18,7 +18,8 @@ use Rattle.zl_code.specs.declared.history.TraceItem.{TraceItem}
 use Rattle.zl_code.specs.declared.instr.CallInstr.{CallInstr}
 use Rattle.zl_code.specs.Image.{Library, Program, is_among}
 use Rattle.zl_code.specs.Local.{reg}
-use Rattle.zl_code.specs.Tests.{object_at, creates}
+use Rattle.zl_code.specs.Tests.{object_at}
+use Rattle.zl_code.specs.Operands.{creates}
 use Rattle.zl_code.specs.Effects.{on_process, on_object, with_object, process_with, process_ended, insert_all, ended, waiting}
 use Rattle.zl_code.specs.Starting.{is_created, created_process, started_with}
 use Rattle.zl_code.specs.Jobs.{is_within, process_killed, with_killed}
@@ -28,6 +29,7 @@ use Rattle.zl_code.specs.Request.{Site}
 use Rattle.zl_code.specs.Calls.{Choice, Refused, WantsMemory, Values, CallBy, taken_handles, taken, cpu_answered, replied, with_effect, after_refusal, after_ok, ok_outcome}
 use Rattle.zl_code.specs.Steps.{Next, Moves, AtCall, IsStuck, Acts}
 use Rattle.zl_code.proofs.Entering.{left_behind}
+use Rattle.zl_verify.specs.Covered.{IsUnstarted, AreUnstarted}
 use Rattle.zl_verify.proofs.Giving.{getting_all}
 use Rattle.zl_verify.proofs.OwnTable.{changed_here, changed_elsewhere, inserted_elsewhere, own_handles, losing_all, losing_same, removed_here}
 use Rattle.zl_verify.proofs.OwnTable.{getting_same}
@@ -35,15 +37,6 @@ use Rattle.zl_verify.proofs.Storing.{storing_same}
 use Rattle.zl_verify.proofs.Sites.{SiteAt, process_create_at, process_start_at, task_kill_at}
 use Rattle.zl_verify.proofs.OwnEffect.{IsDone, caller_after, caller_ending, inserted_objects, stored_objects}
 use Rattle.zl_verify.proofs.Others.{HasSite, left_other, stored_other, ended_other, waiting_other, replied_other}
-
--- The process x with the koid k is as it was made, and its job allows what its program needs, if that is checked.
-pub record IsUnstarted (lib : Library) (w : World) (k : ℕ) (x : Process) : Type 0 where
-  pub blank : x ≡ created_process lib x.program
-  pub allowed : (g : Program) → slice_get lib x.program ≡ Some g → g.checked ≡ true → (c : Condition) → is_among g.image.needs c ≡ true → creates w k c ≡ None
-
--- so is each that isn't started
-abbrev pub AreUnstarted : Library → World → Type 0
-AreUnstarted lib w = (k : ℕ) (x : Process) → get w.processes k ≡ Some x → is_created x.state ≡ true → IsUnstarted lib w k x
 
 -- ---- where such a process comes from
 

@@ -19,19 +19,21 @@ use Rattle.zl_rights.specs.Wakes.{made_ready, packet_values, with_body, woken_by
 use Rattle.zl_rights.proofs.MapLaws.{get-put, get-each}
 use Rattle.zl_code.specs.declared.history.TraceItem.{TraceItem}
 use Rattle.zl_code.specs.Image.{Library, Program, is_among}
-use Rattle.zl_code.specs.Tests.{koid_in, object_at, body_in, body_of, parent_in, parent_of, policy_in, action_of, unless_allowed, creates}
+use Rattle.zl_code.specs.Tests.{koid_in, object_at, body_in, body_of, parent_in, parent_of, policy_in, action_of}
+use Rattle.zl_code.specs.Operands.{unless_allowed, creates}
 use Rattle.zl_code.specs.Starting.{is_created, created_process}
 use Rattle.zl_code.specs.Jobs.{is_allowing, lacks_need}
 use Rattle.zl_code.specs.Refusals.{refusal}
 use Rattle.zl_code.specs.Sound.{IsSound}
 use Rattle.zl_code.specs.CallTable.{process_create, listed}
 use Rattle.zl_code.specs.Steps.{Step, next_for}
-use Rattle.zl_verify.specs.WakeLaws.{IsRunStep}
+use Rattle.zl_verify.specs.Covered.{IsUnstarted, AreUnstarted}
+use Rattle.zl_verify.specs.WakeLaws.{IsFitStep}
 use Rattle.zl_verify.proofs.Working.{listed_none, test_fails}
 use Rattle.zl_verify.proofs.OwnEffect.{other_koid, same_policy}
 use Rattle.zl_verify.proofs.Others.{site_for, keys_below, left_by_step}
 use Rattle.zl_verify.proofs.Woken.{allowed_after}
-use Rattle.zl_verify.proofs.Unstarted.{IsUnstarted, AreUnstarted, Comes, was, made, AllCome, when_acted}
+use Rattle.zl_verify.proofs.Unstarted.{Comes, was, made, AllCome, when_acted}
 
 itself : (k : ℕ) → (k == k) ≡ true
 itself k = grind (arith, nat_tests)
@@ -218,7 +220,7 @@ module _ (k : ℕ) (y : Process) (new : is_created y.state ≡ true) where
 
 -- ---- runs
 
-pub step_unstarted : (lib : Library) (w : World) (p : ℕ) (x : TraceItem) (w2 : World) → (b : IsRunStep lib w p x w2) → IsSound w → AreUnstarted lib w → AreUnstarted lib w2
+pub step_unstarted : (lib : Library) (w : World) (p : ℕ) (x : TraceItem) (w2 : World) → (b : IsFitStep lib w p x w2) → IsSound w → AreUnstarted lib w → AreUnstarted lib w2
 step_unstarted lib w p x w2 b sound all k y at new =
     let before = settled_before b.step.acted b.step.settled b.step.settles k y (awake_before k y new b.step.settled (subst (λ v. get v.processes k ≡ Some y) b.step.ends_awake at)) new in
     let kept = acted_unstarted lib w p x w2 sound b.step all k y before new in

@@ -17,16 +17,18 @@ use Rattle.zl_rights.proofs.MapLaws.{get-put, get-each, get-where_key-in, get-wh
 use Rattle.zl_code.specs.declared.history.TraceItem.{TraceItem}
 use Rattle.zl_code.specs.Image.{Image, Library, is_among}
 use Rattle.zl_code.specs.Spells.{is_in_range}
-use Rattle.zl_code.specs.Tests.{body_in, body_of, parent_in, parent_of, policy_in, action_of, unless_allowed, creates}
+use Rattle.zl_code.specs.Tests.{body_in, body_of, parent_in, parent_of, policy_in, action_of}
+use Rattle.zl_code.specs.Operands.{unless_allowed, creates}
 use Rattle.zl_code.specs.Sound.{IsSound, HasItsObject}
 use Rattle.zl_code.proofs.SoundRuns.{step_sound, run_sound}
 use Rattle.zl_abs.specs.States.{State}
 use Rattle.zl_abs.specs.Typing.{IsTyping}
 use Rattle.zl_verify.specs.Conforms.{Conforms}
 use Rattle.zl_verify.specs.CallLaws.{IsSizedPacket}
-use Rattle.zl_verify.specs.WakeLaws.{IsRunStep, EndsStep, stays, wakes as is_woken}
+use Rattle.zl_verify.specs.SizedLaws.{IsSized, IsSizedObject}
+use Rattle.zl_verify.specs.WakeLaws.{IsRunStep, IsFitStep, EndsStep, stays, wakes as is_woken}
 use Rattle.zl_verify.proofs.Calm.{active_few}
-use Rattle.zl_verify.proofs.SizedWorlds.{IsSized, IsSizedObject, settled_sized, fired_sized, woken_sized}
+use Rattle.zl_verify.proofs.SizedWorlds.{settled_sized, fired_sized, woken_sized}
 use Rattle.zl_verify.proofs.SizedRuns.{acted_sized, world_sized}
 use Rattle.zl_verify.proofs.Awaking.{IsTyped, is_typed, IsAwake, signal_wakes, packet_wakes}
 
@@ -262,15 +264,24 @@ lives_then _ e = cc
 
 -- ---- the end of a step
 
-module _ (lib : Library) (w : World) (m : ℕ) (x : TraceItem) (w2 : World) (b : IsRunStep lib w m x w2) where
+-- a step in a run is one from a world that is sound and sized
+abbrev pub fit_of : (lib : Library) (w : World) (p : ℕ) (x : TraceItem) (w2 : World) → IsRunStep lib w p x w2 → IsFitStep lib w p x w2
+fit_of lib w p x w2 b = record {
+  images = b.begins.images;
+  sound = run_sound lib b.statements b.boot w b.items b.begins.boots b.run;
+  sized = world_sized lib b.statements b.boot w b.items b.begins b.run;
+  step = b.step;
+}
+
+module _ (lib : Library) (w : World) (m : ℕ) (x : TraceItem) (w2 : World) (b : IsFitStep lib w m x w2) where
   pub sound_before : IsSound w
-  sound_before = run_sound lib b.statements b.boot w b.items b.begins.boots b.run
+  sound_before = b.sound
 
   sound_after : IsSound w2
   sound_after = step_sound lib w m x w2 sound_before b.step
 
   settled_so : IsSized b.step.settled
-  settled_so = settled_sized b.step.acted b.step.settled b.step.settles (acted_sized lib b.begins.images w m x w2 sound_before (world_sized lib b.statements b.boot w b.items b.begins b.run) b.step)
+  settled_so = settled_sized b.step.acted b.step.settled b.step.settles (acted_sized lib b.images w m x w2 sound_before b.sized b.step)
 
   -- a process that lives at the end is allowed as much as right after the act
   pub allowed_after : (p : ℕ) (y : Process) → get w2.processes p ≡ Some y → lives y.state ≡ true → (c : Condition) → creates w2 p c ≡ creates b.step.acted p c
@@ -282,7 +293,7 @@ module _ (lib : Library) (w : World) (m : ℕ) (x : TraceItem) (w2 : World) (b :
           let alike : AreBare (without_others b.step.acted K) w2 = subst (λ v. AreBare v w2) is awake in
           bare_creates (without_others b.step.acted K) w2 alike p c ∙ settled_creates b.step.acted w2 K alike p (sound_after.living p y there living) c
 
-module _ (i : Image) (t : ℕ → Option State) (range : is_in_range i ≡ true) (typing : IsTyping i t) (lib : Library) (w : World) (m : ℕ) (x : TraceItem) (w2 : World) (b : IsRunStep lib w m x w2) where
+module _ (i : Image) (t : ℕ → Option State) (range : is_in_range i ≡ true) (typing : IsTyping i t) (lib : Library) (w : World) (m : ℕ) (x : TraceItem) (w2 : World) (b : IsFitStep lib w m x w2) where
   module _ (p : ℕ) (q : Process) (there : get b.step.acted.processes p ≡ Some q) (running : runs q.state ≡ true) (k : Conforms i t b.step.acted p q) where
     still_allowed : (y : Process) → get w2.processes p ≡ Some y → lives y.state ≡ true → (c : Condition) → IsTrue (is_among i.needs c) → creates w2 p c ≡ None
     still_allowed y at living c named = allowed_after lib w m x w2 b p y at living c ∙ k.allowed c named

@@ -24,7 +24,8 @@ use Rattle.zl_code.specs.declared.instr.CallInstr.{CallInstr}
 use Rattle.zl_code.specs.Instructions.{row_of}
 use Rattle.zl_code.specs.Local.{reg}
 use Rattle.zl_code.specs.Spells.{call_parts}
-use Rattle.zl_code.specs.Tests.{Operand, any, answer_if, with_rights, copy_of, entry_at, object_at, examined, by_policy, first_bytes, first_handles, queue_at}
+use Rattle.zl_code.specs.Tests.{answer_if, with_rights, copy_of, entry_at, object_at, first_bytes, first_handles, queue_at}
+use Rattle.zl_code.specs.Operands.{Operand, any, examined, by_policy}
 use Rattle.zl_code.specs.Waiting.{first_values, packets_at}
 use Rattle.zl_code.specs.Effects.{process_with, new_entry, may_get_all, told_of}
 use Rattle.zl_code.specs.CallTable.{Request, dup, replace, chan_read_etc, listed, new_handles, entering_at, gives_ok}

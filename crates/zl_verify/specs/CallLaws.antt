@@ -1,11 +1,9 @@
 -- What the law of the calls of a process says.
-use Rattle.std.specs.Prelude.{ℕ, ◌≡◌, ◌≤◌, ◌<◌, ℤ, Bool, true, false, List, [], length, Option, Some, None, IsTrue, slice_index}
+use Rattle.std.specs.Prelude.{ℕ, ◌≡◌, ◌≤◌, ◌<◌, ℤ, List, [], length, Option, Some, None, IsTrue, slice_index}
 use Rattle.std.specs.List.{AllByRecursion}
 use Rattle.zl_rights.specs.Common.{get, World, Cpu, Process, Ready, Blocked, Object, queue_of}
 use Rattle.zl_rights.specs.Numbers.{KILLED}
 use Rattle.zl_rights.specs.World.{Awaited, Message, Packet}
-use Rattle.zl_rights.specs.declared.status.Status.{Status}
-use Rattle.zl_rights.specs.declared.status.Status.TheVariants as status
 use Rattle.zl_code.specs.declared.history.CallName.{CallName}
 use Rattle.zl_code.specs.declared.history.CallName.TheVariants as name
 use Rattle.zl_code.specs.declared.instr.CallInstr.{CallInstr}
@@ -57,13 +55,6 @@ pub record StandsAtCall (i : Image) (t : ℕ → Option State) (w : World) (p : 
   pub next : next_at i q.cpu ≡ AtCall called s
 
 -- ---- what becomes of the process
-
--- the answers that tell of a handle that isn't live, is of another kind, or lacks a right, or of a policy that denies
-abbrev pub is_fault : Status → Bool
-is_fault status.BadHandle = true
-is_fault status.WrongType = true
-is_fault status.AccessDenied = true
-is_fault _ = false
 
 -- where the followed edges of the n-th instruction lead at this state, of a pause too
 abbrev pub ends_by : Image → ℕ → Option State → List ℕ

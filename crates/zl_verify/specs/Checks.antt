@@ -19,6 +19,13 @@ pub record IsAccepted (i : Image) (states : List (Option State)) (steps : List (
   pub typing : IsTyping i (at states)
   pub bound : IsStepBound i (at states) (at steps)
 
+-- the image has a typing and a step bound of it
+pub record HasStepBound (i : Image) : Type 0 where
+  pub states : ℕ → Option State
+  pub typing : IsTyping i states
+  pub steps : ℕ → Option ℕ
+  pub bound : IsStepBound i states steps
+
 -- a typing whose states lie below those of every typing
 pub record IsLeastTyping (i : Image) (t : ℕ → Option State) : Type 0 where
   pub typing : IsTyping i t

@@ -12,7 +12,7 @@ use Rattle.zl_code.specs.declared.image.SlotArray.{SlotArray}
 use Rattle.zl_code.specs.declared.instr.CallInstr.{CallInstr}
 use Rattle.zl_code.specs.declared.instr.CallInstr.TheVariants as call
 use Rattle.zl_code.specs.Image.{Image, is_among, call_at}
-use Rattle.zl_code.specs.Tests.{creates}
+use Rattle.zl_code.specs.Operands.{creates}
 use Rattle.zl_abs.specs.declared.value.AbsVal.{AbsVal}
 use Rattle.zl_abs.specs.declared.value.AbsVal.TheVariants.{Word, Has, KindOf, RightsOf}
 use Rattle.zl_abs.specs.Values.{ANY, kind_below, is_has}

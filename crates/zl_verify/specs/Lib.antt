@@ -13,7 +13,7 @@ pub mod Conforms
 pub mod LocalLaws
 pub mod CallLaws
 pub mod SizedLaws
+pub mod Covered
 pub mod WakeLaws
 pub mod RunLaws
-pub mod Headline
 pub mod NoLeak

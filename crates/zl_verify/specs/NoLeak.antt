@@ -3,9 +3,9 @@ use Rattle.std.specs.Prelude.{ℕ, ◌≡◌, ◌↔◌, ◌&&◌, ◌==◌, nat
 use Rattle.std.specs.List.{concat, filter, Contains, IsDistinct}
 use Rattle.zl_rights.specs.Common.{get, has_key, lives, Cpu, Process}
 use Rattle.zl_code.specs.Image.{Image}
+use Rattle.zl_code.specs.Headline.{HoldsFromItsStart}
 use Rattle.zl_abs.specs.Values.{is_has}
 use Rattle.zl_abs.specs.States.{State}
-use Rattle.zl_verify.specs.Headline.{HoldsFromItsStart}
 
 -- the values of handles in the registers that the state types as handles; 0 is none, where it may stand there
 unfoldable pub values_in_registers : State → List ℕ → List ℕ

@@ -1,15 +1,16 @@
 -- What the law of the sizes of registers and queues says.
-use Rattle.std.specs.Prelude.{ℕ, ◌≡◌, ◌≤◌, ◌<◌, List, Some, IsTrue, slice_index}
+use Rattle.std.specs.Prelude.{ℕ, ◌≡◌, ◌≤◌, ◌<◌, List, Some, slice_index}
 use Rattle.std.specs.List.{AllByRecursion, flat_map}
-use Rattle.zl_rights.specs.Common.{get, World, Cpu, Process}
+use Rattle.zl_rights.specs.Common.{get, Map, World, Cpu, Process, Object, Body, queue_of}
+use Rattle.zl_rights.specs.World.{Wait}
+use Rattle.zl_code.specs.Waiting.{packets_in}
+use Rattle.zl_verify.specs.CallLaws.{IsSizedMessage, IsSizedPacket}
 use Rattle.zl_code.specs.declared.boot.Statement.{Statement}
-use Rattle.zl_code.specs.declared.boot.Statement.TheVariants as statement
 use Rattle.zl_code.specs.declared.history.TraceItem.{TraceItem}
 use Rattle.zl_code.specs.Image.{Library}
-use Rattle.zl_code.specs.Spells.{is_in_range}
-use Rattle.zl_code.specs.Boot.{IsBoot}
 use Rattle.zl_code.specs.Handles.{Throughout}
 use Rattle.zl_code.specs.Steps.{Runs, single, IsLegalHistory}
+use Rattle.zl_code.specs.Headline.{IsSizedBoot}
 use Rattle.zl_abs.specs.Values.{ANY}
 use Rattle.zl_verify.specs.Conforms.{place_at}
 
@@ -29,18 +30,30 @@ IsSizedCpu c = AreSized c.registers c.memory c.slots
 abbrev pub CpusAreSized : World → Type 0
 CpusAreSized w = (p : ℕ) (q : Process) → get w.processes p ≡ Some q → IsSizedCpu q.cpu
 
+-- ---- a world
+
+-- what is queued in such a body fits who receives it, and what is raised at its object is a signal
+pub record IsSizedObject (body : Body) (raised : ℕ) : Type 0 where
+  pub messages : AllByRecursion IsSizedMessage (queue_of body)
+  pub packets : AllByRecursion IsSizedPacket (packets_in (Some body))
+  pub signals : raised ≤ 0xffff_ffff
+
+-- the packet of a wait fits who receives it
+pub record IsSizedWait (x : Wait) : Type 0 where
+  pub key : x.key ≤ ANY
+  pub mask : x.mask ≤ ANY
+
+-- processes, objects and waits are sized
+pub record AllAreSized (ps : Map Process) (os : Map Object) (ws : List Wait) : Type 0 where
+  pub cpus : (p : ℕ) (q : Process) → get ps p ≡ Some q → IsSizedCpu q.cpu
+  pub kept : (k : ℕ) (o : Object) → get os k ≡ Some o → IsSizedObject o.body o.raised
+  pub waits : AllByRecursion IsSizedWait ws
+
+-- those of the world
+abbrev pub IsSized : World → Type 0
+IsSized w = AllAreSized w.processes w.objects w.waits
+
 -- ---- where a run begins
-
--- the word that a process of the statement starts with; 0 where it makes none
-abbrev pub word_of : Statement → ℕ
-word_of (statement.Process job program word handles) = word
-word_of _ = 0
-
--- The images are in their ranges, the words have 64 bits, and w is a boot world of the statements.
-pub record IsSizedBoot (lib : Library) (statements : List Statement) (w : World) : Type 0 where
-  pub images : AllByRecursion (λ g. IsTrue (is_in_range g.image)) lib
-  pub words : AllByRecursion (λ s. word_of s ≤ ANY) statements
-  pub boots : IsBoot lib statements w
 
 -- P is true of the last world of each run from such a boot world
 abbrev pub HoldsInRuns : (World → Type 0) → Type 0

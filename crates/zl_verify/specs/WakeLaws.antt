@@ -1,27 +1,25 @@
 -- What the laws of starting and waking say.
-use Rattle.std.specs.Prelude.{ℕ, ◌≡◌, ◌≤◌, Bool, List, [], ◌∷◌, Option, Some, None, IsTrue, slice_get}
+use Rattle.std.specs.Prelude.{ℕ, ◌≡◌, ◌≤◌, List, [], Option, Some, None, IsTrue}
 use Rattle.zl_rights.specs.Common.{get, World, Process, Blocked, Ended}
 use Rattle.zl_rights.specs.Numbers.{KILLED}
 use Rattle.zl_rights.specs.World.{Awaited}
 use Rattle.zl_rights.specs.declared.entry.Entry.{Entry}
-use Rattle.zl_rights.specs.declared.policy.Condition.{Condition}
 use Rattle.zl_code.specs.declared.boot.Statement.{Statement}
-use Rattle.zl_code.specs.declared.history.CallName.TheVariants as name
 use Rattle.zl_code.specs.declared.history.TraceItem.{TraceItem}
-use Rattle.zl_code.specs.declared.image.Start.{Start}
-use Rattle.zl_code.specs.Image.{Image, Library, is_among}
-use Rattle.zl_code.specs.Tests.{object_at, creates}
+use Rattle.zl_code.specs.Image.{Image, Library}
 use Rattle.zl_code.specs.Effects.{may_get_all}
 use Rattle.zl_code.specs.Boot.{started_process}
 use Rattle.zl_code.specs.Starting.{created_process}
-use Rattle.zl_code.specs.CallTable.{process_start}
-use Rattle.zl_code.specs.Request.{Site}
-use Rattle.zl_code.specs.Steps.{AtCall, Step, Runs, next_for}
+use Rattle.zl_code.specs.Steps.{Step, Runs}
 use Rattle.zl_abs.specs.Values.{ANY}
 use Rattle.zl_abs.specs.States.{State}
-use Rattle.zl_verify.specs.Conforms.{IsAs, Conforms}
+use Rattle.zl_verify.specs.Conforms.{Conforms}
 use Rattle.zl_verify.specs.CallLaws.{IsAnswered}
-use Rattle.zl_verify.specs.SizedLaws.{IsSizedBoot}
+use Rattle.std.specs.List.{AllByRecursion}
+use Rattle.zl_code.specs.Spells.{is_in_range}
+use Rattle.zl_code.specs.Sound.{IsSound}
+use Rattle.zl_code.specs.Headline.{IsSizedBoot}
+use Rattle.zl_verify.specs.SizedLaws.{IsSized}
 
 -- ---- the end of a step
 
@@ -32,6 +30,13 @@ pub record IsRunStep (lib : Library) (w : World) (p : ℕ) (x : TraceItem) (w2 :
   pub items : List TraceItem
   pub begins : IsSizedBoot lib statements boot
   pub run : Runs lib boot items w
+  pub step : Step lib w p x w2
+
+-- A step from w to w2 with what the laws of steps need of w, however it came about.
+pub record IsFitStep (lib : Library) (w : World) (p : ℕ) (x : TraceItem) (w2 : World) : Type 0 where
+  pub images : AllByRecursion (λ g. IsTrue (is_in_range g.image)) lib
+  pub sound : IsSound w
+  pub sized : IsSized w
   pub step : Step lib w p x w2
 
 -- What becomes of the process p, which was q, till the step ends with w2.
@@ -50,28 +55,6 @@ pub data OthersLeave (i : Image) (t : ℕ → Option State) (p : ℕ) (q : Proce
 
 -- ---- a start
 
--- each handle is of the kind and has the rights that are declared of it, and there is one for each that is declared
-abbrev pub AreAsDeclared : List Start → List Entry → Type 0
-AreAsDeclared [] [] = Unit {0}
-AreAsDeclared (s ∷ ss) (e ∷ es) = IsAs s.kind s.rights (Some e) × AreAsDeclared ss es
-AreAsDeclared _ _ = ⊥
-
--- The process p of w, which is q, has just been started by this image with what the image declares, and its job allows what the image needs.
-pub record IsProperStart (i : Image) (w : World) (p : ℕ) (q : Process) : Type 0 where
-  pub library : Library
-  pub program : ℕ
-  pub checked : Bool
-  pub running : slice_get library program ≡ Some (record { checked = checked; image = i })
-  -- its handles, their values, and its word
-  pub handles : List Entry
-  pub values : List ℕ
-  pub word : ℕ
-  pub made : q ≡ started_process library program handles values word
-  pub free : IsTrue (may_get_all (created_process library program) handles values)
-  pub declared : AreAsDeclared i.starts handles
-  pub small : word ≤ ANY
-  pub allowed : (c : Condition) → IsTrue (is_among i.needs c) → creates w p c ≡ None
-
 -- The process is as a statement of a boot started it: by a program of the library, with handles at values that they may get, and a word.
 pub record IsBooted (lib : Library) (q : Process) : Type 0 where
   pub program : ℕ
@@ -81,14 +64,3 @@ pub record IsBooted (lib : Library) (q : Process) : Type 0 where
   pub made : q ≡ started_process lib program handles values word
   pub free : IsTrue (may_get_all (created_process lib program) handles values)
   pub small : word ≤ ANY
-
--- The process p of w, which is q, stands at process_start, which is to give the process k a handle and a word.
-pub record StartsChild (lib : Library) (w : World) (p : ℕ) (q : Process) (k : ℕ) : Type 0 where
-  pub site : Site
-  pub next : next_for lib q ≡ AtCall name.ProcessStart site
-  -- the handles by their values
-  pub process : ℕ
-  pub handle : ℕ
-  pub word : ℕ
-  pub asks : site.request ≡ process_start process handle word
-  pub child : object_at w p process ≡ k

@@ -7,7 +7,7 @@ ghost use Rattle.zl_verify.specs.Lists.{at};
 ghost use Rattle.zl_verify.specs.Blocks.{states_of};
 ghost use Rattle.zl_verify.specs.Steps.{IsStepBound};
 ghost use Rattle.zl_verify.specs.Checks.{IsLeastTyping, IsRefused};
-ghost use Rattle.zl_verify.specs.Headline.{IsNeverRefused};
+ghost use Rattle.zl_code.specs.Headline.{IsNeverRefused};
 ghost use Rattle.zl_verify.specs.NoLeak.{NeverLeaks};
 
 use crate::ahead::bound_ahead;

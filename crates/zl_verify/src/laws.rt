@@ -14,14 +14,15 @@ ghost use Rattle.zl_code.specs.declared.history.TraceItem.{TraceItem};
 ghost use Rattle.zl_code.specs.declared.history.TraceItem.TheVariants as item;
 ghost use Rattle.zl_code.specs.declared.instr.CallInstr.{CallInstr};
 ghost use Rattle.zl_code.specs.Image.{Image, Library, call_at, is_among};
-ghost use Rattle.zl_code.specs.Tests.{creates};
+ghost use Rattle.zl_code.specs.Operands.{by_policy, creates, examined};
+ghost use Rattle.zl_code.specs.Refusals.{condition_of, handle_operands};
 ghost use Rattle.zl_rights.specs.declared.policy.Condition.{Condition};
 ghost use Rattle.zl_code.specs.Spells.{is_in_range};
 ghost use Rattle.zl_code.specs.Handles.{HandlesAreSound};
 ghost use Rattle.zl_code.specs.Request.{Site};
 ghost use Rattle.zl_code.specs.Calls.{Calls};
 ghost use Rattle.zl_code.specs.Starting.{program_of};
-ghost use Rattle.zl_code.specs.Steps.{Moves, IsStuck, Runs, next_at};
+ghost use Rattle.zl_code.specs.Steps.{Moves, IsStuck, Runs, Step, next_at, pid_of};
 ghost use Rattle.zl_abs.specs.States.{State};
 ghost use Rattle.zl_abs.specs.Rule.{Edge};
 ghost use Rattle.zl_abs.specs.Typing.{rule, IsTyping};
@@ -29,14 +30,19 @@ ghost use Rattle.zl_verify.specs.Steps.{is_pause, IsStepBound, IsOver};
 ghost use Rattle.zl_verify.specs.Over.{IsOverByCount};
 ghost use Rattle.zl_verify.specs.Conforms.{Conforms};
 ghost use Rattle.zl_verify.specs.LocalLaws.{GoesOn};
-ghost use Rattle.zl_verify.specs.CallLaws.{QueuesAreSized, StandsAtCall, is_fault};
+ghost use Rattle.zl_verify.specs.CallLaws.{QueuesAreSized, StandsAtCall};
 ghost use Rattle.zl_verify.specs.CallLaws.{IsAnswered, IsWaiting, IsOwnEnd, CanCall};
-ghost use Rattle.zl_verify.specs.RunLaws.{IsFineItem, IsUnderWay, HasEnded, KeepsBudget};
-ghost use Rattle.zl_verify.specs.SizedLaws.{IsSizedBoot, CpusAreSized};
+ghost use Rattle.zl_verify.specs.RunLaws.{IsFineItem, IsUnderWay, HasEnded};
+ghost use Rattle.zl_verify.specs.SizedLaws.{CpusAreSized};
 ghost use Rattle.zl_verify.specs.SizedLaws.{HoldsInRuns, HoldsInHistories};
-ghost use Rattle.zl_verify.specs.WakeLaws.{AreAsDeclared, IsProperStart};
-ghost use Rattle.zl_verify.specs.WakeLaws.{IsBooted, IsRunStep, EndsStep, OthersLeave, StartsChild};
-ghost use Rattle.zl_verify.specs.Headline.{IsStarted};
+ghost use Rattle.zl_verify.specs.WakeLaws.{IsBooted, IsRunStep, EndsStep, OthersLeave};
+ghost use Rattle.zl_verify.specs.Covered.{IsVerified, IsCovered, IsAble};
+ghost use Rattle.zl_code.specs.Sound.{IsSound};
+ghost use Rattle.zl_code.specs.Boot.{are_declared};
+ghost use Rattle.zl_code.specs.Headline.{is_fault, KeepsBudget, IsSizedBoot, IsProperStart, StartsChild, IsStarted};
+ghost use Rattle.zl_code.specs.Headline.{IsNeverRefused, CoveredGoWell};
+ghost use Rattle.zl_verify.specs.Checks.{HasStepBound};
+ghost use Rattle.zl_verify.specs.NoLeak.{NeverLeaks};
 
 /// In a world with sound handles, a process that is as a typing of its image says is never stuck.
 /// After a local instruction it stands at the end of a followed edge, and is there as the typing
@@ -100,16 +106,17 @@ pub fn runs_keep_queues_sized()
 /// their packets and processes are awake: it is as it was, or it waited, and stands ready at the
 /// end of a followed edge. Own profile.
 pub fn start_and_wake()
-    ensures starts { (i : Image) (t : ℕ → Option State) (w : World) (p : ℕ) (q : Process)
-        → IsTrue (is_in_range i) → IsTyping i t → IsProperStart i w p q → Conforms i t w p q }
+    ensures starts { (i : Image) (t : ℕ → Option State)
+        (lib : Library) (w : World) (p : ℕ) (q : Process)
+        → IsTrue (is_in_range i) → IsTyping i t → IsProperStart lib i w p q → Conforms i t w p q }
     ensures boots { (lib : Library) (statements : List Statement) (boot : World)
         (p : ℕ) (q : Process)
         → IsSizedBoot lib statements boot → get boot.processes p ≡ Some q
         → (s : IsBooted lib q) × ((i : Image) (checked : Bool)
         → slice_get lib s.program ≡ Some (record { checked = checked; image = i })
-        → AreAsDeclared i.starts s.handles
+        → IsTrue (are_declared i.starts s.handles)
         → ((c : Condition) → IsTrue (is_among i.needs c) → creates boot p c ≡ None)
-        → IsProperStart i boot p q) }
+        → IsProperStart lib i boot p q) }
     ensures wakes { (i : Image) (t : ℕ → Option State)
         (lib : Library) (w : World) (p : ℕ) (x : TraceItem) (w2 : World)
         → IsTrue (is_in_range i) → IsTyping i t → (run : IsRunStep lib w p x w2)
@@ -186,4 +193,57 @@ pub fn over_is_by_count()
         → is_pause (call_at i n) ≡ false → rule i n s ≡ Ok edges → edges ≢ [] }
     ensures same { (i : Image) (t : ℕ → Option State) (n : ℕ)
         → IsTyping i t → (IsOver i t n ↔ IsOverByCount i t n) }
+{}
+
+/// In a boot world each process of a checked program is as a typing of its image says, and each step
+/// from a sound world keeps this of all of them at once: of who steps, of those who wake or are
+/// started, and of the others. Own profile.
+pub fn covered_stay()
+    ensures boots { (lib : Library) (statements : List Statement) (boot : World)
+        → IsVerified lib → IsSizedBoot lib statements boot → IsCovered lib boot }
+    ensures steps { (lib : Library) (w : World) (x : TraceItem) (w2 : World)
+        → IsVerified lib → IsSound w → IsCovered lib w → Step lib w (pid_of x) x w2
+        → IsCovered lib w2 }
+{}
+
+/// A Cpu that is as some typing of its image says, with some table, is never stuck, and a local
+/// instruction leaves it so: the table stays as it is. A process that conforms has such a Cpu. Own
+/// profile.
+pub fn able_stay()
+    ensures not_stuck { (i : Image) (c : Cpu) → IsTrue (is_in_range i) → IsAble i c
+        → next_at i c ≢ IsStuck }
+    ensures goes_on { (i : Image) (c d : Cpu) → IsTrue (is_in_range i) → IsAble i c
+        → next_at i c ≡ Moves d → IsAble i d }
+    ensures conforming { (i : Image) (t : ℕ → Option State) (w : World) (p : ℕ) (q : Process)
+        → IsTrue (is_in_range i) → IsTyping i t → HandlesAreSound w
+        → get w.processes p ≡ Some q → Conforms i t w p q → IsAble i q.cpu }
+{}
+
+/// A process that stands at a call as a typing of its image says passes what is examined first: each
+/// of its handle operands is live, of its kind and with its rights, from left to right, and no policy
+/// keeps it from making an object. Own profile.
+pub fn operands_pass()
+    ensures operands { (i : Image) (t : ℕ → Option State) (w : World) (p : ℕ) (q : Process)
+        (called : CallName) (s : Site) → StandsAtCall i t w p q called s
+        → examined w p [] (handle_operands s.request) ≡ None }
+    ensures policy { (i : Image) (t : ℕ → Option State) (w : World) (p : ℕ) (q : Process)
+        (called : CallName) (s : Site) → StandsAtCall i t w p q called s
+        → by_policy w p (condition_of s.request) ≡ None }
+{}
+
+/// What has a typing with a step bound is what the headline speaks of, and doesn't leak: an accepted
+/// image, and so each image of which it is known that it would be accepted. Own profile.
+pub fn bounded_images_are_sound()
+    ensures never_refused { (i : Image) → HasStepBound i → IsNeverRefused i }
+    ensures no_leak { (i : Image) (t : ℕ → Option State) → IsTyping i t → NeverLeaks i t }
+{}
+
+/// In every legal history from a boot world, each process that runs a program that is listed as checked
+/// goes well from its start on, whether the boot started it or a `process_start` answered OK: no item
+/// of it is answered BAD_HANDLE, WRONG_TYPE or ACCESS_DENIED, is stuck or an end by a policy, and its
+/// budget is kept over the items, local instructions that are joined in one item among them. Own
+/// profile.
+pub fn covered_processes_go_well()
+    ensures { (lib : Library) (statements : List Statement) (boot : World) (history : List TraceItem)
+        → IsVerified lib → IsSizedBoot lib statements boot → CoveredGoWell lib boot history }
 {}

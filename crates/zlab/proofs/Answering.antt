@@ -12,6 +12,8 @@ use Rattle.zl_sched.specs.declared.system.End.{End}
 use Rattle.zlab.specs.Assembling.{BeginsAssembly, nothing_written}
 use Rattle.zl_sched.proofs.Legal.{ends_legal}
 use Rattle.zlab.proofs.SoundWorlds.{always_sound}
+use Rattle.zlab.proofs.Programs.{are_verified}
+use Rattle.zl_verify.proofs.CoveredRuns.{covered_go_well}
 
 -- ---- facts of a result
 
@@ -42,7 +44,8 @@ module _ (text : List ℕ) (s : System) (pairs : List (ℕ × ℕ)) (start : IsS
     boot = s.lab.world;
     boots = start.boots;
     legal = legal;
-    sound = always_sound s.lab.programs start.said.statements s.lab.world last.lab.world walks.more start.boots legal;
+    sound = always_sound s.lab.programs start.said.statements s.lab.world last.lab.world walks.more start.boots.boots legal;
+    covered = covered_go_well s.lab.programs start.said.statements s.lab.world (are_verified s.lab.programs start.boots.images start.accepted) start.boots walks.more;
     room = omega (arith, walks.room, start.limit, ap length start.items);
     ends = subst (λ (turns : List (ℕ × ℕ)). EndsBy s.lab.programs s.lab.world (turns_of turns) start.said.limit walks.more last.lab.world e) start.schedule
         (subst (λ (limit : ℕ). EndsBy s.lab.programs s.lab.world (turns_of pairs) limit walks.more last.lab.world e) room walks.ends);

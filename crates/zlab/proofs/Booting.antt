@@ -1,6 +1,7 @@
 -- What the text leads to before the first step.
 use Rattle.zlab.proofs.Common.{◌≡◌, ℕ, ◌<◌, List, [], length, get_or, Some, None, sym, ap, ◌∙◌, subst, arith, slice_get, slice_get-get_or, none-some, IsBoot, FirstFault, at_statement, at_limit, slice_index_or, IsFirstFault, of_statement, of_reading, line_cause, IsStart, FitsInput, Reading, IsRead, Option, IsInOrder, System}
 use Rattle.zl_code.proofs.Common.{World}
+use Rattle.zl_code.specs.Headline.{IsSizedBoot}
 use Rattle.std.proofs.lemmas.Option.{slice_get_within}
 use Rattle.zl_code.specs.declared.boot.BootCause.{BootCause}
 use Rattle.zl_code.specs.declared.boot.BootCause.TheVariants as boot
@@ -35,7 +36,7 @@ module _ (text : List ℕ) (fits : FitsInput text) (scenario : Made) (reading : 
   pub reading_fault : (w : World) (fault : LineFault) → IsBoot scenario.library scenario.boot.statements.items w → reading.fault ≡ Some fault → IsFirstFault text fault
   reading_fault w fault boots faulty = of_reading reading scenario.library w fault fits reads is.programs (subst (λ (ss : List Statement). IsBoot scenario.library ss w) is.statements boots) faulty
 
-  pub is_start : (s : System) (pairs : List (ℕ × ℕ)) → reading.fault ≡ None → s.lab.programs ≡ scenario.library → IsBoot scenario.library scenario.boot.statements.items s.lab.world
+  pub is_start : (s : System) (pairs : List (ℕ × ℕ)) → reading.fault ≡ None → s.lab.programs ≡ scenario.library → IsSizedBoot scenario.library scenario.boot.statements.items s.lab.world
       → s.items ≡ [] → s.limit ≡ scenario.boot.limit → pairs ≡ scenario.schedule.items → IsStart text s pairs
   is_start s pairs no_fault programs boots items limit schedule = record {
     fits = fits;
@@ -43,7 +44,7 @@ module _ (text : List ℕ) (fits : FitsInput text) (scenario : Made) (reading : 
     read = subst (λ (f : Option LineFault). IsRead text (record { said = reading.said; fault = f })) no_fault reads;
     programs = rw programs is.programs;
     accepted = rw programs is.accepted;
-    boots = rw programs (subst (λ (ss : List Statement). IsBoot scenario.library ss s.lab.world) is.statements boots);
+    boots = rw programs (subst (λ (ss : List Statement). IsSizedBoot scenario.library ss s.lab.world) is.statements boots);
     items = items;
     limit = limit ∙ is.limit;
     schedule = schedule ∙ is.schedule;

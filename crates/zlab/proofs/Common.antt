@@ -22,7 +22,8 @@ pub use Rattle.zl_trace.specs.Lines.{is_comment, words_of}
 unfoldable pub use Rattle.zlab.specs.Lines.{bytes_of_digits, digits_of, number_of}
 pub use Rattle.zlab.specs.Scenario.{Asm, Block, BlocksAreWhole, Body, DigitsAreWhole, Hex, IsInOrder, Listed, MOST_PROGRAMS, Part, Place, Reading, Rises, Scenario, Schedule, Statements, TextIsWhole, after_block, at, bytes_said, digits_said, fault_at_end, joined, object_said, onto, onto_block, opened_by, opening, part_said, reading_of, refused_at, start, text_spelled, told_line, with_program, with_schedule, with_statement}
 unfoldable pub use Rattle.zlab.specs.Scenario.{block_said, body_named, body_said, digits_in, digits_spelled, is_end, limit_said, line_said, mark_named, object_named, pair_said, process_said, program_said, reading_from, statement_said, text_in, turns_said}
-pub use Rattle.zlab.specs.Accepted.{AcceptsImage, HasNoStepBound, HasStepBound, RefusesImage, SpellOneThat}
+pub use Rattle.zlab.specs.Accepted.{AcceptsImage, HasNoStepBound, RefusesImage, SpellOneThat}
+pub use Rattle.zl_verify.specs.Checks.{HasStepBound}
 pub use Rattle.zlab.specs.Reads.{IsPassed, IsRead, IsStopped, Reads, TextsAreReadAsSaid, TextsAreReadOnce, at_end, line_faulty, line_taken, listed, program_refused}
 unfoldable pub use Rattle.zlab.specs.Reads.{whole_at, whole_in}
 pub use Rattle.zlab.specs.Text.{cause_name, refused_line}

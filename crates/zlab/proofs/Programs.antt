@@ -1,5 +1,11 @@
 -- The programs of a scenario, and the bytes that spell them.
 use Rattle.zlab.proofs.Common.{◌≡◌, ℕ, ◌<◌, Bool, true, ◌&&◌, ltb, List, [], ◌∷◌, ◌++◌, length, Result, Ok, IsTrue, refl, sym, ap, ◌∙◌, arith, list_all, and_parts, nat_tests, list_all-append, Image, Library, Program, Spells, spelling, is_in_range, Scenario, MOST_PROGRAMS, with_program, program_said, AcceptsImage, IsPassed, listed}
+use Rattle.std.proofs.Common.{zero, suc, subst, Some}
+use Rattle.std.proofs.lemmas.Option.{none-some, same_Some}
+use Rattle.std.specs.List.{AllByRecursion}
+use Rattle.std.specs.Prelude.{slice_get}
+use Rattle.zl_verify.specs.Checks.{HasStepBound}
+use Rattle.zl_verify.specs.Covered.{IsVerified}
 use Rattle.zlab.specs.declared.fault.Cause.{Cause}
 use Rattle.zlab.specs.Reading.{Lists, AreAccepted, IsLibrary, spellings, has_ranges}
 
@@ -42,3 +48,13 @@ module _ (checked : Bool) (image : Image) (given : Result (List ℕ) Cause) (giv
   -- it is accepted
   pub passed : IsTrue (is_in_range image) → AcceptsImage checked image → IsPassed (listed checked given)
   passed in_range accepts = rw gives (record { image = image; spelled = record { same = refl; in_range = in_range }; is_true = accepts })
+
+-- ---- what the laws of checked programs ask of a library
+
+accepted_at : (library : Library) (n : ℕ) (i : Image) → AreAccepted library → slice_get library n ≡ Some (record { checked = true; image = i }) → HasStepBound i
+accepted_at [] n i all at = absurd (none-some _ at)
+accepted_at (p ∷ library) zero i all at = subst (λ (q : Program). AcceptsImage q.checked q.image) (same_Some p _ at) all.0
+accepted_at (p ∷ library) (suc n) i all at = accepted_at library n i all.1 at
+
+pub are_verified : (library : Library) → AllByRecursion (λ g. IsTrue (is_in_range g.image)) library → AreAccepted library → IsVerified library
+are_verified library images all = record { images = images; bounds = λ n i at. accepted_at library n i all at }

@@ -1,16 +1,7 @@
 -- What the rules say of an image, and of the bytes of one.
-use Rattle.std.specs.Prelude.{ℕ, Bool, true, false, List, Option}
+use Rattle.std.specs.Prelude.{ℕ, Bool, true, false, List}
 use Rattle.zl_code.specs.Common.{Image, Spells}
-use Rattle.zl_abs.specs.States.{State}
-use Rattle.zl_abs.specs.Typing.{IsTyping}
-use Rattle.zl_verify.specs.Steps.{IsStepBound}
-
--- the image has a typing and a step bound of it
-pub record HasStepBound (i : Image) : Type 0 where
-  pub states : ℕ → Option State
-  pub typing : IsTyping i states
-  pub steps : ℕ → Option ℕ
-  pub bound : IsStepBound i states steps
+use Rattle.zl_verify.specs.Checks.{HasStepBound}
 
 -- no typing of the image has a step bound
 pub record HasNoStepBound (i : Image) : Type 0 where

@@ -5,14 +5,13 @@ use Rattle.zl_code.specs.Common.{Image, Spells}
 use Rattle.zl_code.specs.Spells.{first_fault}
 use Rattle.zl_code.specs.declared.image.DecodeFault.{DecodeFault}
 use Rattle.zl_code.specs.declared.image.DecodeFault.TheVariants as fault
-use Rattle.zl_verify.specs.Checks.{IsRefused}
+use Rattle.zl_verify.specs.Checks.{HasStepBound, IsRefused}
 use Rattle.zl_verify.specs.Names.{cause_name}
 use Rattle.zl_verify.specs.declared.refusal.RefusalCause.TheVariants as cause
 use Rattle.zlab.specs.declared.checking.Finding.{Finding}
 use Rattle.zlab.specs.declared.checking.Finding.TheVariants as finding
 use Rattle.zlab.specs.declared.fault.Verdict.{Verdict}
 use Rattle.zlab.specs.declared.fault.Verdict.TheVariants as verdict
-use Rattle.zlab.specs.Accepted.{HasStepBound}
 use Rattle.zlab.specs.Engine.{IsTextOf}
 use Rattle.zlab.specs.Input.{TakesAtMost}
 use Rattle.zl_trace.specs.Output.{AppendsBeginning}

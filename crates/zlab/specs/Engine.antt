@@ -7,6 +7,7 @@ use Rattle.zl_code.specs.declared.boot.BootCause.{BootCause}
 use Rattle.zl_code.specs.declared.boot.BootCause.TheVariants as boot
 use Rattle.zl_code.specs.declared.history.TraceItem.{TraceItem}
 use Rattle.zl_code.specs.Handles.{Throughout}
+use Rattle.zl_code.specs.Headline.{IsSizedBoot, CoveredGoWell}
 use Rattle.zlab.specs.declared.engine.Booted.{Booted}
 use Rattle.zlab.specs.declared.engine.Booted.TheVariants as booted
 use Rattle.zlab.specs.declared.fault.Cause.{Cause}
@@ -43,8 +44,10 @@ pub record IsRunOf (text : List ℕ) (items : List TraceItem) (w : World) (e : E
   pub programs : Lists said.programs library
   pub accepted : AreAccepted library
   pub boot : World
-  pub boots : IsBoot library said.statements boot
+  pub boots : IsSizedBoot library said.statements boot
   pub legal : IsLegalHistory library boot items w
+  -- no process of a checked program is answered BAD_HANDLE, WRONG_TYPE or ACCESS_DENIED, is stuck, ended by a policy or past its budget, until somebody kills it
+  pub covered : CoveredGoWell library boot items
   -- no two handles stand at one place, none has a right that its kind doesn't give, and each names an object that is there
   pub sound : InEachWorld IsSound library boot items w legal
   pub room : length items ≤ said.limit
@@ -140,7 +143,7 @@ pub record IsStart (text : List ℕ) (s : System) (pairs : List (ℕ × ℕ)) : 
   pub read : IsRead text (record { said = said; fault = None })
   pub programs : Lists said.programs s.lab.programs
   pub accepted : AreAccepted s.lab.programs
-  pub boots : IsBoot s.lab.programs said.statements s.lab.world
+  pub boots : IsSizedBoot s.lab.programs said.statements s.lab.world
   pub items : s.items ≡ []
   pub limit : s.limit ≡ said.limit
   pub schedule : pairs ≡ said.schedule

@@ -10,7 +10,7 @@ use Rattle.zl_rights.specs.declared.entry.Entry.{Entry}
 use Rattle.zl_rights.specs.LookUp.{looked_up}
 use Rattle.zl_rights.specs.Numbers.{TRANSFER, WRITE}
 use Rattle.zl_code.specs.Effects.{new_entry}
-use Rattle.zl_code.specs.Tests.{contains}
+use Rattle.zl_code.specs.Operands.{contains}
 use Rattle.zl_table.specs.Table.{Handles, Inserts}
 use Rattle.zl_objects.specs.declared.object.Object.{Object}
 use Rattle.zl_objects.specs.Objects.{Objects, is_end_at, peer_at, sending, with_channel}

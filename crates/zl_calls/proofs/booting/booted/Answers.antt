@@ -1,6 +1,8 @@
-use Rattle.zl_calls.proofs.Common.{◌∙◌, ap, subst, get_or, List, boot_fault, Makes, IsCauseOf, seen}
+use Rattle.zl_calls.proofs.Common.{◌∙◌, ◌≤◌, ap, subst, get_or, List, boot_fault, Makes, IsCauseOf, seen}
 use Rattle.zl_code.specs.declared.boot.Statement.{Statement}
-use Rattle.zl_calls.proofs.BootRun.{none_made, one_more, first_fault, limit_fault, none_reached, some_reached}
+use Rattle.zl_code.specs.Headline.{word_of}
+use Rattle.zl_code.specs.Limits.{most_word}
+use Rattle.zl_calls.proofs.BootRun.{none_made, one_more, all_small, first_fault, limit_fault, none_reached, some_reached}
 use Rattle.zl_calls.proofs.booting.booted.Goals as goal
 
 pub returns-in_default-clause-reached : goal.returns-in_default-clause-reached
@@ -26,7 +28,9 @@ pub loop-number-preserved : goal.loop-number-preserved
 loop-number-preserved c =
     let statements = c.deref-statement-items.ensures.value in
     one_more c.args.library.now c.args.boot.now.statements.items c.loop-number.number c.statement-item.result c.loop-number.made c.make.new.self
-    (rw statements at c.loop-number-test.true) c.loop-number.invariant (subst (λ (s : Statement). Makes c.args.library.now s c.loop-number.made c.make.new.self) (c.statement-item.is ∙ ap (λ (ss : List Statement). get_or ss c.loop-number.number c.statement-item.result) statements) (c.in_default-make.ensures {u = tt}).ok)
+    (rw statements at c.loop-number-test.true) c.loop-number.invariant
+    (subst (λ (s : Statement). Makes c.args.library.now s c.loop-number.made c.make.new.self) (c.statement-item.is ∙ ap (λ (ss : List Statement). get_or ss c.loop-number.number c.statement-item.result) statements) (c.in_default-make.ensures {u = tt}).ok)
+    (subst (λ (s : Statement). word_of s ≤ most_word) (c.statement-item.is ∙ ap (λ (ss : List Statement). get_or ss c.loop-number.number c.statement-item.result) statements) (c.in_default-make.ensures {u = tt}).word)
 
 pub returns-then-boot-gt-MOST_ITEMS-clause-err : goal.returns-then-boot-gt-MOST_ITEMS-clause-err
 returns-then-boot-gt-MOST_ITEMS-clause-err c =
@@ -34,3 +38,8 @@ returns-then-boot-gt-MOST_ITEMS-clause-err c =
     rw (c.fault_at-then-boot-gt-MOST_ITEMS.ensures, c.len.ensures, c.args.boot.now.statements.ok.0)
     (λ other. limit_fault c.args.library.now c.args.boot.now.statements.items c.args.boot.now.limit c.loop-number.number c.loop-number.made
     (rw statements at c.loop-number-test.false) c.loop-number.invariant c.if-boot-gt-MOST_ITEMS.true)
+
+pub returns-clause-words : goal.returns-clause-words
+returns-clause-words c =
+    let statements = c.deref-statement-items.ensures.value in
+    all_small c.args.library.now c.args.boot.now.statements.items c.loop-number.number c.loop-number.made (rw statements at c.loop-number-test.false) c.loop-number.invariant

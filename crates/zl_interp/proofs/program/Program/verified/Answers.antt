@@ -1,0 +1,10 @@
+use Rattle.zl_verify.specs.Lists.{at}
+use Rattle.zl_interp.proofs.program.Program.verified.Goals as goal
+
+pub returns-in-Checked-clause-bound : goal.returns-in-Checked-clause-bound
+returns-in-Checked-clause-bound c = rw c.in-Checked.is (λ checked. record {
+  states = at c.in-Checked.accepted.states;
+  typing = c.image.ensures.typing;
+  steps = at c.in-Checked.accepted.steps;
+  bound = c.image.ensures.bound;
+})

@@ -10,16 +10,20 @@
 
 mod block;
 mod directive;
+mod guess;
 mod image;
 mod instr_text;
 mod instruction;
 mod lines;
+mod meant;
+mod names;
 mod nearest;
 mod program;
 mod rights;
 mod stuck;
 mod text;
 mod word;
+mod zircon;
 
 pub use crate::words::is;
 pub use block::{Block, End, block_of, is_opening, push_block_fault};
@@ -29,6 +33,7 @@ pub use lines::{
     Line, line_at, numbered_lines, place_of_blank, place_outside_ascii, push_head, push_odd_byte,
     words_of,
 };
+pub use names::push_number_named;
 pub use nearest::push_nearest;
 pub use program::explain_program;
 pub use rights::push_right_beyond;

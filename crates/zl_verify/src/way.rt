@@ -15,7 +15,7 @@ use zl_code::Image;
 
 /// Instructions that may follow one another without a wait or an exit. Own profile.
 #[derive(Drop)]
-pub(crate) struct Way {
+pub struct Way {
     /// Their numbers, each once.
     pub places: Vec<usize>,
     /// The one of them that may follow the last, if the way goes round.
@@ -24,7 +24,7 @@ pub(crate) struct Way {
 
 /// A way from the instruction of this number that is too long, in an image that `check` refuses for
 /// its budget there: it is found anew. Nothing where memory is refused. Own profile.
-pub(crate) fn way_from(alloc: Global, image: &Image, first: usize) -> Option<Way> {
+pub fn way_from(alloc: Global, image: &Image, first: usize) -> Option<Way> {
     let Ok(bounds) = Bounds::of(alloc, image) else {
         return None;
     };

@@ -8,6 +8,7 @@ ghost use Rattle.zlab.specs.Assembling.{Leads, ReadsTo, AssemblesReader, BeginsA
 ghost use Rattle.zl_trace.specs.Output.{AppendsBeginning};
 
 use crate::fault::{EngineFault, Verdict};
+use crate::hints::add_page;
 use crate::input::{Input, read_input};
 use crate::text::push_refusal;
 use std::alloc::Global;
@@ -63,6 +64,7 @@ pub fn asm_engine<R: Read, I: Write, L: Write>(
         Assembled::Refused(fault) => {
             write_fault(alloc, line, fault)?;
             explain_program(hints, alloc, kept.as_slice(), fault);
+            add_page(hints, "text");
             Ok(Verdict::Refused)
         }
     }

@@ -5,7 +5,7 @@ ghost use Rattle.zlab.specs.Checking.{BeginsCheck, ChecksReader, Finds, IsTrueOf
 ghost use Rattle.zl_trace.specs.Output.{AppendsBeginning};
 
 use crate::fault::{EngineFault, Verdict};
-use crate::hints::explain_refusal;
+use crate::hints::{add_page, explain_refusal};
 use crate::input::read_front;
 use crate::text::push_refusal;
 use std::alloc::{AllocError, Global};
@@ -69,6 +69,7 @@ fn finding_of(alloc: Global, front: &[u8], hints: &mut String) -> Result<Finding
             DecodeFault::NoMemory => Err(EngineFault::NoMemory),
             _ => {
                 explain_image(hints, front, fault);
+                add_page(hints, "image");
                 Ok(Finding::Undecodable(fault))
             }
         },

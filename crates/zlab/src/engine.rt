@@ -7,7 +7,7 @@ ghost use Rattle.zlab.specs.Text.{cause_name, refused_line};
 ghost use Rattle.zl_trace.specs.Output.{AppendsBeginning};
 
 use crate::fault::{Cause, EngineFault, LineFault, Verdict};
-use crate::hints::{explain_scenario, explain_trace};
+use crate::hints::{STANDARD_INPUT, Source, explain_run, explain_scenario};
 use crate::input::{Input, read_input};
 use crate::scenario::{Reading, Scenario, read_scenario};
 use crate::text::push_refusal;
@@ -15,7 +15,7 @@ use std::alloc::Global;
 use std::io::{Read, Write};
 use zl_code::{BootCause, BootFault};
 use zl_rights::Pid;
-use zl_sched::System;
+use zl_sched::{End, System};
 use zl_trace::{empty_block, write_all};
 
 /// Reads a scenario with a schedule, and writes the trace along the schedule or the line of the
@@ -23,8 +23,9 @@ use zl_trace::{empty_block, write_all};
 ///
 /// The trace is the text of a legal history, in each world of which handles are sound and name
 /// objects of their kind. It has as many items as the scenario's limit at most, and no more is read
-/// than one byte past 4,194,304. To `hints` it adds for a person why the input is refused, and why
-/// each stuck process is stuck.
+/// than one byte past 4,194,304. To `hints` it adds for a person why the input is refused, and of a run
+/// that the trace is full, whose turns are of nobody, why each stuck process is stuck, and that nobody
+/// can go on.
 /// A fault of the reader is `Read`, with nothing written. A fault of the writer, and a want of memory,
 /// leave nothing or a beginning of such an answer.
 pub fn step_engine<R: Read, W: Write>(
@@ -42,7 +43,7 @@ pub fn step_engine<R: Read, W: Write>(
     ensures taken { TakesNoMore (R.remaining reader.old) (R.remaining reader.new) }
 {
     let input = read_input(alloc, reader)?;
-    answer_input(alloc, writer, hints, input)
+    answer_input(alloc, writer, hints, STANDARD_INPUT, input)
 }
 
 /// Answers what was read.
@@ -50,6 +51,7 @@ pub(crate) fn answer_input<W: Write>(
     alloc: Global,
     writer: &mut W,
     hints: &mut String,
+    source: Source<'_>,
     input: Input,
 ) -> Result<Verdict, EngineFault>
     requires { IsBounded input }
@@ -60,10 +62,10 @@ pub(crate) fn answer_input<W: Write>(
     ensures fault { IfErr result (λ fault. fault ≢ EngineFault.Read) }
 {
     match input {
-        Input::Text(text) => answer(alloc, writer, hints, text.as_slice()),
+        Input::Text(text) => answer(alloc, writer, hints, source, text.as_slice()),
         Input::TooLong => {
             let ended = write_refusal(alloc, writer, TOO_LONG);
-            explain_scenario(hints, alloc, &[], TOO_LONG.line, TOO_LONG.cause.name());
+            explain_scenario(hints, alloc, source, &[], TOO_LONG);
             ended
         }
     }
@@ -86,6 +88,7 @@ fn answer<W: Write>(
     alloc: Global,
     writer: &mut W,
     hints: &mut String,
+    source: Source<'_>,
     text: &[u8],
 ) -> Result<Verdict, EngineFault>
     requires fits { FitsInput text.now }
@@ -97,13 +100,22 @@ fn answer<W: Write>(
 {
     match boot(alloc, text)? {
         Booted::Runs(mut system, schedule) => {
-            let ended = write_run(alloc, writer, &mut system, schedule.as_slice());
-            explain_trace(hints, alloc, &system);
+            let mut end = End::Schedule;
+            let ended = write_run(alloc, writer, &mut system, schedule.as_slice(), &mut end);
+            explain_run(
+                hints,
+                alloc,
+                source,
+                text,
+                &system,
+                schedule.as_slice(),
+                end,
+            );
             ended
         }
         Booted::Refused(fault) => {
             let ended = write_refusal(alloc, writer, fault);
-            explain_scenario(hints, alloc, text, fault.line, fault.cause.name());
+            explain_scenario(hints, alloc, source, text, fault);
             ended
         }
     }
@@ -180,13 +192,14 @@ fn write_refusal<W: Write>(
     Ok(Verdict::Refused)
 }
 
-/// Runs along the schedule and writes the trace. The block is made first, so that a trace that ends
-/// for want of memory can still be written.
+/// Runs along the schedule and writes the trace; how the run ended is put into `reached`. The block is
+/// made first, so that a trace that ends for want of memory can still be written.
 fn write_run<W: Write>(
     alloc: Global,
     writer: &mut W,
     system: &mut System,
     schedule: &[(Pid, u32)],
+    reached: &mut End,
 ) -> Result<Verdict, EngineFault>
     ensures verdict { IfOk result (λ verdict. verdict ≡ Verdict.Done) }
     ensures ok { OnOk result (WritesRun system.old schedule.now (W.contents writer.old)
@@ -197,6 +210,7 @@ fn write_run<W: Write>(
 {
     let mut block = empty_block(alloc)?;
     let end = system.step_all(schedule);
+    *reached = end;
     zl_trace::text(system, end, &mut block, writer)?;
     Ok(Verdict::Done)
 }

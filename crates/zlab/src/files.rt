@@ -5,6 +5,7 @@ ghost use Rattle.zlab.specs.Input.{Holds, IsBounded, TakesNoMore};
 
 use crate::engine::answer_input;
 use crate::fault::{EngineFault, Verdict};
+use crate::hints::Source;
 use crate::input::{Input, MOST_INPUT, read_input};
 use std::alloc::{AllocError, Global};
 use std::io::{Read, Write};
@@ -14,7 +15,8 @@ use std::io::{Read, Write};
 /// schedule.
 ///
 /// Both are read, the scenario first, before anything is written, and of neither more than one byte
-/// past 4,194,304.
+/// past 4,194,304. To `hints` it adds what `step_engine` does, with the schedule's own lines by the name
+/// of its file.
 /// A fault of a reader is `Read`, with nothing written. A fault of the writer, and a want of
 /// memory, leave nothing or a beginning of such an answer.
 pub fn step_files_engine<A: Read, B: Read, W: Write>(
@@ -23,6 +25,7 @@ pub fn step_files_engine<A: Read, B: Read, W: Write>(
     schedule: &mut B,
     writer: &mut W,
     hints: &mut String,
+    schedule_name: &str,
 ) -> Result<Verdict, EngineFault>
     ensures ok { IfOk result (λ verdict. AnswersFiles (A.remaining scenario.old)
         (B.remaining schedule.old) verdict (W.contents writer.old) (W.contents writer.new)) }
@@ -33,15 +36,18 @@ pub fn step_files_engine<A: Read, B: Read, W: Write>(
     ensures scenario_taken { TakesNoMore (A.remaining scenario.old) (A.remaining scenario.new) }
     ensures schedule_taken { TakesNoMore (B.remaining schedule.old) (B.remaining schedule.new) }
 {
-    let input = read_files(alloc, scenario, schedule)?;
-    answer_input(alloc, writer, hints, input)
+    let mut source = Source::with_schedule(schedule_name);
+    let input = read_files(alloc, scenario, schedule, &mut source)?;
+    answer_input(alloc, writer, hints, source, input)
 }
 
-/// Reads both texts to their ends, or one byte past `MOST_INPUT`, and joins them.
+/// Reads both texts to their ends, or one byte past `MOST_INPUT`, and joins them. `source` is told how
+/// long the first one is.
 fn read_files<A: Read, B: Read>(
     alloc: Global,
     scenario: &mut A,
     schedule: &mut B,
+    source: &mut Source<'_>,
 ) -> Result<Input, EngineFault>
     ensures ok { IfOk result (IsInputOfFiles (A.remaining scenario.old)
         (B.remaining schedule.old)) }
@@ -50,6 +56,7 @@ fn read_files<A: Read, B: Read>(
     ensures schedule_taken { TakesNoMore (B.remaining schedule.old) (B.remaining schedule.new) }
 {
     let first = read_input(alloc, scenario)?;
+    source.keep_length(&first);
     let second = read_input(alloc, schedule)?;
     Ok(join(first, second)?)
 }

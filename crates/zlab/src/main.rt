@@ -4,7 +4,7 @@
 //! It stands on `zl_sched` for a run along a schedule and on `zl_trace` for its text, on `zl_calls` for
 //! the world, on `zl_asm` for the assembler and for what is told of texts, images and stuck processes,
 //! on `zl_verify` and `zl_abs` for the verifier, on `zl_code` and `zl_rights` for what these speak of,
-//! and on `clap` and `thiserror`. It promises, by the contracts of `step_engine`,
+//! and on `bitflags`, `clap` and `thiserror`. It promises, by the contracts of `step_engine`,
 //! `step_files_engine`, `replay_engine`, `asm_engine`, `check_engine` and `words`, that what is written is the answer
 //! to what was read.
 #![tactic(auto)]
@@ -27,7 +27,7 @@ use checking::check_engine;
 use engine::step_engine;
 use fault::{EngineFault, Verdict};
 use files::step_files_engine;
-use hints::{explain_failure, explain_words};
+use hints::{explain_failure, explain_opening, explain_words};
 use replaying::replay_engine;
 use std::alloc::AllocError;
 use std::fs::OpenFile;
@@ -69,7 +69,10 @@ fn main(rt: HostRuntime) -> ExitCode {
                 Failure::Words(WordFault::Usage) => {
                     eprintln!(rt; "zlab: a wrong command line: {hints}; {failure}")
                 }
-                _ if hints.is_empty() => eprintln!(rt; "zlab: {failure}"),
+                // what was told of a run is no reason for a want of memory
+                _ if hints.is_empty() || status_of(&failure) == 4 => {
+                    eprintln!(rt; "zlab: {failure}")
+                }
                 _ => eprintln!(rt; "zlab: {failure}: {hints}"),
             };
             ExitCode::from(status_of(&failure))
@@ -189,7 +192,14 @@ fn step_files<R: AllocGlobal + Files + Print>(
     let mut first = Told::new(open(rt, hints, scenario)?);
     let mut second = Told::new(open(rt, hints, schedule)?);
     let mut writer = Told::new(io::writer(rt));
-    let ended = step_files_engine(rt.alloc(), &mut first, &mut second, &mut writer, hints);
+    let ended = step_files_engine(
+        rt.alloc(),
+        &mut first,
+        &mut second,
+        &mut writer,
+        hints,
+        schedule,
+    );
     match (&ended, first.reason()) {
         (Err(EngineFault::Read), None) => explain_failure(hints, schedule, second.reason()),
         (Err(EngineFault::Read), reason) => explain_failure(hints, scenario, reason),
@@ -228,7 +238,7 @@ fn open<R: Files>(rt: &R, hints: &mut String, path: &str) -> Result<R::File, Eng
     match fs::open(rt, path) {
         Ok(file) => Ok(file),
         Err(reason) => {
-            explain_failure(hints, path, Some(reason));
+            explain_opening(hints, path, reason);
             Err(EngineFault::Read)
         }
     }

@@ -9,7 +9,7 @@ ghost use Rattle.zlab.specs.Replay.{AnswersReplay, AreItems, BeginsReplay, Comes
 
 use crate::engine::{TOO_LONG, fault_of_boot};
 use crate::fault::{Cause, EngineFault, LineFault, Verdict};
-use crate::hints::{explain_difference, explain_line, explain_scenario};
+use crate::hints::{LONE_SCENARIO, explain_difference, explain_line, explain_scenario};
 use crate::input::{Input, read_front, read_input};
 use crate::scenario::{Reading, Scenario, read_scenario};
 use crate::text::{push_refusal, push_trace_refusal};
@@ -96,7 +96,7 @@ fn found_in(
             Ok(found)
         }
         Input::TooLong => {
-            explain_scenario(hints, alloc, &[], TOO_LONG.line, TOO_LONG.cause.name());
+            explain_scenario(hints, alloc, LONE_SCENARIO, &[], TOO_LONG);
             Ok(Replayed::Refused(TOO_LONG))
         }
     }
@@ -106,11 +106,9 @@ fn found_in(
 fn explain(hints: &mut String, alloc: Global, text: &[u8], front: &[u8], found: Replayed) {
     match found {
         Replayed::All(_) => {}
-        Replayed::Differs(number) => explain_difference(hints, number),
-        Replayed::Refused(fault) => {
-            explain_scenario(hints, alloc, text, fault.line, fault.cause.name());
-        }
-        Replayed::RefusedTrace(fault) => explain_line(hints, front, fault.line),
+        Replayed::Differs(number) => explain_difference(hints, alloc, text, front, number),
+        Replayed::Refused(fault) => explain_scenario(hints, alloc, LONE_SCENARIO, text, fault),
+        Replayed::RefusedTrace(fault) => explain_line(hints, alloc, front, fault.line),
     }
 }
 

@@ -50,9 +50,7 @@ pub enum Task<'a> {
 #[derive(Clone, Copy, PartialEq, Eq, Debug, Error)]
 pub enum WordFault {
     /// The words are in none of the forms.
-    #[error("the forms are `zlab < INPUT`, `zlab step SCENARIO SCHEDULE`, \
-             `zlab replay SCENARIO TRACE`, `zlab asm IN OUT` and `zlab check IMAGE`; not built yet: \
-             `zlab run SCENARIO --workers N --limit M`; `zlab --help` says more")]
+    #[error("`zlab --help` has the forms")]
     Usage,
     /// Memory was refused.
     #[error("out of memory")]

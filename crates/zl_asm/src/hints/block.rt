@@ -3,10 +3,11 @@
 use crate::assembling::assemble_bytes;
 use crate::hints::image::{Source, push_image_fault};
 use crate::hints::lines::{Line, place_outside_ascii, push_head, push_odd_byte};
+use crate::hints::meant::{push_meant_in_hex, slip_of};
 use crate::hints::program::push_program_fault;
-use crate::hints::text::Value::{Number, Word};
+use crate::hints::text::Value::{Name, Number, Word};
 use crate::hints::text::push_text;
-use crate::words::is;
+use crate::words::{is, split_words};
 use std::alloc::{AllocError, Global};
 use zl_code::decode;
 
@@ -88,9 +89,12 @@ pub fn push_block_fault(
     opened: u64,
     words: &[&[u8]],
 ) -> Result<(), AllocError> {
+    let [_, mark, form] = words else {
+        return Ok(());
+    };
     let block = block_of(alloc, input, opened)?;
-    let is_hex = matches!(words, [_, _, form] if is(form, b"hex"));
-    if is_hex && push_odd_digit(hint, block.lines.as_slice())? {
+    let is_hex = is(form, b"hex");
+    if is_hex && push_odd_digit(hint, alloc, block.lines.as_slice(), mark)? {
         return Ok(());
     }
     match block.end {
@@ -98,7 +102,7 @@ pub fn push_block_fault(
         End::At(_) => push_text_fault(hint, alloc, block.lines.as_slice()),
         End::Missing => {
             push_head(hint, opened, "Syntax")?;
-            hint.push_str("no line end closes this block")
+            push_no_end(hint, alloc, block.lines.as_slice())
         }
         End::Odd(line, place) => {
             push_head(hint, line.number, "Syntax")?;
@@ -107,13 +111,36 @@ pub fn push_block_fault(
     }
 }
 
-/// Adds which byte is the first that stands in no block of digits, if one does.
-fn push_odd_digit(hint: &mut String, lines: &[Line]) -> Result<bool, AllocError> {
+/// Adds that these lines, all up to the end of the input, have no end, and which of them is the first
+/// that tells where it belongs.
+fn push_no_end(hint: &mut String, alloc: Global, lines: &[Line]) -> Result<(), AllocError> {
+    hint.push_str("no line end closes this block")?;
+    let mut words = Vec::new(alloc);
+    for line in lines {
+        split_words(&mut words, line.bytes)?;
+        if let Some(slip) = slip_of(words.as_slice()) {
+            let shown = Word(line.bytes.trim_ascii());
+            let values = [Number(line.number), shown, Name(slip)];
+            return push_text(hint, "; line # is #: #", &values);
+        }
+    }
+    Ok(())
+}
+
+/// Adds which byte is the first that stands in no block of digits, if one does, and what was meant by
+/// its line. The program has this mark.
+fn push_odd_digit(
+    hint: &mut String,
+    alloc: Global,
+    lines: &[Line],
+    mark: &[u8],
+) -> Result<bool, AllocError> {
     for line in lines {
         for (place, byte) in line.bytes.iter().enumerate() {
             if *byte != b' ' && hex_digit(*byte).is_none() {
                 push_head(hint, line.number, "Syntax")?;
                 push_no_digit(hint, line.bytes, place)?;
+                push_meant_in_hex(hint, alloc, line.bytes, mark)?;
                 return Ok(true);
             }
         }
@@ -145,7 +172,7 @@ fn push_text_fault(hint: &mut String, alloc: Global, lines: &[Line]) -> Result<(
     }
     match assemble_bytes(alloc, text.as_slice()) {
         Ok(_) => Ok(()),
-        Err(fault) => push_program_fault(hint, alloc, lines, fault),
+        Err(fault) => push_program_fault(hint, alloc, lines, true, fault),
     }
 }
 

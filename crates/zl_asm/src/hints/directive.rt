@@ -1,16 +1,17 @@
 //! The faults of a directive of the assembler's text.
 
 use crate::hints::lines::Line;
+use crate::hints::names::push_number_named;
 use crate::hints::nearest::push_nearest;
+use crate::hints::rights::push_right_of_none;
 use crate::hints::text::Value::{Name, Number, Word};
 use crate::hints::text::push_text;
 use crate::hints::word::plural;
 use crate::numbers::{number, sixteen_bytes};
 use crate::words::{is, split_words};
-use bitflags::Flags;
 use std::alloc::{AllocError, Global};
 use zl_code::{Image, Row};
-use zl_rights::{Condition, Kind, Rights};
+use zl_rights::{Condition, Kind};
 
 /// The directives, each with what it takes.
 const DIRECTIVES: [(&str, usize, &str); 7] = [
@@ -107,11 +108,15 @@ fn push_wrong_operand(
     match operands {
         [digits] if is(name, b".bytes") => push_wrong_bytes(hint, digits),
         [word] if is(name, b".need") => push_wrong_need(hint, word),
-        [word] => push_wrong_number(hint, word),
-        [kind, rights] => push_wrong_rights(hint, kind, rights),
-        [kind, length, rights] => {
-            Ok(push_wrong_number(hint, length)? || push_wrong_rights(hint, kind, rights)?)
+        [word] => push_wrong_number(hint, name, 1, word),
+        [kind, rights] => {
+            Ok(push_wrong_number(hint, name, 2, rights)? || push_wrong_rights(hint, kind, rights)?)
         }
+        [kind, length, rights] => Ok(
+            push_wrong_number(hint, name, 2, length)?
+                || push_wrong_number(hint, name, 3, rights)?
+                || push_wrong_rights(hint, kind, rights)?,
+        ),
         _ => Ok(false),
     }
 }
@@ -149,41 +154,26 @@ fn push_wrong_need(hint: &mut String, word: &[u8]) -> Result<bool, AllocError> {
     }
 }
 
-/// Adds that the word is no number, if it isn't one.
-fn push_wrong_number(hint: &mut String, word: &[u8]) -> Result<bool, AllocError> {
+/// Adds that the operand in this place is no number, if it isn't one.
+fn push_wrong_number<'a>(
+    hint: &mut String,
+    name: &'a [u8],
+    place: u64,
+    word: &'a [u8],
+) -> Result<bool, AllocError> {
     if number(word).is_some() {
         return Ok(false);
     }
-    push_text(hint, "# is no number from 0 to 4294967295", &[Word(word)])?;
+    let text = "operand # of # is #, and a number from 0 to 4294967295 is wanted there";
+    push_text(hint, text, &[Number(place), Word(name), Word(word)])?;
+    push_number_named(hint, word, true)?;
     Ok(true)
 }
 
-/// Adds that the rights are no number, or which rights the kind has, if they aren't among those.
-fn push_wrong_rights<'a>(
-    hint: &mut String,
-    kind: &'a [u8],
-    rights: &'a [u8],
-) -> Result<bool, AllocError> {
-    if push_wrong_number(hint, rights)? {
-        return Ok(true);
-    }
-    let allowed = rights_of(kind);
-    let found = Rights::from_bits_retain(number(rights).unwrap_or(0));
-    if found.within(allowed) {
-        return Ok(false);
-    }
-    let most = Number(u64::from(allowed.bits()));
-    let text = "the rights # aren't all among those of #, #";
-    push_text(hint, text, &[Word(rights), Word(kind), most])?;
-    Ok(true)
-}
-
-/// The rights that a handle of the kind may have.
-fn rights_of(kind: &[u8]) -> Rights {
-    match Kind::named(kind) {
-        Some(kind) => kind.default_rights(),
-        None => Rights::all(),
-    }
+/// Adds which of the rights isn't among those of the kind, if one isn't.
+fn push_wrong_rights(hint: &mut String, kind: &[u8], rights: &[u8]) -> Result<bool, AllocError> {
+    let number = u64::from(number(rights).unwrap_or(0));
+    push_right_of_none(hint, "the number", rights, Kind::named(kind), number)
 }
 
 /// Adds that the directive stands below a label or an instruction, or below one of its name.

@@ -1,5 +1,6 @@
 //! The faults of the bytes of an image.
 
+use crate::hints::guess::push_guess;
 use crate::hints::lines::{Line, push_head};
 use crate::hints::text::Value::{Name, Number};
 use crate::hints::text::{Value, push_text};
@@ -95,14 +96,14 @@ const MOST: usize = 65_676;
 
 /// Adds a line that says why the bytes spell no image.
 pub fn explain_image(hint: &mut String, bytes: &[u8], fault: DecodeFault) {
-    let alone = Source {
+    let file = Source {
         opened: 0,
         lines: &[],
         ended: 0,
     };
     let pushed = match fault {
         DecodeFault::Length if bytes.len() > MOST => push_too_long(hint),
-        _ => push_image_fault(hint, alone, bytes, fault),
+        _ => push_image_fault(hint, file, bytes, fault),
     };
     if pushed.is_err() || hint.push_str("\n").is_err() {
         hint.clear();
@@ -122,10 +123,11 @@ pub fn push_image_fault(
     fault: DecodeFault,
 ) -> Result<(), AllocError> {
     match fault {
-        DecodeFault::Short => push_short(hint, source.opened, bytes.len()),
+        DecodeFault::Short => push_short(hint, source.opened, bytes),
         DecodeFault::Magic => {
             let text = "an image begins with the bytes 5a4c4142";
-            push_fault(hint, source, 0, "Magic", text, &[])
+            push_fault(hint, source, 0, "Magic", text, &[])?;
+            push_guess(hint, source.opened, bytes)
         }
         DecodeFault::Version => {
             let text = "byte 4 of the image is #; the one version is 1";
@@ -141,14 +143,16 @@ pub fn push_image_fault(
     }
 }
 
-/// Adds that so many bytes are no header.
-fn push_short(hint: &mut String, line: u64, count: usize) -> Result<(), AllocError> {
-    push_head(hint, line, "Short")?;
+/// Adds that the bytes are too few for a header.
+fn push_short(hint: &mut String, opened: u64, bytes: &[u8]) -> Result<(), AllocError> {
+    let count = bytes.len();
+    push_head(hint, opened, "Short")?;
     push_text(
         hint,
-        "the image has # byte#; its header alone has 20",
+        "the image has # byte#; its header has 20",
         &[Number(count as u64), Name(plural(count))],
-    )
+    )?;
+    push_guess(hint, opened, bytes)
 }
 
 /// Where the instructions begin.
@@ -164,8 +168,8 @@ fn push_length(hint: &mut String, line: u64, bytes: &[u8]) -> Result<(), AllocEr
     push_head(hint, line, "Length")?;
     push_text(
         hint,
-        "the image has # bytes, and its header asks for #: 20 and 8 for each of # start handles and \
-         # slot arrays, and 16 for each of # instructions",
+        "the image has # bytes; its header asks for #, with # start handles, # slot arrays and # \
+         instructions",
         &[
             Number(bytes.len() as u64),
             Number(asked as u64),
@@ -239,7 +243,7 @@ fn fault_of_declaration(bytes: &[u8], offset: usize, is_slot: bool) -> Option<&'
     };
     let length = number_at(bytes, offset.saturating_add(2), 2);
     if is_slot && (length == 0 || length > 256) {
-        return Some("has no length from 1 to 256");
+        return Some("has a length outside 1 to 256");
     }
     let middle = number_at(bytes, offset.saturating_add(1), if is_slot { 1 } else { 3 });
     if middle != 0 {
@@ -286,7 +290,7 @@ fn push_instr_fault(
 ) -> Result<(), AllocError> {
     let number = Number(number as u64);
     let Some(row) = Row::of_opcode(bytes[0]) else {
-        let text = "instruction # has the opcode #, which only a raw mark lets stand";
+        let text = "instruction # has the opcode #, which needs the raw mark";
         let opcode = Number(u64::from(bytes[0]));
         return push_fault(hint, source, offset, "UnknownOp", text, &[number, opcode]);
     };

@@ -1,22 +1,36 @@
 //! The faults of an instruction of the assembler's text.
 
+use crate::hints::meant::push_slip;
+use crate::hints::names::push_number_named;
 use crate::hints::nearest::Nearest;
 use crate::hints::text::Value::{Name, Number, Word};
 use crate::hints::text::push_text;
 use crate::hints::word::plural;
+use crate::hints::zircon::push_name_here;
 use crate::numbers::{is_name, number, register};
 use crate::words::is;
 use std::alloc::{AllocError, Global};
 use zl_code::{Ending, HandleList, Row};
 
-/// Adds which instruction was meant by a name that none has.
+/// Adds which instruction was meant by the first of these words, a name that none has, or what the line
+/// is.
 pub fn push_instruction_unknown(
     hint: &mut String,
     alloc: Global,
-    name: &[u8],
+    words: &[&[u8]],
+    is_block: bool,
 ) -> Result<(), AllocError> {
+    let [name, ..] = words else {
+        return Ok(());
+    };
     push_text(hint, "no instruction is called #", &[Word(name)])?;
-    let mut nearest = Nearest::new(name);
+    if push_slip(hint, words, is_block)? || push_name_here(hint, name)? {
+        return Ok(());
+    }
+    if is_block && matches!(*name, [b'0'..=b'9', ..]) {
+        return hint.push_str("; are these the digits of an image? then its form is hex");
+    }
+    let mut nearest = Nearest::new(alloc, name)?;
     for opcode in 0..=u8::MAX {
         if let Some(row) = Row::of_opcode(opcode) {
             nearest.try_name(alloc, row.name)?;
@@ -71,7 +85,11 @@ pub fn push_instruction_operand(
         {
             let number = Number(index as u64 + 1);
             let values = [number, Name(row.name), Word(word), Name(wanted)];
-            return push_text(hint, "operand # of # is #, and # is wanted there", &values);
+            push_text(hint, "operand # of # is #, and # is wanted there", &values)?;
+            if wanted == TARGET {
+                return Ok(());
+            }
+            return push_number_named(hint, word, false);
         }
     }
     let text = "# has room for 0 to 8 handles, three registers each, up to r31";
@@ -101,6 +119,9 @@ fn push_count(hint: &mut String, row: &Row, count: usize, least: usize) -> Resul
     push_text(hint, text, &values)
 }
 
+/// What is wanted where a target is.
+const TARGET: &str = "a label or a number";
+
 /// What is wanted in place of the word, where it isn't that.
 fn wanted_for(row: &Row, index: usize, word: &[u8]) -> Option<&'static str> {
     let is_behind = index >= row.registers;
@@ -124,6 +145,6 @@ fn no_target(word: &[u8]) -> Option<&'static str> {
     if is_name(word) || number(word).is_some() {
         None
     } else {
-        Some("a label or a number")
+        Some(TARGET)
     }
 }

@@ -79,7 +79,7 @@ pub fn push_odd_byte(hint: &mut String, line: &[u8], place: usize) -> Result<(),
     let text = match byte {
         b'\t' => "byte # of the line is a tab; only spaces part words",
         b'\r' if number == line.len() => {
-            "the line ends with a carriage return; a line feed alone ends a line"
+            "the line ends with a carriage return; only a line feed ends a line"
         }
         b'\r' => "byte # of the line is a carriage return",
         _ if line.starts_with(b"\xef\xbb\xbf") => {

@@ -6,19 +6,20 @@ use strsim::osa_distance;
 /// No word above this length is compared.
 const MOST_COMPARED: usize = 40;
 
-/// The nearest of the names that were tried so far.
+/// The nearest of the names that were tried so far, where capital letters count as small ones.
 #[derive(Drop)]
-pub struct Nearest<'word, 'name> {
-    word: &'word str,
+pub struct Nearest<'name> {
+    /// The word in small letters.
+    word: String,
     found: Option<&'name str>,
     /// A name is near below this distance.
     bound: usize,
 }
 
-impl<'word, 'name> Nearest<'word, 'name> {
+impl<'name> Nearest<'name> {
     /// Before the first name. A name is near where at most a third of the word has to be changed, or one
     /// letter.
-    pub fn new(word: &'word [u8]) -> Nearest<'word, 'name> {
+    pub fn new(alloc: Global, word: &[u8]) -> Result<Nearest<'name>, AllocError> {
         let word = match str::from_utf8(word) {
             Ok(word) if word.len() <= MOST_COMPARED => word,
             _ => "",
@@ -27,16 +28,17 @@ impl<'word, 'name> Nearest<'word, 'name> {
             0 => 0,
             len => len.max(3) / 3 + 1,
         };
-        Nearest {
-            word,
+        Ok(Nearest {
+            word: word.to_ascii_lowercase(alloc)?,
             found: None,
             bound,
-        }
+        })
     }
 
     /// Tries a name.
     pub fn try_name(&mut self, alloc: Global, name: &'name str) -> Result<(), AllocError> {
-        let distance = osa_distance(alloc, self.word, name)?;
+        let small = name.to_ascii_lowercase(alloc)?;
+        let distance = osa_distance(alloc, self.word.as_str(), small.as_str())?;
         if distance < self.bound {
             self.bound = distance;
             self.found = Some(name);
@@ -68,7 +70,7 @@ pub fn push_nearest(
     word: &[u8],
     names: &[&str],
 ) -> Result<(), AllocError> {
-    let mut nearest = Nearest::new(word);
+    let mut nearest = Nearest::new(alloc, word)?;
     nearest.try_all(alloc, names)?;
     nearest.push(hint)
 }

@@ -6,6 +6,7 @@ use crate::hints::directive::{
 };
 use crate::hints::instruction::{push_instruction_operand, push_instruction_unknown};
 use crate::hints::lines::{Line, numbered_lines, place_outside_ascii, push_head, push_odd_byte};
+use crate::hints::meant::push_meant;
 use crate::hints::nearest::Nearest;
 use crate::hints::text::Value::{Number, Word};
 use crate::hints::text::push_text;
@@ -27,14 +28,16 @@ fn push_text_fault(
     fault: AsmFault,
 ) -> Result<(), AllocError> {
     let lines = numbered_lines(alloc, text)?;
-    push_program_fault(hint, alloc, lines.as_slice(), fault)
+    push_program_fault(hint, alloc, lines.as_slice(), false, fault)
 }
 
-/// Adds why the text of these lines denotes no image; the fault counts them from 1.
+/// Adds why the text of these lines, those of a block or of a file, denotes no image; the fault counts
+/// them from 1.
 pub fn push_program_fault(
     hint: &mut String,
     alloc: Global,
     lines: &[Line],
+    is_block: bool,
     fault: AsmFault,
 ) -> Result<(), AllocError> {
     let index = (fault.line as usize).wrapping_sub(1);
@@ -49,9 +52,9 @@ pub fn push_program_fault(
     let mut words = Vec::new(alloc);
     split_words(&mut words, line.bytes)?;
     match fault.cause {
-        AsmCause::Token => push_token(hint, line.bytes, words.as_slice()),
+        AsmCause::Token => push_token(hint, line.bytes, words.as_slice(), is_block),
         AsmCause::LabelMissing => push_label_missing(hint, alloc, lines, words.as_slice()),
-        cause => push_words_fault(hint, alloc, above, words.as_slice(), cause),
+        cause => push_words_fault(hint, alloc, above, words.as_slice(), is_block, cause),
     }
 }
 
@@ -61,6 +64,7 @@ fn push_words_fault(
     alloc: Global,
     above: &[Line],
     words: &[&[u8]],
+    is_block: bool,
     cause: AsmCause,
 ) -> Result<(), AllocError> {
     let [name, rest @ ..] = words else {
@@ -69,7 +73,7 @@ fn push_words_fault(
     let is_directive = name.starts_with(b".");
     match cause {
         AsmCause::UnknownName if is_directive => push_directive_unknown(hint, alloc, name, rest),
-        AsmCause::UnknownName => push_instruction_unknown(hint, alloc, name),
+        AsmCause::UnknownName => push_instruction_unknown(hint, alloc, words, is_block),
         AsmCause::LabelTwice => push_label_twice(hint, alloc, above, name),
         AsmCause::Operand if is_directive => push_directive_operand(hint, alloc, above, words),
         AsmCause::Operand => push_instruction_operand(hint, name, rest),
@@ -82,7 +86,12 @@ fn push_words_fault(
 }
 
 /// Adds which word the grammar doesn't have, or where a comma is missing or one too many.
-fn push_token(hint: &mut String, line: &[u8], words: &[&[u8]]) -> Result<(), AllocError> {
+fn push_token(
+    hint: &mut String,
+    line: &[u8],
+    words: &[&[u8]],
+    is_block: bool,
+) -> Result<(), AllocError> {
     if let Some(place) = place_in_code(line) {
         return push_odd_byte(hint, line, place);
     }
@@ -91,21 +100,27 @@ fn push_token(hint: &mut String, line: &[u8], words: &[&[u8]]) -> Result<(), All
     };
     let (text, word) = if name.ends_with(b":") && rest.is_empty() {
         (
-            "# is no label: a small letter, then small letters, digits or _, 32 at most",
+            "# isn't a label: a small letter, then small letters, digits or _, 32 at most",
             Some(*name),
         )
     } else if name.ends_with(b":") {
         ("the label # has to stand alone on its line", Some(*name))
     } else if name.starts_with(b".") && has_comma(rest) {
-        ("no comma stands between the operands of #", Some(*name))
+        (
+            "the operands of # have spaces between them, and no comma",
+            Some(*name),
+        )
     } else {
         (
-            "# is no word: a word has letters, digits and _ alone",
+            "# isn't a word: a word has only letters, digits and _",
             odd_word(words),
         )
     };
     match word {
-        Some(word) => push_text(hint, text, &[Word(word)]),
+        Some(word) => {
+            push_text(hint, text, &[Word(word)])?;
+            push_meant(hint, words, word, is_block)
+        }
         None => push_comma_fault(hint, rest),
     }
 }
@@ -202,7 +217,7 @@ fn push_label_missing(
         return Ok(());
     };
     push_text(hint, "no label is called #", &[Word(target)])?;
-    let mut nearest = Nearest::new(target);
+    let mut nearest = Nearest::new(alloc, target)?;
     let mut words = Vec::new(alloc);
     for line in lines {
         split_words(&mut words, line.bytes)?;

@@ -79,7 +79,10 @@ fn push_words<S: AsStr>(hint: &mut String, alloc: Global, words: &[S]) -> Result
         return write!(hint, "{word} isn't built yet");
     }
     if word == "help" {
-        return hint.push_str("help knows the words asm, check, step and replay alone");
+        return hint.push_str("help takes one of asm, check, step and replay");
+    }
+    if word == "-" {
+        return hint.push_str("standard input is read only by the form without words");
     }
     if word.starts_with('-') {
         return push_option(hint, alloc, word.as_bytes());
@@ -87,10 +90,13 @@ fn push_words<S: AsStr>(hint: &mut String, alloc: Global, words: &[S]) -> Result
     push_command(hint, alloc, word.as_bytes(), rest.is_empty())
 }
 
-/// Adds which option was meant by a word that is none.
+/// Adds which option was meant by a word that is none. To one letter every other is near.
 fn push_option(hint: &mut String, alloc: Global, word: &[u8]) -> Result<(), AllocError> {
     write!(hint, "no option is called {}", Word(word))?;
-    push_nearest(hint, alloc, word, &OPTIONS)
+    if word.len() > 2 {
+        push_nearest(hint, alloc, word, &OPTIONS)?;
+    }
+    Ok(())
 }
 
 /// Adds which command was meant by a word that is none; the word may be a scenario if it is alone.

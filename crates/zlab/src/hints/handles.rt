@@ -1,10 +1,13 @@
 //! The faults of the handles that a line gives to its process.
 
 use crate::hints::above::Above;
-use crate::hints::numbers::{decimal, push_no_number};
-use std::alloc::AllocError;
-use zl_asm::hints::{Word, is, push_right_beyond};
+use crate::hints::numbers::{decimal, is_digits, push_meant, push_no_number};
+use crate::hints::starts::push_wrong_start;
+use bitflags::Flags;
+use std::alloc::{AllocError, Global};
+use zl_asm::hints::{Line, Word, is, push_right_beyond};
 use zl_code::Grants;
+use zl_rights::{Kind, Rights};
 
 /// A handle of a line, cut at its first colon.
 #[derive(Clone, Copy)]
@@ -63,14 +66,15 @@ fn push_wrong_part(hint: &mut String, handle: Handle<'_>) -> Result<(), AllocErr
     if decimal(handle.koid).is_none() {
         return push_missing_or(hint, "KOID", handle.koid);
     }
-    if handle.rights.is_empty() || is_number(handle.rights) {
+    if handle.rights.is_empty() || is_digits(handle.rights) {
         return push_missing_or(hint, "RIGHTS", handle.rights);
     }
     write!(
         hint,
         "RIGHTS is {}, which is neither a decimal number nor *",
         Word(handle.rights)
-    )
+    )?;
+    push_meant(hint, handle.rights)
 }
 
 fn push_missing_or(hint: &mut String, name: &str, word: &[u8]) -> Result<(), AllocError> {
@@ -79,10 +83,6 @@ fn push_missing_or(hint: &mut String, name: &str, word: &[u8]) -> Result<(), All
     } else {
         push_no_number(hint, name, word)
     }
-}
-
-fn is_number(word: &[u8]) -> bool {
-    word.iter().all(|byte| byte.is_ascii_digit())
 }
 
 /// Adds which of the handles names no object.
@@ -116,9 +116,12 @@ fn koid_of(word: &[u8]) -> u64 {
     }
 }
 
-/// Adds why no process can start with the handles.
+/// Adds why no process of the program can start with the handles.
 pub fn push_wrong_handles(
     hint: &mut String,
+    alloc: Global,
+    lines: &[Line],
+    program: &[u8],
     words: &[&[u8]],
     above: &Above,
 ) -> Result<(), AllocError> {
@@ -134,7 +137,21 @@ pub fn push_wrong_handles(
             return Ok(());
         }
     }
-    hint.push_str("the program is checked, and these aren't the handles that it declares")
+    match above.program(program) {
+        Some(opened) => push_wrong_start(hint, alloc, lines, opened, words, above),
+        None => Ok(()),
+    }
+}
+
+/// The kind of the handle's object, and the handle's rights.
+pub fn given(word: &[u8], above: &Above) -> Option<(Kind, Rights)> {
+    let handle = handle_of(word)?;
+    let kind = above.kind_of(koid_of(word))?;
+    let rights = match handle.number() {
+        Some(number) => Rights::from_bits_retain(u32::try_from(number).ok()?),
+        None => kind.default_rights(),
+    };
+    Some((kind, rights))
 }
 
 /// Adds which right of the handle a new object of its kind doesn't have, if there is one.

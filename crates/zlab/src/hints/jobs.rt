@@ -88,7 +88,7 @@ fn push_wrong_policy(
     }
     write!(
         hint,
-        "no action is called {}; there are ALLOW, DENY and KILL",
+        "no action is called {}; the actions are ALLOW, DENY and KILL",
         Word(action)
     )
 }
@@ -97,7 +97,7 @@ fn push_wrong_policy(
 pub fn push_no_job(hint: &mut String, job: &[u8], above: &Above) -> Result<(), AllocError> {
     let word = Word(job);
     match above.kind_of(decimal(job).unwrap_or(0)) {
-        Some(kind) => write!(hint, "{word} is no job, but of the kind {}", kind.name())?,
+        Some(kind) => write!(hint, "{word} isn't a job, but of the kind {}", kind.name())?,
         None => write!(hint, "there is no job {word} above this line")?,
     }
     hint.push_str("; job 1 is the root job")?;

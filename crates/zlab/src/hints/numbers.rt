@@ -1,27 +1,33 @@
 //! Words that are to be numbers.
 
+use bitflags::Flags;
 use std::alloc::AllocError;
-use zl_asm::hints::Word;
+use zl_asm::hints::{Value, push_text};
+use zl_rights::Rights;
 
 /// The number that decimal digits spell, if it is below 2^64.
 pub fn decimal(word: &[u8]) -> Option<u64> {
-    if !word.iter().all(|byte| byte.is_ascii_digit()) {
+    if !is_digits(word) {
         return None;
     }
     str::from_utf8(word).ok()?.parse::<u64>().ok()
 }
 
+/// Whether the word has decimal digits only.
+pub fn is_digits(word: &[u8]) -> bool {
+    word.iter().all(|byte| byte.is_ascii_digit())
+}
+
 /// Adds why the word is no number.
 pub fn push_no_number(hint: &mut String, name: &str, word: &[u8]) -> Result<(), AllocError> {
-    if word.iter().all(|byte| byte.is_ascii_digit()) {
-        write!(
-            hint,
-            "{name} is {}; a number is at most 18446744073709551615",
-            Word(word)
-        )
+    let text = if is_digits(word) {
+        "# is #; a number is at most 18446744073709551615"
     } else {
-        write!(hint, "{name} is {}, which is no decimal number", Word(word))
-    }
+        "# is #, which isn't a decimal number"
+    };
+    let values = [Value::Word(name.as_bytes()), Value::Word(word)];
+    push_text(hint, text, &values)?;
+    push_meant(hint, word)
 }
 
 /// Adds which of the words is no number, by their names, if one isn't.
@@ -37,4 +43,54 @@ pub fn push_first_no_number(
         }
     }
     Ok(false)
+}
+
+/// Adds which number was meant by a word that has hexadecimal digits, as the assembler has them, or
+/// names rights.
+pub fn push_meant(hint: &mut String, word: &[u8]) -> Result<(), AllocError> {
+    let (text, number) = match (hexadecimal(word), rights_named(word)) {
+        (Some(number), _) => ("; hexadecimal is only the assembler's; # is #", number),
+        (None, Some(number)) => ("; # is #", number),
+        (None, None) => return Ok(()),
+    };
+    push_text(hint, text, &[Value::Word(word), Value::Number(number)])
+}
+
+/// The number of the hexadecimal digits behind `0x`.
+fn hexadecimal(word: &[u8]) -> Option<u64> {
+    let digits = str::from_utf8(word.strip_prefix(b"0x")?).ok()?;
+    u64::from_str_radix(digits, 16).ok()
+}
+
+/// The sum of the rights that the word names, with `|` or `+` between their names.
+fn rights_named(word: &[u8]) -> Option<u64> {
+    let mut sum = 0;
+    for name in word.split(|byte| matches!(byte, b'|' | b'+')) {
+        sum |= right_named(name)?;
+    }
+    Some(u64::from(sum))
+}
+
+/// The number of the right of this name, as Zircon has it or as the lab does.
+fn right_named(name: &[u8]) -> Option<u32> {
+    let name = name.strip_prefix(b"ZX_RIGHT_").unwrap_or(name);
+    for flag in Rights::flags() {
+        if flag.name().as_bytes().eq_ignore_ascii_case(name) {
+            return Some(flag.value().bits());
+        }
+    }
+    None
+}
+
+/// Adds the names of the rights and their sum.
+pub fn push_rights(hint: &mut String, rights: Rights) -> Result<(), AllocError> {
+    let mut separator = "";
+    for flag in Rights::flags() {
+        if rights.contains(*flag.value()) {
+            hint.push_str(separator)?;
+            hint.push_str(flag.name())?;
+            separator = " + ";
+        }
+    }
+    push_text(hint, " (#)", &[Value::Number(u64::from(rights.bits()))])
 }

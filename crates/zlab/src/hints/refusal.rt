@@ -1,10 +1,25 @@
-//! What standard error says of an image that the verifier refuses.
+//! What standard error says of an image that the verifier refuses: at which instruction, which register is
+//! at fault, what it has and what was wanted, and what to do.
 
+mod advice;
+mod code;
+mod known;
+mod memory;
+mod places;
+mod register;
+mod ways;
+
+use code::{push_illegal, push_need, push_target};
+use known::push_state;
+use memory::push_range;
+use places::Site;
+use register::push_register;
 use std::alloc::{AllocError, Global};
+use ways::{push_long_way, push_meeting};
+use zl_abs::Cause;
 use zl_asm::hints::push_instr_text;
-use zl_code::Image;
-use zl_verify::RefusalCause;
-use zl_verify::hints::push_refusal;
+use zl_code::{Image, InstrBytes};
+use zl_verify::{RefusalCause, seen_in};
 
 /// Adds a line that says why the image is refused at the instruction of this number.
 pub fn explain_refusal(
@@ -32,7 +47,7 @@ fn push_line(
     hints.push_str("\n")
 }
 
-/// Adds the instruction of this number, and why the image is refused there.
+/// Adds the instruction of this number, why the image is refused there, and the page on the cause.
 pub fn push_reason(
     hints: &mut String,
     alloc: Global,
@@ -44,5 +59,78 @@ pub fn push_reason(
         push_instr_text(hints, alloc, image, at)?;
         hints.push_str(": ")?;
     }
-    push_refusal(hints, alloc, image, at, cause)
+    match cause {
+        RefusalCause::Rule(cause) => push_rule(hints, alloc, image, at, cause)?,
+        RefusalCause::JoinConflict => push_meeting(hints, alloc, image)?,
+        RefusalCause::Budget => push_long_way(hints, alloc, image, at)?,
+        RefusalCause::NoMemory => return Err(AllocError),
+    }
+    push_page(hints, alloc, cause.name())
+}
+
+/// Adds the heading below which the verifier's page speaks of the cause.
+fn push_page(hints: &mut String, alloc: Global, cause: &str) -> Result<(), AllocError> {
+    let heading = cause.to_ascii_lowercase(alloc)?;
+    hints.push_str(" (docs/CHECK.md#")?;
+    hints.push_str(heading.as_str())?;
+    hints.push_str(")")
+}
+
+/// Adds why the rule of the instruction doesn't hold.
+fn push_rule(
+    hints: &mut String,
+    alloc: Global,
+    image: &Image,
+    at: usize,
+    cause: Cause,
+) -> Result<(), AllocError> {
+    let Some(site) = site_of(alloc, image, at) else {
+        return hints.push_str(reason_of(cause));
+    };
+    match cause {
+        Cause::MemoryRange => push_range(hints, &site),
+        Cause::BadJump => push_target(hints, &site),
+        Cause::FallsOff => hints.push_str(reason_of(cause)),
+        Cause::UndeclaredNeed => push_need(hints, &site),
+        Cause::IllegalOp => push_illegal(hints, &site),
+        _ => {
+            if !push_register(hints, &site, cause)? {
+                hints.push_str(reason_of(cause))?;
+                push_state(hints, &site.state)?;
+            }
+            Ok(())
+        }
+    }
+}
+
+/// The instruction of this number, and what is known there.
+fn site_of<'a>(alloc: Global, image: &'a Image, at: usize) -> Option<Site<'a>> {
+    let Some(instr) = image.instr_at(at) else {
+        return None;
+    };
+    let state = seen_in(alloc, image)?.known?;
+    let parts = InstrBytes::split(instr.to_bytes());
+    Some(Site {
+        image,
+        at,
+        parts,
+        state,
+    })
+}
+
+/// What a rule wants that doesn't hold, where no more is known.
+fn reason_of(cause: Cause) -> &'static str {
+    match cause {
+        Cause::NotLive => "a register that needs to have a live handle may have none",
+        Cause::WrongKind => "a handle may be of a kind that isn't taken here",
+        Cause::LacksRight => "a handle may lack a right that is needed here",
+        Cause::Leak => "a register that may have a handle is written, and the handle would be lost",
+        Cause::NotWord => "a register that may have a handle is read as a number",
+        Cause::MemoryRange => "an address or a place may lie outside",
+        Cause::BadJump => "the jump leads out of the code",
+        Cause::FallsOff =>
+            "behind the last instruction there is none; let process_exit or jmp be the last",
+        Cause::UndeclaredNeed => "a line .need is missing for what is made here",
+        Cause::IllegalOp => "there is no such instruction",
+    }
 }

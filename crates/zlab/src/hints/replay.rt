@@ -1,47 +1,225 @@
 //! Why a trace isn't replayed.
 
-use std::alloc::AllocError;
-use zl_asm::hints::{Word, line_at};
+use crate::hints::page::push_page;
+use crate::hints::scenario::is_among;
+use crate::scenario::{Reading, Scenario, read_scenario};
+use std::alloc::{AllocError, Global};
+use zl_asm::hints::Value::Number;
+use zl_asm::hints::{Value, line_at, push_nearest, push_text, words_of};
+use zl_calls::World;
+use zl_code::{ProcState, TraceItem};
+use zl_rights::Pid;
+use zl_trace::{is_comment, push_item, read_bytes, replay, split_words};
 
 /// The most items of a trace.
 const MOST_ITEMS: usize = 1_000_000;
 
-/// Adds a line that says why the item of this place, from 1, can't come.
-pub fn explain_difference(hints: &mut String, number: usize) {
-    if push_difference(hints, number).is_err() {
+/// What a process does, as an item says it.
+const DOINGS: [&str; 25] = [
+    "run",
+    "stuck",
+    "close",
+    "dup",
+    "replace",
+    "chan_create",
+    "chan_write",
+    "chan_read_etc",
+    "event_create",
+    "signal",
+    "signal_peer",
+    "wait_one",
+    "wait_poll",
+    "wait_async",
+    "port_create",
+    "port_queue",
+    "port_wait",
+    "port_poll",
+    "port_cancel",
+    "process_create",
+    "process_start",
+    "process_exit",
+    "task_kill",
+    "job_create",
+    "job_set_policy",
+];
+
+/// How a call ends, as an item says it.
+const OUTCOMES: [&str; 18] = [
+    "OK",
+    "NOT_SUPPORTED",
+    "NO_RESOURCES",
+    "NO_MEMORY",
+    "INVALID_ARGS",
+    "BAD_HANDLE",
+    "WRONG_TYPE",
+    "OUT_OF_RANGE",
+    "BUFFER_TOO_SMALL",
+    "BAD_STATE",
+    "TIMED_OUT",
+    "SHOULD_WAIT",
+    "PEER_CLOSED",
+    "NOT_FOUND",
+    "ALREADY_EXISTS",
+    "ACCESS_DENIED",
+    "blocked",
+    "ended",
+];
+
+/// Adds a line that says why the item of this place, from 1, of the trace can't come.
+pub fn explain_difference(
+    hints: &mut String,
+    alloc: Global,
+    scenario: &[u8],
+    trace: &[u8],
+    number: usize,
+) {
+    let pushed = push_difference(hints, alloc, scenario, trace, number);
+    if pushed.is_err() || push_end(hints).is_err() {
         hints.clear();
     }
 }
 
-fn push_difference(hints: &mut String, number: usize) -> Result<(), AllocError> {
+fn push_difference(
+    hints: &mut String,
+    alloc: Global,
+    scenario: &[u8],
+    trace: &[u8],
+    number: usize,
+) -> Result<(), AllocError> {
     if number > MOST_ITEMS {
-        return hints.push_str("zlab: a trace has 1000000 items at most\n");
+        return hints.push_str("zlab: a trace has 1000000 items at most");
     }
-    let before = number.saturating_sub(1);
-    write!(
-        hints,
-        "zlab: item {number} can't come behind the {before} before it: its process isn't ready there, or its \
-         next step gives another item\n"
-    )
+    let Ok(items) = read_bytes(alloc, trace) else {
+        return Err(AllocError);
+    };
+    let items = items.as_slice();
+    let place = number.wrapping_sub(1);
+    let (Some(before), Some(item)) = (items.get(..place), items.get(place)) else {
+        return Err(AllocError);
+    };
+    let line = line_of_item(alloc, trace, number)?;
+    let values = [Number(number as u64), Number(line)];
+    push_text(hints, "zlab: item #, line # of the trace, is ", &values)?;
+    push_words(hints, *item)?;
+    let Some(mut world) = world_behind(alloc, scenario, before) else {
+        return Err(AllocError);
+    };
+    push_own(hints, &mut world, *item)
+}
+
+/// Adds the page that helps, and the end of the line.
+fn push_end(hints: &mut String) -> Result<(), AllocError> {
+    push_page(hints, "trace")?;
+    hints.push_str("\n")
+}
+
+/// The number of the line of the item of this place, from 1.
+fn line_of_item(alloc: Global, trace: &[u8], number: usize) -> Result<u64, AllocError> {
+    let mut left = number;
+    let mut words = Vec::new(alloc);
+    for (index, line) in trace.split(|byte| *byte == b'\n').enumerate() {
+        split_words(&mut words, line)?;
+        if !words.is_empty() && !is_comment(line) {
+            left = left.saturating_sub(1);
+            if left == 0 {
+                return Ok(index as u64 + 1);
+            }
+        }
+    }
+    Ok(0)
+}
+
+/// Adds the words of the item.
+fn push_words(hints: &mut String, item: TraceItem) -> Result<(), AllocError> {
+    push_item(hints, item)?;
+    // the end of its line
+    let _ = hints.pop();
+    Ok(())
+}
+
+/// The world to which the items lead from the boot of the scenario.
+fn world_behind(alloc: Global, scenario: &[u8], items: &[TraceItem]) -> Option<World> {
+    let Reading { scenario, .. } = read_scenario(alloc, scenario).ok()?;
+    let Scenario { library, boot, .. } = scenario;
+    replay(alloc, library, boot, items).ok()
+}
+
+/// Adds which item comes where this one can't, or why its process does nothing there.
+fn push_own(hints: &mut String, world: &mut World, item: TraceItem) -> Result<(), AllocError> {
+    let (pid, most) = match item {
+        TraceItem::Run { pid, count } => (pid, count),
+        TraceItem::Call { pid, .. } | TraceItem::Stuck { pid } => (pid, 1),
+    };
+    let mut count = 0u32;
+    for _ in 0..most {
+        match world.step(pid) {
+            Some(TraceItem::Run { .. }) => count = count.saturating_add(1),
+            Some(own) if count == 0 => {
+                hints.push_str("; here it is ")?;
+                return push_words(hints, own);
+            }
+            None if count == 0 => return push_unready(hints, world, pid),
+            _ => break,
+        }
+    }
+    hints.push_str("; here it is ")?;
+    push_words(hints, TraceItem::Run { pid, count })
+}
+
+/// Adds what the process is in, which isn't ready.
+fn push_unready(hints: &mut String, world: &World, pid: Pid) -> Result<(), AllocError> {
+    let text = match world.state_of(pid) {
+        ProcState::Blocked => "; process # isn't ready there: it is blocked",
+        ProcState::Ended(_) => "; process # isn't ready there: it has ended",
+        ProcState::Created => "; process # isn't ready there: it isn't started",
+        _ if world.cpu_of(pid).is_none() => "; nobody is # there",
+        _ => "; process # isn't ready there: it is gone",
+    };
+    push_text(hints, text, &[Number(pid)])
 }
 
 /// Adds a line that says why the trace is refused at the line of this number, or as a whole for 0.
-pub fn explain_line(hints: &mut String, trace: &[u8], number: u64) {
-    if push_line(hints, trace, number).is_err() {
+pub fn explain_line(hints: &mut String, alloc: Global, trace: &[u8], number: u64) {
+    let pushed = push_line(hints, alloc, trace, number);
+    if pushed.is_err() || push_end(hints).is_err() {
         hints.clear();
     }
 }
 
-fn push_line(hints: &mut String, trace: &[u8], number: u64) -> Result<(), AllocError> {
+fn push_line(
+    hints: &mut String,
+    alloc: Global,
+    trace: &[u8],
+    number: u64,
+) -> Result<(), AllocError> {
     let Some(line) = line_at(trace, number) else {
-        return hints.push_str("zlab: the trace has more than 134217728 bytes\n");
+        return hints.push_str("zlab: the trace has more than 134217728 bytes");
     };
-    let shown = Word(line);
-    write!(
-        hints,
-        "zlab: line {number} of the trace is none of an item: {shown}"
-    )?;
-    hints.push_str(
-        "\n  wanted: PID run N, PID CALL STATUS, PID CALL blocked, PID CALL ended CODE, or PID stuck\n",
-    )
+    if line.ends_with(b"\r") {
+        let text =
+            "zlab: line # of the trace ends with a carriage return; only a line feed ends a line";
+        return push_text(hints, text, &[Number(number)]);
+    }
+    let values = [Number(number), Value::Word(line)];
+    push_text(hints, "zlab: line # of the trace isn't an item: #", &values)?;
+    let length = hints.len();
+    push_meant(hints, alloc, line)?;
+    if hints.len() == length {
+        hints.push_str(
+            "; an item is PID run N, PID CALL STATUS, PID CALL blocked, PID CALL ended CODE or PID stuck",
+        )?;
+    }
+    Ok(())
+}
+
+/// Adds which name was meant by the first word that isn't one, if one is near.
+fn push_meant(hints: &mut String, alloc: Global, line: &[u8]) -> Result<(), AllocError> {
+    let words = words_of(alloc, line)?;
+    match words.as_slice() {
+        [_, doing, ..] if !is_among(doing, &DOINGS) => push_nearest(hints, alloc, doing, &DOINGS),
+        [_, _, outcome, ..] if is_among(outcome, &OUTCOMES) => Ok(()),
+        [_, _, outcome, ..] if outcome.starts_with(b"OK") => hints.push_str("; did you mean OK?"),
+        [_, _, outcome, ..] => push_nearest(hints, alloc, outcome, &OUTCOMES),
+        _ => Ok(()),
+    }
 }

@@ -1,15 +1,18 @@
 //! The faults of a scenario and its schedule.
 
+use crate::fault::LineFault;
 use crate::hints::above::{Above, Part, read_above};
 use crate::hints::checked::push_refused_block;
 use crate::hints::handles::{push_no_handle, push_no_object, push_wrong_handles};
 use crate::hints::jobs::{push_job, push_no_job, push_policy};
 use crate::hints::numbers::{decimal, push_first_no_number, push_no_number};
+use crate::hints::page::push_page;
+use crate::hints::source::Source;
 use crate::scenario::Form;
 use std::alloc::{AllocError, Global};
 use zl_asm::hints::{
-    Word, is, is_opening, numbered_lines, place_of_blank, place_outside_ascii, plural,
-    push_block_fault, push_head, push_nearest, push_odd_byte, words_of,
+    Line, Value, Word, is, is_opening, numbered_lines, place_of_blank, place_outside_ascii, plural,
+    push_block_fault, push_head, push_nearest, push_odd_byte, push_text, words_of,
 };
 use zl_rights::Kind;
 
@@ -30,10 +33,15 @@ const MOST_PROCESSES: usize = 64;
 /// The most objects that a scenario makes, the root job among them.
 const MOST_OBJECTS: usize = 1024;
 
-/// Adds a line that says why the scenario is refused, whose answer names this line, or 0, and this
-/// cause.
-pub fn explain_scenario(hint: &mut String, alloc: Global, input: &[u8], line: u64, cause: &str) {
-    if push_fault(hint, alloc, input, line, cause).is_err() {
+/// Adds a line that says why the scenario is refused, whose answer has this fault.
+pub fn explain_scenario(
+    hint: &mut String,
+    alloc: Global,
+    source: Source,
+    input: &[u8],
+    fault: LineFault,
+) {
+    if push_fault(hint, alloc, source, input, fault).is_err() {
         hint.clear();
     }
 }
@@ -41,72 +49,110 @@ pub fn explain_scenario(hint: &mut String, alloc: Global, input: &[u8], line: u6
 fn push_fault(
     hint: &mut String,
     alloc: Global,
+    source: Source,
     input: &[u8],
-    number: u64,
-    cause: &str,
+    fault: LineFault,
 ) -> Result<(), AllocError> {
+    let (number, cause) = (fault.line, fault.cause.name());
     let lines = numbered_lines(alloc, input)?;
     let lines = lines.as_slice();
     let Some(line) = lines.get((number as usize).wrapping_sub(1)) else {
         push_head(hint, number, cause)?;
-        return hint.push_str("the input has more than 4194304 bytes\n");
+        hint.push_str("the input has more than 4194304 bytes")?;
+        push_page(hint, cause)?;
+        return hint.push_str("\n");
     };
-    let above = read_above(alloc, lines, number)?;
+    let above = read_above(alloc, source, lines, number)?;
     let words = words_of(alloc, line.bytes)?;
+    let words = words.as_slice();
     match above.part {
-        Part::Statements if is_opening(words.as_slice()) && cause == "Check" => {
-            let form = form_of(words.as_slice());
-            push_refused_block(hint, alloc, lines, number, form)?;
+        Part::Statements if is_opening(words) && cause == "Check" => {
+            push_refused_block(hint, alloc, lines, number, form_of(words))?;
         }
-        Part::Statements if is_opening(words.as_slice()) && cause != "Limit" => {
-            push_block_fault(hint, alloc, lines, number, words.as_slice())?;
+        Part::Statements if is_opening(words) && cause != "Limit" => {
+            push_block_fault(hint, alloc, lines, number, words)?;
+            push_page(hint, name_of_block(words, cause))?;
         }
-        part => {
-            push_head(hint, number, cause)?;
-            push_line_fault(hint, alloc, line.bytes, words.as_slice(), &above, cause)?;
+        _ => {
+            source.push_place(hint, lines, number)?;
+            push_text(hint, "#: ", &[Value::Name(cause)])?;
+            match odd_place(line.bytes) {
+                Some(place) => push_odd_byte(hint, line.bytes, place)?,
+                None => push_line_fault(hint, alloc, lines, words, &above, cause)?,
+            }
+            push_page(hint, name_of_line(above.part, cause))?;
         }
     }
     hint.push_str("\n")
 }
 
 /// How the block is written that the words open.
-fn form_of(words: &[&[u8]]) -> Form {
+pub fn form_of(words: &[&[u8]]) -> Form {
     match words {
         [_, _, form] if is(form, b"hex") => Form::Hex,
         _ => Form::Asm,
     }
 }
 
-/// Adds what is wrong with a line that is no line of a block.
+/// What the page that helps with a block goes by, which these words open.
+fn name_of_block<'a>(words: &[&[u8]], cause: &'a str) -> &'a str {
+    match form_of(words) {
+        Form::Hex if cause == "Program" => "image",
+        Form::Asm if cause == "Program" => "text",
+        _ => cause,
+    }
+}
+
+/// What the page that helps with a line of this part goes by.
+fn name_of_line(part: Part, cause: &str) -> &str {
+    match part {
+        Part::Schedule => "turns",
+        _ => cause,
+    }
+}
+
+/// Where a byte stands that no line of a scenario has.
+fn odd_place(line: &[u8]) -> Option<usize> {
+    match place_outside_ascii(line) {
+        Some(place) => Some(place),
+        None => place_of_blank(line),
+    }
+}
+
+/// Adds what is wrong with a line that is no line of a block, and where a comment begins, if one of its
+/// words begins as one does.
 fn push_line_fault(
     hint: &mut String,
     alloc: Global,
-    line: &[u8],
+    lines: &[Line],
     words: &[&[u8]],
     above: &Above,
     cause: &str,
 ) -> Result<(), AllocError> {
-    if let Some(place) = place_outside_ascii(line) {
-        return push_odd_byte(hint, line, place);
-    }
-    if let Some(place) = place_of_blank(line) {
-        return push_odd_byte(hint, line, place);
-    }
     match above.part {
-        Part::Schedule => push_turns(hint, words),
-        _ => push_statement(hint, alloc, words, above, cause),
+        Part::Schedule => push_turns(hint, words, above)?,
+        _ => push_statement(hint, alloc, lines, words, above, cause)?,
     }
+    for word in words {
+        if word.starts_with(b"#") {
+            return hint.push_str("; # begins a comment only as the first byte of a line");
+        }
+    }
+    Ok(())
 }
 
 fn push_statement(
     hint: &mut String,
     alloc: Global,
+    lines: &[Line],
     words: &[&[u8]],
     above: &Above,
     cause: &str,
 ) -> Result<(), AllocError> {
     match words {
-        [name, rest @ ..] if is(name, b"process") => push_process(hint, rest, above, cause),
+        [name, rest @ ..] if is(name, b"process") => {
+            push_process(hint, alloc, lines, rest, above, cause)
+        }
         [name, _] if is(name, b"job") && cause == "Limit" && is_full(above) => {
             push_no_koid(hint, above)
         }
@@ -124,28 +170,39 @@ fn push_statement(
         [name, ..] if is(name, b"end") => {
             hint.push_str("end closes the block of a program, and none is open")
         }
-        [name, ..] => push_no_statement(hint, alloc, name),
+        [name, ..] => push_no_statement(hint, alloc, name, above),
         [] => Ok(()),
     }
 }
 
 /// Adds which statement was meant by a word that is none.
-fn push_no_statement(hint: &mut String, alloc: Global, name: &[u8]) -> Result<(), AllocError> {
+fn push_no_statement(
+    hint: &mut String,
+    alloc: Global,
+    name: &[u8],
+    above: &Above,
+) -> Result<(), AllocError> {
     write!(hint, "no statement is called {}", Word(name))?;
-    if decimal(name).is_some() {
-        return hint.push_str("; turns stand below a line --");
+    if decimal(name).is_none() {
+        return push_nearest(hint, alloc, name, &STATEMENTS);
     }
-    push_nearest(hint, alloc, name, &STATEMENTS)
+    hint.push_str("; turns stand below a line --")?;
+    if above.has_files && above.is_bare() {
+        hint.push_str("; is SCENARIO the first word?")?;
+    }
+    Ok(())
 }
 
 /// Whether the word is one of the names.
-fn is_among(word: &[u8], names: &[&str]) -> bool {
+pub fn is_among(word: &[u8], names: &[&str]) -> bool {
     names.iter().any(|name| name.as_bytes() == word)
 }
 
 /// Adds what is wrong with the words behind `process`.
 fn push_process(
     hint: &mut String,
+    alloc: Global,
+    lines: &[Line],
     words: &[&[u8]],
     above: &Above,
     cause: &str,
@@ -159,7 +216,7 @@ fn push_process(
     };
     match cause {
         "Unknown" => push_unknown(hint, job, program, handles, above),
-        "BadHandleList" => push_wrong_handles(hint, handles, above),
+        "BadHandleList" => push_wrong_handles(hint, alloc, lines, program, handles, above),
         "NeedDenied" => hint.push_str("the job doesn't allow what the checked program needs"),
         "Limit" if above.count(Kind::Process) < MOST_PROCESSES => push_no_koid(hint, above),
         "Limit" => hint.push_str("a scenario starts at most 64 processes"),
@@ -181,9 +238,8 @@ fn push_unknown(
     handles: &[&[u8]],
     above: &Above,
 ) -> Result<(), AllocError> {
-    let programs = above.programs;
-    if decimal(program).is_none_or(|program| program >= programs) {
-        return push_no_program(hint, program, programs);
+    if above.program(program).is_none() {
+        return push_no_program(hint, program, above.programs.len());
     }
     if above.kind_of(decimal(job).unwrap_or(0)) != Some(Kind::Job) {
         return push_no_job(hint, job, above);
@@ -207,7 +263,7 @@ fn push_no_koid(hint: &mut String, above: &Above) -> Result<(), AllocError> {
 }
 
 /// Adds that there is no program of this number, and how many there are.
-fn push_no_program(hint: &mut String, program: &[u8], programs: u64) -> Result<(), AllocError> {
+fn push_no_program(hint: &mut String, program: &[u8], programs: usize) -> Result<(), AllocError> {
     let program = Word(program);
     write!(hint, "there is no program {program} above this line")?;
     match programs {
@@ -254,30 +310,37 @@ fn push_opening(hint: &mut String, alloc: Global, words: &[&[u8]]) -> Result<(),
 }
 
 /// Adds what is wrong with the words of a line of the schedule.
-fn push_turns(hint: &mut String, words: &[&[u8]]) -> Result<(), AllocError> {
-    let [_, count] = words else {
-        if let [name, ..] = words {
-            if is_among(name, &STATEMENTS) {
-                return write!(
-                    hint,
-                    "{} stands below a line --, where only turns do",
-                    Word(name)
-                );
-            }
+fn push_turns(hint: &mut String, words: &[&[u8]], above: &Above) -> Result<(), AllocError> {
+    match words {
+        [name] if is(name, b"--") => push_second_dashes(hint, above),
+        [name, ..] if is_among(name, &STATEMENTS) => {
+            let text = "# stands below the line --, where only turns do";
+            push_text(hint, text, &[Value::Word(name)])
         }
-        let found = words.len();
-        let ending = plural(found);
-        return write!(
-            hint,
-            "a line of turns has 2 words, PID COUNT; this one has {found} word{ending}"
-        );
-    };
-    if push_first_no_number(hint, words, &["PID", "COUNT"])? {
-        return Ok(());
+        [_, count] => {
+            if push_first_no_number(hint, words, &["PID", "COUNT"])? {
+                return Ok(());
+            }
+            let text = "COUNT is #, and at most 1000000 in one line";
+            push_text(hint, text, &[Value::Word(count)])
+        }
+        _ => {
+            let count = words.len();
+            let found = [Value::Number(count as u64), Value::Name(plural(count))];
+            let text = "a line of turns has 2 words, PID COUNT; this one has # word#";
+            push_text(hint, text, &found)
+        }
     }
-    write!(
-        hint,
-        "COUNT is {}, and at most 1000000 in one line",
-        Word(count)
-    )
+}
+
+/// Adds where the line `--` stands that comes before this one.
+fn push_second_dashes(hint: &mut String, above: &Above) -> Result<(), AllocError> {
+    let text = if above.line == above.joint {
+        "SCENARIO has a schedule already (line #): zlab < FILE runs it"
+    } else if above.dashes == above.joint {
+        "a second --; the first is put between both files"
+    } else {
+        "a second --; the first is in line #"
+    };
+    push_text(hint, text, &[Value::Number(above.dashes)])
 }

@@ -1,0 +1,201 @@
+//! What standard error says of a run along a schedule.
+
+use crate::hints::source::Source;
+use std::alloc::{AllocError, Global};
+use zl_asm::hints::Value::{Name, Number};
+use zl_asm::hints::{Line, Stuck, explain_stuck, is, numbered_lines, push_text, words_of};
+use zl_calls::World;
+use zl_code::{Boot, InstrBytes, ProcState, Row, TraceItem};
+use zl_rights::Pid;
+use zl_sched::{End, System};
+
+/// How many processes of many are told of.
+const SHOWN: usize = 4;
+
+/// Adds a line where the trace is full, or else where turns are of nobody; one for each process that is
+/// stuck; and one where the run ended because nobody can go on. The schedule is that of the input.
+pub fn explain_run(
+    hints: &mut String,
+    alloc: Global,
+    source: Source,
+    input: &[u8],
+    system: &System,
+    schedule: &[(Pid, u32)],
+    end: End,
+) {
+    let world = system.world();
+    let pushed = match end {
+        End::Limit => push_full(hints, system.items().len()),
+        _ => push_nobody(hints, alloc, source, input, world, schedule),
+    };
+    if pushed.is_err() {
+        hints.clear();
+    }
+    for item in system.items() {
+        if let TraceItem::Stuck { pid } = item {
+            explain_process(hints, alloc, world, *pid);
+        }
+    }
+    if system.idle() && push_blocked(hints, world).is_err() {
+        hints.clear();
+    }
+}
+
+/// Adds that the trace, of so many items, is full.
+fn push_full(hints: &mut String, count: usize) -> Result<(), AllocError> {
+    let count = count as u64;
+    let text = if count < Boot::MOST_ITEMS {
+        "zlab: the trace has the # items that its limit lets it have; a line limit N lets it have more\n"
+    } else {
+        "zlab: the trace has # items, and no trace has more\n"
+    };
+    push_text(hints, text, &[Number(count)])
+}
+
+/// Adds whose turns are the first that are of nobody, in all of the run.
+fn push_nobody(
+    hints: &mut String,
+    alloc: Global,
+    source: Source,
+    input: &[u8],
+    world: &World,
+    schedule: &[(Pid, u32)],
+) -> Result<(), AllocError> {
+    let Some((place, pid)) = first_of_nobody(world, schedule) else {
+        return Ok(());
+    };
+    let lines = numbered_lines(alloc, input)?;
+    let lines = lines.as_slice();
+    source.push_place(hints, lines, line_of_turns(alloc, lines, place)?)?;
+    let text = "nobody is #; its turns are skipped; ";
+    push_text(hints, text, &[Number(pid)])?;
+    push_processes(hints, world)?;
+    hints.push_str("\n")
+}
+
+/// The place of the first pair with turns for a process that never was, and its number.
+fn first_of_nobody(world: &World, schedule: &[(Pid, u32)]) -> Option<(usize, Pid)> {
+    let mut known = None;
+    for (place, pair) in schedule.iter().enumerate() {
+        let (pid, count) = *pair;
+        if known == Some(pid) || count == 0 {
+            continue;
+        }
+        if world.cpu_of(pid).is_none() {
+            return Some((place, pid));
+        }
+        known = Some(pid);
+    }
+    None
+}
+
+/// The number of the line of turns of this place, from 0.
+fn line_of_turns(alloc: Global, lines: &[Line], place: usize) -> Result<u64, AllocError> {
+    let mut left = place;
+    let mut is_below = false;
+    for line in lines {
+        let words = words_of(alloc, line.bytes)?;
+        match words.as_slice() {
+            [word] if is(word, b"--") => is_below = true,
+            [_, ..] if is_below && !line.bytes.starts_with(b"#") => {
+                if left == 0 {
+                    return Ok(line.number);
+                }
+                left -= 1;
+            }
+            _ => {}
+        }
+    }
+    Ok(0)
+}
+
+/// Adds which processes there are, of many only the first and the last.
+fn push_processes(hints: &mut String, world: &World) -> Result<(), AllocError> {
+    let count = world.process_count();
+    let mut lead = match count {
+        0 => return hints.push_str("there is no process"),
+        1 => "the only process is ",
+        _ => "processes are ",
+    };
+    for n in 0..count {
+        match world.process_at(n) {
+            Some(pid) if n < SHOWN || n + 1 == count => {
+                push_text(hints, "##", &[Name(lead), Number(pid)])?;
+                lead = ", ";
+            }
+            _ => lead = " .. ",
+        }
+    }
+    Ok(())
+}
+
+/// Adds who is blocked and at which call, of many only the first, if anybody is.
+fn push_blocked(hints: &mut String, world: &World) -> Result<(), AllocError> {
+    let mut told = 0;
+    for n in 0..world.process_count() {
+        let Some(pid) = world.process_at(n) else {
+            continue;
+        };
+        if told < SHOWN && matches!(world.state_of(pid), ProcState::Blocked) {
+            push_waiting(hints, world, pid, told == 0)?;
+            told += 1;
+        }
+    }
+    if told == 0 {
+        return Ok(());
+    }
+    match world.blocked_count().saturating_sub(told) {
+        0 => {}
+        more => push_text(hints, " and # more", &[Number(more as u64)])?,
+    }
+    hints.push_str("\n")
+}
+
+/// Adds at which call the process waits, and for which signals, if it is for signals.
+fn push_waiting(
+    hints: &mut String,
+    world: &World,
+    pid: Pid,
+    is_first: bool,
+) -> Result<(), AllocError> {
+    let (Some(image), Some(cpu)) = (world.image_of(pid), world.cpu_of(pid)) else {
+        return Ok(());
+    };
+    let Some(instr) = image.instr_at(cpu.counter()) else {
+        return Ok(());
+    };
+    let InstrBytes {
+        opcode,
+        registers,
+        ..
+    } = InstrBytes::split(instr.to_bytes());
+    let Some(row) = Row::of_opcode(opcode) else {
+        return Ok(());
+    };
+    let text = if is_first {
+        "zlab: nobody can go on: # waits in #"
+    } else {
+        ", # in #"
+    };
+    push_text(hints, text, &[Number(pid), Name(row.name)])?;
+    if row.name == "wait_one" {
+        let [_, _, mask, ..] = registers;
+        let mask = cpu.registers().get(usize::from(mask)).copied().unwrap_or(0);
+        push_text(hints, " for the signals #", &[Number(mask)])?;
+    }
+    Ok(())
+}
+
+/// Adds a line that says why the process is stuck.
+fn explain_process(hints: &mut String, alloc: Global, world: &World, pid: Pid) {
+    let (Some(image), Some(cpu)) = (world.image_of(pid), world.cpu_of(pid)) else {
+        return;
+    };
+    let stuck = Stuck {
+        pid,
+        image,
+        counter: cpu.counter(),
+        registers: cpu.registers(),
+    };
+    explain_stuck(hints, alloc, stuck);
+}

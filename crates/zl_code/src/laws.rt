@@ -43,13 +43,14 @@ pub fn a_ready_process_has_a_step_with_memory()
         × Step lib w p x after }
 {}
 
-/// A step gives no koid again, and no object changes its kind.
+/// Where each object has a koid that was given, a step gives no koid again, and no object changes its
+/// kind.
 pub fn koids_are_not_reused()
     ensures { (lib : Library) (w : World) (p : ℕ) (x : TraceItem) (after : World)
         → HasGivenKoids w → Step lib w p x after → KeepsKoids w after }
 {}
 
-/// A step leaves each object a koid that was given.
+/// Where each object has a koid that was given, each has one after a step too.
 pub fn steps_keep_given_koids()
     ensures { (lib : Library) (w : World) (p : ℕ) (x : TraceItem) (after : World)
         → HasGivenKoids w → Step lib w p x after → HasGivenKoids after }
@@ -73,7 +74,8 @@ pub fn boot_worlds_have_sound_handles()
         → IsBoot lib statements w → HandlesAreSound w }
 {}
 
-/// A step brings no handle to the place of another, and none to rights that a first handle of its kind lacks.
+/// Where handles are sound, a step brings none to the place of another, and none to rights that a first
+/// handle of its kind lacks.
 pub fn steps_keep_handles_sound()
     ensures { (lib : Library) (w : World) (p : ℕ) (x : TraceItem) (after : World)
         → HandlesAreSound w → Step lib w p x after → HandlesAreSound after }
@@ -170,7 +172,8 @@ pub fn runs_keep_processes()
 /// In each world of a run from a boot world, the step of a process leaves every other living process as
 /// it was, unless it starts, wakes or kills it, or drops it before its start. It keeps each object that
 /// the table of such a process names, where the process lives after the step too, and the policy of each
-/// job that a living process is in or below.
+/// job that a living process is in or below, where the job is there after the step. When it wakes,
+/// starts, kills or drops one is said by the step, and not here.
 pub fn frame()
     ensures { (lib : Library) (statements : List Statement) (boot w after : World)
         (items : List TraceItem) (p : ℕ) (x : TraceItem)

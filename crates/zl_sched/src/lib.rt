@@ -2,12 +2,13 @@
 //!
 //! It stands on `zl_calls`, for the world, and on `zl_code` and `zl_rights`, for what the definitions
 //! say of boots, steps and histories. It promises that `System::boot` makes a boot world or names the
-//! first fault; that the trace of a `System` is a legal history from there; that its list of ready
-//! processes has each of them once, the longest ready first, so that `System::idle` need not look for
-//! one; that `System::step` is one step of a ready process, whose item it adds, or changes nothing and
-//! says why; and that `System::step_all` takes the turns of a schedule one after another, and ends just
-//! where all were taken, where the trace is full, or where memory is refused. `laws` proves of the
-//! definitions that such a trace is a legal history.
+//! first fault; that the trace of a `System` is a legal history from there; that `System::step` is
+//! one step of a ready process, whose item it adds, or changes nothing and says why; that
+//! `System::idle` says whether no process is ready; and that `System::step_all` takes the turns of a
+//! schedule one after another, and ends where all were taken, where the trace is full, or before that,
+//! which is told as a want of memory. Its type keeps a list of the ready processes, each of them once,
+//! by their last step or when they became ready. `laws` proves of the definitions that such a trace is
+//! a legal history.
 #![tactic(auto)]
 
 pub mod laws;

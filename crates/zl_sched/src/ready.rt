@@ -1,4 +1,4 @@
-//! The list of the processes that are ready, the longest ready first.
+//! The list of the processes that are ready, by their last step or when they became ready.
 
 ghost use Rattle.std.specs.Prelude.{IfOk, ◌≡◌, ◌==◌, ◌≤◌, ◌+◌, ◌++◌, ◌∷◌, [], not, length, vec_capacity};
 ghost use Rattle.std.specs.List.{filter};

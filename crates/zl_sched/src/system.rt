@@ -28,7 +28,7 @@ pub enum Stepped {
     NotReady,
     /// The trace is at its limit.
     Limit,
-    /// Memory for the item was refused.
+    /// Memory for the item, or for the list of ready processes, was refused.
     NoMemory,
 }
 
@@ -53,7 +53,8 @@ pub struct System {
     world: World,
     items: Vec<TraceItem>,
     boot: Boot,
-    // The ready processes, the longest ready first. Each step makes room for all that there are.
+    // The ready processes, by their last step or when they became ready. Each step makes room for all
+    // processes that there are.
     ready: Vec<Pid>,
 }
 
@@ -150,7 +151,8 @@ impl System {
     /// Lets the process do one instruction, and adds its item to the trace.
     ///
     /// `NotReady` comes for a process that isn't ready, whatever else is so; else `Limit` where the
-    /// trace is full, and `NoMemory` where room for the item is refused.
+    /// trace is full, and `NoMemory` where room for the item or in the list of ready processes is
+    /// refused. That it was refused no clause says.
     // A run along a schedule calls it for each turn.
     #[inline(always)]
     pub fn step(&mut self, pid: Pid) -> Stepped

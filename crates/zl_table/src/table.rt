@@ -112,7 +112,8 @@ impl Table {
     }
 
     /// Gives the entry a value that isn't live: the value removed last, if nothing was inserted
-    /// since, and else the one freed most recently, or a fresh one.
+    /// since, and else the one freed most recently, or a fresh one. Which of all unused values it
+    /// then is no clause says.
     ///
     /// `Full` where the table holds `CAPACITY` handles, and `NoMemory` where there is no memory.
     /// `Full` comes at no other time (`full_only`), which is true of this representation alone: callers

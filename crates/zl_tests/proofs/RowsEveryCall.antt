@@ -1,4 +1,4 @@
--- A checked program that goes through each of the 23 calls: its process starts properly, each call is answered OK, it waits for a checked child that it starts, and wakes. So the headline speaks of something.
+-- A checked program that goes through each of the 23 calls: its process starts properly, each call but its exit is answered OK, it waits for a checked child that it starts, and wakes. So the headline speaks of something.
 use Rattle.std.proofs.lemmas.Option.{none-some, same_Some}
 use Rattle.zl_code.proofs.Common.{◌≡◌, ℕ, zero, suc, subst, slice_get, arith, true, false, List, [], ◌∷◌, ◌++◌, refl, map, replicate, pos, Some, None, World, Process, Library, Choice, Values, IsBoot, IsLegalHistory, boot_fault, boot_effect, origin, settled_in, Settles-by, started_process, creates, rights_of}
 use Rattle.zl_rights.specs.declared.kind.Kind.{Kind}

@@ -146,9 +146,10 @@ fn refuse(image: Image, fault: Fault) -> Refusal
 /// for three numbers more, and for the bounds of the image's words.
 ///
 /// `Rule` where the rule of the instruction doesn't hold at what is known there, and `JoinConflict`
-/// where nothing describes what may come to it: both only of an image that has no typing. `Budget`
-/// only of one that has a typing, and none with a step bound; the instruction is then the least from
-/// which too many may follow one another. `NoMemory` where memory is refused. Own profile.
+/// where nothing describes what may come to it: both only of an image that has no typing, and that it
+/// is this instruction and this rule no clause says. `Budget` only of one that has a typing, and none
+/// with a step bound; the instruction is then the least from which too many may follow one another.
+/// `NoMemory` where memory is refused. Own profile.
 pub fn check(alloc: Global, image: Image) -> Result<Checked, Refusal>
     ensures accepted { IfOk result (λ checked. checked.image ≡ image) }
     ensures typing { IfOk result (λ checked. IsTyping image (at checked.states)) }

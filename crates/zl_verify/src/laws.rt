@@ -195,9 +195,9 @@ pub fn over_is_by_count()
         → IsTyping i t → (IsOver i t n ↔ IsOverByCount i t n) }
 {}
 
-/// In a boot world each process of a checked program is as a typing of its image says, and each step
-/// from a sound world keeps this of all of them at once: of who steps, of those who wake or are
-/// started, and of the others. Own profile.
+/// Where a library's checked programs have a typing with a step bound: in a boot world each process of
+/// one is as a typing of its image says, and each step from a sound world keeps this of all of them at
+/// once, of who steps, of those who wake or are started, and of the others. Own profile.
 pub fn covered_stay()
     ensures boots { (lib : Library) (statements : List Statement) (boot : World)
         → IsVerified lib → IsSizedBoot lib statements boot → IsCovered lib boot }
@@ -238,11 +238,11 @@ pub fn bounded_images_are_sound()
     ensures no_leak { (i : Image) (t : ℕ → Option State) → IsTyping i t → NeverLeaks i t }
 {}
 
-/// In every legal history from a boot world, each process that runs a program that is listed as checked
-/// goes well from its start on, whether the boot started it or a `process_start` answered OK: no item
-/// of it is answered BAD_HANDLE, WRONG_TYPE or ACCESS_DENIED, is stuck or an end by a policy, and its
-/// budget is kept over the items, local instructions that are joined in one item among them. Own
-/// profile.
+/// Where a library's checked programs have a typing with a step bound: in every legal history from a
+/// boot world, each process of a program that is listed as checked goes well from its start on, whether
+/// the boot started it or a `process_start` answered OK: no item of it is answered BAD_HANDLE,
+/// WRONG_TYPE or ACCESS_DENIED, is stuck or an end by a policy, and its budget is kept over the items,
+/// local instructions that are joined in one item among them. Own profile.
 pub fn covered_processes_go_well()
     ensures { (lib : Library) (statements : List Statement) (boot : World) (history : List TraceItem)
         → IsVerified lib → IsSizedBoot lib statements boot → CoveredGoWell lib boot history }

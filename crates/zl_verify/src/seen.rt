@@ -21,7 +21,8 @@ impl Seen {
 }
 
 /// What `check` saw of an image that has no typing, for a person: it is found anew. Nothing for
-/// other images, and where memory is refused. Own profile.
+/// other images; where memory is refused, nothing too, or a value in which nothing is known. No clause
+/// says so. Own profile.
 pub fn seen_in(alloc: Global, image: &Image) -> Option<Seen> {
     let Ok(bounds) = Bounds::of(alloc, image) else {
         return None;

@@ -23,7 +23,8 @@ pub struct Way {
 }
 
 /// A way from the instruction of this number that is too long, in an image that `check` refuses for
-/// its budget there: it is found anew. Nothing where memory is refused. Own profile.
+/// its budget there: it is found anew. Nothing where memory is refused. No clause says so. Own
+/// profile.
 pub fn way_from(alloc: Global, image: &Image, first: usize) -> Option<Way> {
     let Ok(bounds) = Bounds::of(alloc, image) else {
         return None;

@@ -65,7 +65,7 @@ const OUTCOMES: [&str; 18] = [
     "ended",
 ];
 
-/// Adds a line that says why the item of this place, from 1, of the trace can't come.
+/// Adds a line that says what the lab has in place of the item of this place, from 1, of the trace.
 pub fn explain_difference(
     hints: &mut String,
     alloc: Global,
@@ -144,7 +144,7 @@ fn world_behind(alloc: Global, scenario: &[u8], items: &[TraceItem]) -> Option<W
     replay(alloc, library, boot, items).ok()
 }
 
-/// Adds which item comes where this one can't, or why its process does nothing there.
+/// Adds which item the lab's own step has in place of this one, or why its process does nothing there.
 fn push_own(hints: &mut String, world: &mut World, item: TraceItem) -> Result<(), AllocError> {
     let (pid, most) = match item {
         TraceItem::Run { pid, count } => (pid, count),

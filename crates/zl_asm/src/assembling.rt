@@ -15,8 +15,8 @@ use zl_code::Image;
 ///
 /// The grammar is own profile: a line holds a directive, a label `name:`, an instruction or nothing,
 /// and what stands behind a semicolon doesn't count. The error has the first line that is at fault,
-/// counted from 1, and why; a line whose label is missing comes behind all others. `NoMemory` says
-/// nothing of the text.
+/// counted from 1, and why; a line whose label is missing comes behind all others. Of these a clause
+/// says only that the text denotes no image. `NoMemory` says nothing of the text.
 pub fn assemble(alloc: Global, text: &str) -> Result<Image, AsmFault>
     ensures found { IfOk result (λ image. Denotes text.now image) }
     ensures none { IfErr result (λ fault.

@@ -1,7 +1,7 @@
 -- Reading a trace text line by line.
 use Rattle.zl_trace.proofs.Common.{◌≡◌, ℕ, ◌+◌, List, [], ◌∷◌, ◌++◌, true, false, length, refl, sym, ap, ◌∙◌, arith, append_assoc, length-append, append-nil}
 use Rattle.zl_code.specs.declared.history.TraceItem.{TraceItem}
-use Rattle.zl_trace.specs.Lines.{lines_of, words_of}
+use Rattle.zl_lines.specs.Lines.{lines_of, words_of}
 use Rattle.zl_trace.specs.Reading.{AreLinesOf, IsFirstWrong, Tells, TellsNothing, ends_items, says_nothing}
 unfoldable use Rattle.zl_trace.specs.Reading.{item_lines_from}
 

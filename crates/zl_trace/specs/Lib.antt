@@ -1,4 +1,3 @@
-pub mod Lines
 pub mod Output
 pub mod Reading
 pub mod Replaying

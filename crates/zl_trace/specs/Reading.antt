@@ -13,7 +13,7 @@ use Rattle.zl_code.specs.declared.history.TraceItem.{TraceItem}
 use Rattle.zl_code.specs.declared.history.TraceItem.TheVariants as item
 use Rattle.zl_trace.specs.declared.reading.Line.{Line}
 use Rattle.zl_trace.specs.declared.reading.Line.TheVariants as seen
-use Rattle.zl_trace.specs.Lines.{is_comment, lines_of, words_of}
+use Rattle.zl_lines.specs.Lines.{is_comment, lines_of, words_of}
 
 -- ---- the words of an item
 

@@ -3,14 +3,14 @@
 //!
 //! It stands on `zl_sched`, for the system whose trace it is and for how its run ended, on `zl_calls`
 //! and `zl_interp`, for the world and its programs, on `zl_code` and `zl_rights`, for items and
-//! statuses, and on `itoa`. It promises that `push_item`, `push_state` and `push_end` add just the line
-//! of the definitions, and that `text` writes the whole text, or a beginning of it; that `read_text`
-//! gives the items whose lines a text has, or names the first line that is none; and that `replay`
-//! gives the world to which such items lead, where they are a legal history, or names the first that
-//! differs: its process isn't ready there, or the lab's own step has another item, where the clause
-//! says that some step has one. `laws` proves of the definitions that what is written is what is read.
-//! `write_all` and `empty_block` are how it writes, `is_comment` and `split_words` how it reads, and
-//! serve other texts too.
+//! statuses, on `zl_lines`, for the words of its lines, and on `itoa`. It promises that `push_item`,
+//! `push_state` and `push_end` add just the line of the definitions, and that `text` writes the whole
+//! text, or a beginning of it; that `read_text` gives the items whose lines a text has, or names the
+//! first line that is none; and that `replay` gives the world to which such items lead, where they are a
+//! legal history, or names the first that differs: its process isn't ready there, or the lab's own step
+//! has another item, where the clause says that some step has one. `laws` proves of the definitions that
+//! what is written is what is read. `write_all` and `empty_block` are how it writes, and serve other
+//! texts too.
 #![tactic(auto)]
 
 mod fault;
@@ -20,7 +20,6 @@ mod lines;
 mod output;
 mod reading;
 mod replaying;
-mod words;
 mod writing;
 
 pub use fault::{ReadFault, ReplayFault, TextFault};
@@ -28,5 +27,4 @@ pub use lines::{push_end, push_item, push_state};
 pub use output::{empty_block, write_all};
 pub use reading::{read_bytes, read_text};
 pub use replaying::replay;
-pub use words::{is_comment, split_words};
 pub use writing::text;

@@ -4,9 +4,9 @@ ghost use Rattle.zl_trace.specs.Reading.{AreLinesOf, IsFirstWrong, Says, ends_it
 
 use crate::fault::ReadFault;
 use crate::item_words::item_of;
-use crate::words::{is_comment, split_words};
 use std::alloc::{AllocError, Global};
 use zl_code::TraceItem;
+use zl_lines::{is_comment, split_words};
 
 /// What a line is to the reader.
 enum Line {

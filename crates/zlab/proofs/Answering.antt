@@ -2,8 +2,8 @@
 use Rattle.zlab.proofs.Common.{◌≡◌, ℕ, List, [], ◌++◌, length, Option, Some, None, Result, Ok, Err, refl, sym, ap, ◌∙◌, subst, arith, IfOk, OnOk, IsLegalHistory, Appends, states_of, IsRunOf, IsFirstFault, too_long, IsAnswer, trace, refusal, Answers, BeginsAnswer, nothing, beginning, IsTextOf, AnswersInput, AnswersSome, BeginsInput, BeginsReader, BeginsSome, BeginsFiles, joined_files, Holds, IsBounded, IsStart, IsRun, WritesRun, BeginsRun, no_line, some_lines, turns_of, EndsBy, AppendsBeginning, System, Walks, room_of, history_text, cause_name, refused_line}
 use Rattle.std.specs.Prelude.{OnErr}
 use Rattle.zl_code.specs.declared.history.TraceItem.{TraceItem}
-use Rattle.zlab.specs.declared.fault.Cause.TheVariants as cause
-use Rattle.zlab.specs.declared.fault.LineFault.{LineFault}
+use Rattle.zl_scenario.specs.declared.cause.Cause.TheVariants as cause
+use Rattle.zl_scenario.specs.declared.cause.LineFault.{LineFault}
 use Rattle.zlab.specs.declared.fault.Verdict.{Verdict}
 use Rattle.zlab.specs.declared.fault.Verdict.TheVariants as verdict
 use Rattle.zlab.specs.declared.input.Input.{Input}
@@ -12,7 +12,7 @@ use Rattle.zl_sched.specs.declared.system.End.{End}
 use Rattle.zlab.specs.Assembling.{BeginsAssembly, nothing_written}
 use Rattle.zl_sched.proofs.Legal.{ends_legal}
 use Rattle.zlab.proofs.SoundWorlds.{always_sound}
-use Rattle.zlab.proofs.Programs.{are_verified}
+use Rattle.zl_scenario.proofs.Programs.{are_verified}
 use Rattle.zl_verify.proofs.CoveredRuns.{covered_go_well}
 
 -- ---- facts of a result

@@ -6,11 +6,11 @@ use Rattle.std.proofs.lemmas.Option.{slice_get_within}
 use Rattle.zl_code.specs.declared.boot.BootCause.{BootCause}
 use Rattle.zl_code.specs.declared.boot.BootCause.TheVariants as boot
 use Rattle.zl_code.specs.declared.boot.Statement.{Statement}
-use Rattle.zlab.specs.declared.fault.Cause.{Cause}
-use Rattle.zlab.specs.declared.fault.LineFault.{LineFault}
-use Rattle.zlab.specs.declared.scenario.Scenario.{Scenario as Made}
+use Rattle.zl_scenario.specs.declared.cause.Cause.{Cause}
+use Rattle.zl_scenario.specs.declared.cause.LineFault.{LineFault}
+use Rattle.zl_scenario.specs.declared.reading.Scenario.{Scenario as Made}
 use Rattle.zlab.specs.Engine.{IsFirstFaultBy}
-use Rattle.zlab.specs.Reading.{IsScenario}
+use Rattle.zl_scenario.specs.Reading.{IsScenario}
 
 -- only a want of memory has no line
 other_than_memory : (found : BootCause) (c : Cause) → line_cause found ≡ Some c → found ≡ boot.NoMemory → ⊥

@@ -5,13 +5,13 @@ use Rattle.zl_code.specs.Common.{World}
 use Rattle.zl_code.specs.declared.boot.Statement.{Statement}
 use Rattle.zl_code.specs.declared.history.TraceItem.{TraceItem}
 use Rattle.zl_trace.specs.Reading.{AreLinesOf, IsFirstWrong, item_lines_of}
-use Rattle.zlab.specs.declared.fault.Cause.TheVariants as cause
-use Rattle.zlab.specs.declared.fault.LineFault.{LineFault}
+use Rattle.zl_scenario.specs.declared.cause.Cause.TheVariants as cause
+use Rattle.zl_scenario.specs.declared.cause.LineFault.{LineFault}
 use Rattle.zlab.specs.declared.replaying.Replayed.{Replayed}
 use Rattle.zlab.specs.declared.replaying.Replayed.TheVariants as replayed
-use Rattle.zlab.specs.declared.scenario.Scenario.{Scenario as Made}
+use Rattle.zl_scenario.specs.declared.reading.Scenario.{Scenario as Made}
 use Rattle.zlab.specs.Engine.{IsFirstFaultBy}
-use Rattle.zlab.specs.Reading.{IsScenario}
+use Rattle.zl_scenario.specs.Reading.{IsScenario}
 use Rattle.zlab.specs.Replay.{AreItems, Boots, Comes, HasItems, IsScenarioOf, IsStatementFault, IsTraceFault, IsTrueOf, MOST_TRACE, fault_alone, trace_front, wrong, too_long as trace_too_long}
 use Rattle.zlab.proofs.Booting.{statement_fault}
 

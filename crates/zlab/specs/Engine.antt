@@ -10,9 +10,9 @@ use Rattle.zl_code.specs.Handles.{Throughout}
 use Rattle.zl_code.specs.Headline.{IsSizedBoot, CoveredGoWell}
 use Rattle.zlab.specs.declared.engine.Booted.{Booted}
 use Rattle.zlab.specs.declared.engine.Booted.TheVariants as booted
-use Rattle.zlab.specs.declared.fault.Cause.{Cause}
-use Rattle.zlab.specs.declared.fault.Cause.TheVariants as cause
-use Rattle.zlab.specs.declared.fault.LineFault.{LineFault}
+use Rattle.zl_scenario.specs.declared.cause.Cause.{Cause}
+use Rattle.zl_scenario.specs.declared.cause.Cause.TheVariants as cause
+use Rattle.zl_scenario.specs.declared.cause.LineFault.{LineFault}
 use Rattle.zlab.specs.declared.fault.Verdict.{Verdict}
 use Rattle.zlab.specs.declared.fault.Verdict.TheVariants as verdict
 use Rattle.zlab.specs.declared.input.Input.{Input}
@@ -20,12 +20,13 @@ use Rattle.zl_sched.specs.declared.system.End.{End}
 use Rattle.zl_sched.specs.Follows.{turns_of, EndsBy}
 use Rattle.zlab.specs.Input.{MOST_INPUT, FitsInput, Holds}
 use Rattle.zl_trace.specs.Output.{AppendsBeginning}
-use Rattle.zlab.specs.Reading.{Lists, AreAccepted}
-use Rattle.zlab.specs.Reads.{IsRead}
-use Rattle.zlab.specs.Scenario.{Scenario, Reading}
+use Rattle.zl_scenario.specs.Reading.{Lists, AreAccepted}
+use Rattle.zl_scenario.specs.Reads.{IsRead}
+use Rattle.zl_scenario.specs.Scenario.{Scenario, Reading}
 use Rattle.zl_sched.specs.System.{System, Walks}
 use Rattle.zl_trace.specs.Text.{states_of, history_text}
-use Rattle.zlab.specs.Text.{cause_name, refused_line}
+use Rattle.zl_scenario.specs.Causes.{cause_name}
+use Rattle.zlab.specs.Text.{refused_line}
 
 -- ---- a trace
 

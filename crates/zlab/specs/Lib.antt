@@ -1,14 +1,7 @@
 pub mod Text
 pub mod Engine
 pub mod Input
-pub mod Lines
-pub mod Handles
-pub mod Scenario
-pub mod Accepted
-pub mod Reads
 pub mod Replay
-pub mod Reading
-pub mod Words
 pub mod Assembling
 pub mod Checking
 pub mod Files

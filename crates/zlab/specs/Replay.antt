@@ -9,8 +9,8 @@ use Rattle.zl_code.specs.declared.history.TraceItem.{TraceItem}
 use Rattle.zl_trace.specs.Output.{AppendsBeginning}
 use Rattle.zl_trace.specs.Reading.{AreLinesOf, IsFirstWrong, item_lines_of}
 use Rattle.zl_trace.specs.Replaying.{DiffersAt}
-use Rattle.zlab.specs.declared.fault.Cause.TheVariants as cause
-use Rattle.zlab.specs.declared.fault.LineFault.{LineFault}
+use Rattle.zl_scenario.specs.declared.cause.Cause.TheVariants as cause
+use Rattle.zl_scenario.specs.declared.cause.LineFault.{LineFault}
 use Rattle.zlab.specs.declared.fault.Verdict.{Verdict}
 use Rattle.zlab.specs.declared.fault.Verdict.TheVariants as verdict
 use Rattle.zlab.specs.declared.replaying.Items.{Items}
@@ -19,10 +19,11 @@ use Rattle.zlab.specs.declared.replaying.Replayed.{Replayed}
 use Rattle.zlab.specs.declared.replaying.Replayed.TheVariants as replayed
 use Rattle.zlab.specs.Engine.{IsFirstFaultBy, IsTextOf, line_cause}
 use Rattle.zlab.specs.Input.{FitsInput, TakesAtMost}
-use Rattle.zlab.specs.Reading.{Lists, AreAccepted}
-use Rattle.zlab.specs.Reads.{IsRead}
-use Rattle.zlab.specs.Scenario.{Reading}
-use Rattle.zlab.specs.Text.{cause_name, refused_line, refused_trace_line}
+use Rattle.zl_scenario.specs.Reading.{Lists, AreAccepted}
+use Rattle.zl_scenario.specs.Reads.{IsRead}
+use Rattle.zl_scenario.specs.Scenario.{Reading}
+use Rattle.zl_scenario.specs.Causes.{cause_name}
+use Rattle.zlab.specs.Text.{refused_line, refused_trace_line}
 
 -- ---- the two inputs
 

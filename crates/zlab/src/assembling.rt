@@ -8,7 +8,6 @@ ghost use Rattle.zlab.specs.Assembling.{Leads, ReadsTo, AssemblesReader, BeginsA
 ghost use Rattle.zl_trace.specs.Output.{AppendsBeginning};
 
 use crate::fault::{EngineFault, Verdict};
-use crate::hints::add_page;
 use crate::input::{Input, read_input};
 use crate::text::push_refusal;
 use std::alloc::Global;
@@ -16,6 +15,7 @@ use std::io::{Read, Write};
 use zl_asm::hints::explain_program;
 use zl_asm::{AsmCause, AsmFault, assemble_bytes};
 use zl_code::encode;
+use zl_hints::add_page;
 use zl_trace::write_all;
 
 /// What a text leads to.

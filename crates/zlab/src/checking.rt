@@ -5,13 +5,13 @@ ghost use Rattle.zlab.specs.Checking.{BeginsCheck, ChecksReader, Finds, IsTrueOf
 ghost use Rattle.zl_trace.specs.Output.{AppendsBeginning};
 
 use crate::fault::{EngineFault, Verdict};
-use crate::hints::{add_page, explain_refusal};
 use crate::input::read_front;
 use crate::text::push_refusal;
 use std::alloc::{AllocError, Global};
 use std::io::{Read, Write};
 use zl_asm::hints::explain_image;
 use zl_code::{DecodeFault, Image, decode};
+use zl_hints::{add_page, explain_refusal};
 use zl_trace::write_all;
 use zl_verify::{RefusalCause, check};
 

@@ -3,18 +3,20 @@ ghost use Rattle.std.specs.Prelude.{◌≡◌, ◌≢◌, slice_index_or, Some, 
 ghost use Rattle.std.specs.Io.KnownBytes.{Appends};
 ghost use Rattle.zlab.specs.Engine.{AnswersReader, BeginsReader, AnswersInput, BeginsInput, Answers, BeginsAnswer, Starts, WritesRun, BeginsRun, line_cause};
 ghost use Rattle.zlab.specs.Input.{FitsInput, IsBounded, TakesNoMore};
-ghost use Rattle.zlab.specs.Text.{cause_name, refused_line};
+ghost use Rattle.zl_scenario.specs.Causes.{cause_name};
+ghost use Rattle.zlab.specs.Text.{refused_line};
 ghost use Rattle.zl_trace.specs.Output.{AppendsBeginning};
 
-use crate::fault::{Cause, EngineFault, LineFault, Verdict};
-use crate::hints::{STANDARD_INPUT, Source, explain_run, explain_scenario};
+use crate::fault::{EngineFault, Verdict};
+use crate::hints::explain_run;
 use crate::input::{Input, read_input};
-use crate::scenario::{Reading, Scenario, read_scenario};
 use crate::text::push_refusal;
 use std::alloc::Global;
 use std::io::{Read, Write};
 use zl_code::{BootCause, BootFault};
+use zl_hints::{STANDARD_INPUT, Source, explain_scenario};
 use zl_rights::Pid;
+use zl_scenario::{Cause, LineFault, Reading, Scenario, read_scenario};
 use zl_sched::{End, System};
 use zl_trace::{empty_block, write_all};
 

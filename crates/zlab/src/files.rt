@@ -5,10 +5,10 @@ ghost use Rattle.zlab.specs.Input.{Holds, IsBounded, TakesNoMore};
 
 use crate::engine::answer_input;
 use crate::fault::{EngineFault, Verdict};
-use crate::hints::Source;
 use crate::input::{Input, MOST_INPUT, read_input};
 use std::alloc::{AllocError, Global};
 use std::io::{Read, Write};
+use zl_hints::Source;
 
 /// Does what `step_engine` does, with the scenario from one reader and the schedule from another.
 /// The input is the scenario, an end of its last line where it has none, a line `--`, and the
@@ -56,7 +56,9 @@ fn read_files<A: Read, B: Read>(
     ensures schedule_taken { TakesNoMore (B.remaining schedule.old) (B.remaining schedule.new) }
 {
     let first = read_input(alloc, scenario)?;
-    source.keep_length(&first);
+    if let Input::Text(text) = &first {
+        source.keep_length(text.len());
+    }
     let second = read_input(alloc, schedule)?;
     Ok(join(first, second)?)
 }

@@ -1,12 +1,12 @@
 //! The program: its command line, the trace of standard input or of two files, the replay of a
 //! trace, the assembler and the verifier over files, what standard error says, and its exit status.
 //!
-//! It stands on `zl_sched` for a run along a schedule and on `zl_trace` for its text, on `zl_calls` for
-//! the world, on `zl_asm` for the assembler and for what is told of texts, images and stuck processes,
-//! on `zl_verify` and `zl_abs` for the verifier, on `zl_code` and `zl_rights` for what these speak of,
-//! and on `bitflags`, `clap` and `thiserror`. It promises, by the contracts of `step_engine`,
-//! `step_files_engine`, `replay_engine`, `asm_engine`, `check_engine` and `words`, that what is written is the answer
-//! to what was read.
+//! It stands on `zl_sched` for a run along a schedule and on `zl_trace` for its text, on `zl_scenario` for
+//! what an input says, on `zl_command` for the command line, on `zl_hints` and `zl_asm` for what a person
+//! is told, on `zl_asm` for the assembler, on `zl_verify` for the verifier, on `zl_calls` for the world, on
+//! `zl_interp`, `zl_code`, `zl_rights` and `zl_lines` for what these speak of, and on `thiserror`. It
+//! promises, by the contracts of `step_engine`, `step_files_engine`, `replay_engine`, `asm_engine` and
+//! `check_engine`, that what is written is the answer to what was read.
 #![tactic(auto)]
 
 mod assembling;
@@ -17,17 +17,14 @@ mod files;
 mod hints;
 mod input;
 mod replaying;
-mod scenario;
 mod text;
 mod told;
-mod words;
 
 use assembling::asm_engine;
 use checking::check_engine;
 use engine::step_engine;
 use fault::{EngineFault, Verdict};
 use files::step_files_engine;
-use hints::{explain_failure, explain_opening, explain_words};
 use replaying::replay_engine;
 use std::alloc::AllocError;
 use std::fs::OpenFile;
@@ -37,7 +34,8 @@ use std::rt::{Env, Files};
 use std::{env, fs, io};
 use thiserror::Error;
 use told::Told;
-use words::{Task, WordFault};
+use zl_command::{Task, WordFault};
+use zl_hints::{explain_failure, explain_opening, explain_words};
 
 /// Why the program ends without an answer.
 #[derive(Debug, Drop, Error)]
@@ -88,7 +86,7 @@ fn run<R: AllocGlobal + Env + Files + Input + Print>(
 ) -> Result<Verdict, Failure> {
     let all = all_words(rt, hints)?;
     let words = all.get(1..).unwrap_or(&[]);
-    if let Some(text) = words::help(rt.alloc(), words)? {
+    if let Some(text) = zl_command::help(rt.alloc(), words)? {
         return match print!(rt; "{text}") {
             Ok(()) => Ok(Verdict::Done),
             Err(reason) => {
@@ -97,7 +95,7 @@ fn run<R: AllocGlobal + Env + Files + Input + Print>(
             }
         };
     }
-    match words::words(rt.alloc(), words) {
+    match zl_command::words(rt.alloc(), words) {
         Ok(Task::Input) => Ok(step(rt, hints)?),
         Ok(Task::Assemble { text, image }) => Ok(assemble(rt, hints, text, image)?),
         Ok(Task::Check { image }) => Ok(check(rt, hints, image)?),

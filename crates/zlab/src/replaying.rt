@@ -8,15 +8,16 @@ ghost use Rattle.zlab.specs.Input.{FitsInput, Holds, IsBounded, TakesNoMore};
 ghost use Rattle.zlab.specs.Replay.{AnswersReplay, AreItems, BeginsReplay, Comes, IsStatementFault, IsTrueOf, TakesTrace, alone as fault_where_alone, replayed_line, trace_front, verdict_of as ends};
 
 use crate::engine::{TOO_LONG, fault_of_boot};
-use crate::fault::{Cause, EngineFault, LineFault, Verdict};
-use crate::hints::{LONE_SCENARIO, explain_difference, explain_line, explain_scenario};
+use crate::fault::{EngineFault, Verdict};
+use crate::hints::{explain_difference, explain_line};
 use crate::input::{Input, read_front, read_input};
-use crate::scenario::{Reading, Scenario, read_scenario};
 use crate::text::{push_refusal, push_trace_refusal};
 use std::alloc::{AllocError, Global};
 use std::io::{Read, Write};
 use zl_calls::World;
 use zl_code::TraceItem;
+use zl_hints::{LONE_SCENARIO, explain_scenario};
+use zl_scenario::{Cause, LineFault, Reading, Scenario, read_scenario};
 use zl_trace::{ReadFault, ReplayFault, read_bytes, replay, write_all};
 
 /// The most bytes of a trace.

@@ -1,15 +1,15 @@
 //! Why a trace isn't replayed.
 
-use crate::hints::page::push_page;
-use crate::hints::scenario::is_among;
-use crate::scenario::{Reading, Scenario, read_scenario};
 use std::alloc::{AllocError, Global};
 use zl_asm::hints::Value::Number;
 use zl_asm::hints::{Value, line_at, push_nearest, push_text, words_of};
 use zl_calls::World;
 use zl_code::{ProcState, TraceItem};
+use zl_hints::{is_among, push_page};
+use zl_lines::{is_comment, split_words};
 use zl_rights::Pid;
-use zl_trace::{is_comment, push_item, read_bytes, replay, split_words};
+use zl_scenario::{Reading, Scenario, read_scenario};
+use zl_trace::{push_item, read_bytes, replay};
 
 /// The most items of a trace.
 const MOST_ITEMS: usize = 1_000_000;

@@ -1,11 +1,11 @@
 //! What standard error says of a run along a schedule.
 
-use crate::hints::source::Source;
 use std::alloc::{AllocError, Global};
 use zl_asm::hints::Value::{Name, Number};
 use zl_asm::hints::{Line, Stuck, explain_stuck, is, numbered_lines, push_text, words_of};
 use zl_calls::World;
 use zl_code::{Boot, InstrBytes, ProcState, Row, TraceItem};
+use zl_hints::Source;
 use zl_rights::Pid;
 use zl_sched::{End, System};
 

@@ -1,0 +1,7 @@
+-- The names that most proofs of this crate cite, passed on from one place. Declares nothing.
+pub use Rattle.std.proofs.Common.{ap, ap₂, cond, inl, inr, refl, subst, sym, true≢false, ◌∙◌}
+pub use Rattle.std.specs.List.{find}
+pub use Rattle.clap.specs.Simple.{App, Shape, app_of_fields, built, entered, filled, names_of, on_top, rows_at, with_index}
+pub use Rattle.clap.specs.Words.{Text, app_of, fault_of, first_of, found_of, is_simple, is_simple_and_free, subcommand_of, takes, with_rule, with_subcommand}
+pub use Rattle.std.specs.Prelude.{Bool, Err, IfErr, IfSome, IsErrAnd, IsSome, List, None, Ok, Option, Result, Some, [], codes, drop, encode_utf8, false, fold, is_some, length, map, not, option_and_then, slice_get, suc, true, unwrap_or, zero, ℕ, ◌&&◌, ◌++◌, ◌||◌, ◌∷◌, ◌≡◌, ◌⊎◌}
+pub use Rattle.zl_command.specs.Words.{FaultOf, HasValue, HasValues, MayAskForHelp, assembling, checking, commands, needed, program, replaying, stepping}

@@ -1,0 +1,4 @@
+pub mod Common
+pub mod WalkKeeps
+pub mod CommandLine
+pub mod RowsWords

@@ -1,0 +1,222 @@
+//! The command line, read with `clap`: what its words ask for, and its help.
+ghost use Rattle.std.specs.Prelude.{◌≡◌, ◌≢◌, Some, IsSome, IfOk, IfErr, map, false, [], ◌∷◌};
+ghost use Rattle.clap.specs.Takes.{takes};
+ghost use Rattle.clap.specs.Words.{app_of, fault_of, first_of, found_of, kind_of, rows_of, rule_of, subcommand_of, subcommand_rows_of};
+ghost use Rattle.zl_command.specs.Words.{AsksFor, FaultOf, HasItsValues, HasValue, HasValues, MayAskForHelp, assembling, checking, commands, needed, replaying, stepping};
+ghost use Rattle.zl_command.specs.declared.command.WordFault.TheVariants.{NoMemory, Usage};
+
+mod texts;
+
+use clap::error::ErrorKind;
+use clap::{Arg, ArgMatches, Command};
+use std::alloc::{AllocError, Global};
+use std::convert::AsStr;
+use thiserror::Error;
+
+/// What a command line asks for.
+#[derive(Clone, Copy, PartialEq, Eq, Debug)]
+pub enum Task<'a> {
+    /// No words: standard input has a scenario and a schedule, whose trace is written.
+    Input,
+    /// `asm IN OUT`: a text is assembled into an image.
+    Assemble {
+        /// The path of the text.
+        text: &'a str,
+        /// The path of the image.
+        image: &'a str,
+    },
+    /// `check IMAGE`: the verifier accepts an image or refuses it.
+    Check {
+        /// The path of the image.
+        image: &'a str,
+    },
+    /// `step SCENARIO SCHEDULE`: a scenario runs along a schedule, and its trace is written.
+    Step {
+        /// The path of the scenario.
+        scenario: &'a str,
+        /// The path of the schedule.
+        schedule: &'a str,
+    },
+    /// `replay SCENARIO TRACE`: whether a trace is replayed from a scenario.
+    Replay {
+        /// The path of the scenario.
+        scenario: &'a str,
+        /// The path of the trace.
+        trace: &'a str,
+    },
+}
+
+/// Why a command line asks for no task.
+#[derive(Clone, Copy, PartialEq, Eq, Debug, Error)]
+pub enum WordFault {
+    /// The words are in none of the forms.
+    #[error("`zlab --help` has the forms")]
+    Usage,
+    /// Memory was refused.
+    #[error("out of memory")]
+    NoMemory,
+}
+
+impl From<AllocError> for WordFault {
+    ghost from_gives = { λ _ fault. fault ≡ NoMemory };
+
+    fn from(_refused: AllocError) -> WordFault {
+        WordFault::NoMemory
+    }
+}
+
+impl From<clap::Error> for WordFault {
+    ghost from_gives = { λ error fault. FaultOf (kind_of error) fault };
+
+    fn from(error: clap::Error) -> WordFault {
+        match error.kind() {
+            ErrorKind::OutOfMemory => WordFault::NoMemory,
+            _ => WordFault::Usage,
+        }
+    }
+}
+
+/// What the words after the program's name ask for. `Usage` comes where `clap` doesn't take them for
+/// the command set, and so for words that ask for help or for the version: `help` has the text for
+/// those. `NoMemory` comes where memory is refused.
+pub fn words<'a, S: AsStr>(alloc: Global, words: &'a [S]) -> Result<Task<'a>, WordFault>
+    ensures task { IfOk result (λ task. AsksFor (subcommand_of commands
+        (map S.text words.entry.now)) task) }
+    ensures taken { IfOk result (λ _. fault_of commands (map S.text words.entry.now) ≡ []) }
+    ensures faulty { IfErr result (λ fault. fault ≡ Usage → fault_of commands
+        (map S.text words.entry.now) ≢ []) }
+    ensures usage { IfErr result (λ fault. fault ≡ Usage → takes commands
+        (map S.text words.entry.now) ≡ false) }
+{
+    let matches = command(alloc)?.try_get_matches_from(words)?;
+    Ok(task_of(&matches))
+}
+
+/// The task that the matches of the command set stand for.
+fn task_of<'a>(matches: &ArgMatches<'a>) -> Task<'a>
+    requires { HasValues (subcommand_rows_of matches.now) }
+    ensures { AsksFor (subcommand_rows_of matches.now) result }
+{
+    match matches.subcommand() {
+        None => Task::Input,
+        Some((name, values)) => task_of_command(name, values),
+    }
+}
+
+/// The task that a command of the set with its values stands for.
+fn task_of_command<'a>(name: &str, values: &ArgMatches<'a>) -> Task<'a>
+    requires { HasItsValues name.now (rows_of (found_of values.now)) }
+    ensures { AsksFor (Some (name.now, rows_of (found_of values.now))) result }
+{
+    if name == "asm" {
+        Task::Assemble {
+            text: value(values, "IN"),
+            image: value(values, "OUT"),
+        }
+    } else if name == "step" {
+        Task::Step {
+            scenario: value(values, "SCENARIO"),
+            schedule: value(values, "SCHEDULE"),
+        }
+    } else if name == "replay" {
+        Task::Replay {
+            scenario: value(values, "SCENARIO"),
+            trace: value(values, "TRACE"),
+        }
+    } else {
+        Task::Check {
+            image: value(values, "IMAGE"),
+        }
+    }
+}
+
+/// A value that the subcommand can't be without.
+fn value<'a>(matches: &ArgMatches<'a>, name: &str) -> &'a str
+    requires { HasValue (rows_of (found_of matches.now)) name.now }
+    ensures { first_of name.now (rows_of (found_of matches.now)) ≡ Some result.now }
+{
+    matches.get_str(name).unwrap()
+}
+
+/// The command set, with what the help says of it.
+fn command<'a>(alloc: Global) -> Result<Command<'a>, AllocError>
+    ensures { IfOk result (λ made. app_of made ≡ commands) }
+{
+    Command::new(alloc, "zlab")
+        .no_binary_name(true)
+        .bin_name("zlab")?
+        .version("0.1.0")
+        .about(texts::ABOUT)
+        .after_help(texts::FORMS)
+        .subcommand(assembling(alloc)?)?
+        .subcommand(checking(alloc)?)?
+        .subcommand(stepping(alloc)?)?
+        .subcommand(replaying(alloc)?)
+}
+
+fn assembling<'a>(alloc: Global) -> Result<Command<'a>, AllocError>
+    ensures { IfOk result (λ made. app_of made ≡ assembling) }
+{
+    Command::new(alloc, "asm")
+        .about("Assembles the text in the file IN into an image in the file OUT")
+        .arg(needed(alloc, "IN", "The file of the assembler's text"))?
+        .arg(needed(alloc, "OUT", "The file for the image; it is emptied first"))
+}
+
+fn checking<'a>(alloc: Global) -> Result<Command<'a>, AllocError>
+    ensures { IfOk result (λ made. app_of made ≡ checking) }
+{
+    Command::new(alloc, "check")
+        .about("Says whether the verifier accepts the image in the file IMAGE")
+        .arg(needed(alloc, "IMAGE", "The file of the image"))
+}
+
+fn stepping<'a>(alloc: Global) -> Result<Command<'a>, AllocError>
+    ensures { IfOk result (λ made. app_of made ≡ stepping) }
+{
+    Command::new(alloc, "step")
+        .about("Runs the scenario in the file SCENARIO along the schedule in the file SCHEDULE")
+        .arg(needed(alloc, "SCENARIO", "The file of the scenario"))?
+        .arg(needed(alloc, "SCHEDULE", "The file of the schedule"))
+}
+
+fn replaying<'a>(alloc: Global) -> Result<Command<'a>, AllocError>
+    ensures { IfOk result (λ made. app_of made ≡ replaying) }
+{
+    Command::new(alloc, "replay")
+        .about(
+            "Says whether the scenario in the file SCENARIO can have the trace in the file TRACE",
+        )
+        .arg(needed(alloc, "SCENARIO", "The file of the scenario"))?
+        .arg(needed(alloc, "TRACE", "The file of the trace"))
+}
+
+/// A word that must be there.
+fn needed<'a>(alloc: Global, name: &'a str, help: &'a str) -> Arg<'a>
+    ensures rule { rule_of result ≡ needed name.entry.now }
+    ensures local { result.global ≡ false }
+{
+    Arg::new(alloc, name).help(help).required(true)
+}
+
+/// The text for words that ask for help or for the version; what other words ask for is left to
+/// `words`.
+pub fn help<S: AsStr>(alloc: Global, words: &[S]) -> Result<Option<String>, AllocError>
+    ensures help { fault_of commands (map S.text words.now) ≡ ErrorKind.DisplayHelp ∷ []
+        → IfOk result IsSome }
+    ensures version { fault_of commands (map S.text words.now) ≡ ErrorKind.DisplayVersion ∷ []
+        → IfOk result IsSome }
+    ensures other { IfOk result (λ text. IsSome text
+        → MayAskForHelp (fault_of commands (map S.text words.now))) }
+{
+    let Err(error) = command(alloc)?.try_get_matches_from(words) else {
+        return Ok(None);
+    };
+    match error.kind() {
+        ErrorKind::DisplayHelp | ErrorKind::DisplayVersion => {
+            Ok(Some(format!(in alloc; "{error}")?))
+        }
+        ErrorKind::OutOfMemory => Err(AllocError),
+        _ => Ok(None),
+    }
+}

@@ -1,0 +1,10 @@
+//! The command line of the program: what its words ask for, and its help.
+//!
+//! It stands on `clap` and `thiserror`. It promises that `words` takes just the forms that the
+//! definitions have, by `clap`'s own reading of words, and that `help` answers just where help or the
+//! version is asked for.
+#![tactic(auto)]
+
+mod command;
+
+pub use command::{Task, WordFault, help, words};

@@ -1,0 +1,170 @@
+//! What to do about a register that is at fault.
+
+use crate::refusal::known::{REGISTERS, kind_name, numbered};
+use crate::refusal::places::{MOST_PLACES, Place, Site, is_among, wanted_at};
+use crate::refusal::register::missing_at;
+use bitflags::Flags;
+use std::alloc::AllocError;
+use zl_abs::{AbsVal, Cause};
+use zl_asm::hints::Value::{Name, Number};
+use zl_asm::hints::{Value, push_text};
+use zl_code::{InstrBytes, Register, Start};
+use zl_rights::{Kind, Rights};
+
+/// Adds what to do about the register in the place, where something is known.
+pub fn push_advice(
+    hint: &mut String,
+    site: &Site,
+    place: &Place,
+    cause: Cause,
+) -> Result<(), AllocError> {
+    let register = numbered(place.register);
+    match (cause, site.state.get(place.register)) {
+        (Cause::WrongKind, AbsVal::Has { kind: None, .. }) => push_test_of_kind(hint, site, place),
+        (Cause::LacksRight, AbsVal::Has { kind, rights, .. }) => {
+            let missing = missing_at(site, place.purpose, rights);
+            match kind {
+                Some(kind) if !missing.within(kind.default_rights()) => {
+                    push_text(hint, "; no # has that", &[Name(kind.name())])
+                }
+                _ => push_test_of_rights(hint, site, place.register, kind, rights, missing),
+            }
+        }
+        (Cause::NotLive, value) => {
+            let text = advice_on_nil(site, place.register, value);
+            push_text(hint, text, &[register, register])
+        }
+        (Cause::Leak, _) => hint.push_str("; close it first, or take it to another register"),
+        (Cause::NotWord, _) => hint.push_str(advice_on_numbers(site.parts.opcode)),
+        _ => Ok(()),
+    }
+}
+
+/// What to do where the register has to have a handle.
+fn advice_on_nil(site: &Site, register: Register, value: AbsVal) -> &'static str {
+    match value {
+        AbsVal::Has { maybe: true, .. } => {
+            "; test r# itself, as a status teaches nothing: jz r#, .."
+        }
+        AbsVal::Has { .. } => "; what is sent is gone",
+        AbsVal::Word(0) => advice_on_zero(site, register),
+        _ => "",
+    }
+}
+
+/// What to do where the register has to have a handle, and has 0.
+fn advice_on_zero(site: &Site, register: Register) -> &'static str {
+    let is_declared = start_of(site, register).is_some();
+    if is_declared || is_written(site, site.at, register) {
+        "; what is closed, sent, replaced or taken leaves 0"
+    } else if start_index(register).is_some() {
+        "; no .start line gives it one"
+    } else {
+        "; nothing above gives it one"
+    }
+}
+
+/// Whether one of so many instructions, from the first on, writes the register, other than this one.
+fn is_written(site: &Site, count: usize, register: Register) -> bool {
+    for (number, instr) in site.image.code().iter().take(count).enumerate() {
+        let parts = InstrBytes::split(instr.to_bytes());
+        if number != site.at && is_among(parts, MOST_PLACES, register, "dgx") {
+            return true;
+        }
+    }
+    false
+}
+
+/// Which start handle the register has at the start, from 0, if it can have one.
+fn start_index(register: Register) -> Option<usize> {
+    let number = usize::from(register.number());
+    match number {
+        0 => Some(0),
+        2..=7 => number.checked_sub(1),
+        _ => None,
+    }
+}
+
+/// What is declared of the handle that the register has at the start.
+fn start_of(site: &Site, register: Register) -> Option<Start> {
+    site.image.starts().get(start_index(register)?).copied()
+}
+
+/// Whether what the register has, a handle, is the one of its line `.start`: nothing writes the register.
+fn is_of_start(site: &Site, register: Register) -> bool {
+    start_of(site, register).is_some() && !is_written(site, site.image.len(), register)
+}
+
+/// The register that has the kind number of the handle in this one, or its rights.
+fn tag_of(site: &Site, register: Register, is_kind: bool) -> Option<Register> {
+    for number in 0..REGISTERS {
+        let tag = Register::new(number)?;
+        let tagged = match site.state.get(tag) {
+            AbsVal::KindOf(tagged) if is_kind => tagged,
+            AbsVal::RightsOf(tagged) if !is_kind => tagged,
+            _ => continue,
+        };
+        if tagged.number() == register.number() {
+            return Some(tag);
+        }
+    }
+    None
+}
+
+/// Adds how to know of the handle's kind, where that can be known.
+fn push_test_of_kind(hint: &mut String, site: &Site, place: &Place) -> Result<(), AllocError> {
+    let Some(kind) = wanted_at(site, place.purpose).kind else {
+        return Ok(());
+    };
+    if let Some(tag) = tag_of(site, place.register, true) {
+        let number = Number(u64::from(kind.number()));
+        let text = "; test its kind: jne r#, #, ..";
+        push_text(hint, text, &[numbered(tag), number])
+    } else if is_of_start(site, place.register) {
+        let text = "; its .start line can say # in place of any";
+        push_text(hint, text, &[Name(kind.name())])
+    } else {
+        Ok(())
+    }
+}
+
+/// Adds how to know that the handle has the rights that are missing, where that can be known.
+fn push_test_of_rights(
+    hint: &mut String,
+    site: &Site,
+    register: Register,
+    kind: Option<Kind>,
+    rights: Rights,
+    missing: Rights,
+) -> Result<(), AllocError> {
+    let handle = numbered(register);
+    let all = Number(u64::from(missing.union(rights).bits()));
+    let (text, values): (&str, [Value; 4]) = if let Some(tag) = tag_of(site, register, false) {
+        let missing = Number(u64::from(missing.bits()));
+        let text = "; test its rights: jnhas r#, #, ..";
+        (text, [numbered(tag), missing, all, all])
+    } else if is_of_start(site, register) {
+        let text = "; its .start line can ask for that: .start # #";
+        (text, [Name(kind_name(kind)), all, all, all])
+    } else if kind.is_none() {
+        let text =
+            "; where it lacks that, replace gives 0: replace .., r#, r#, #, and then jz r#, ..";
+        (text, [handle, handle, all, handle])
+    } else {
+        ("", [all, all, all, all])
+    };
+    push_text(hint, text, &values)
+}
+
+/// What to do where a handle is read as a number by the instruction with this opcode.
+fn advice_on_numbers(opcode: u8) -> &'static str {
+    match opcode {
+        // mov
+        2 => "; take moves a handle",
+        // st8, st64
+        15 | 16 => "; a handle goes into a slot array, by swap",
+        // jeq, jne, jlt, jge, jhas, jnhas
+        20 | 21 | 22 | 23 | 24 | 25 => "; only jz and jnz test a handle",
+        _ => "",
+    }
+}

@@ -1,0 +1,72 @@
+//! Faults of an instruction itself, whatever the registers hold.
+
+use crate::refusal::known::{numbered, push_state};
+use crate::refusal::places::{MOST_PLACES, Site, is_among, place_at};
+use std::alloc::AllocError;
+use zl_asm::hints::Value::{Name, Number};
+use zl_asm::hints::push_text;
+use zl_code::{CallInstr, InstrBytes, LocalInstr, Register};
+use zl_rights::Condition;
+
+/// Adds why there is no such instruction.
+pub fn push_illegal(hint: &mut String, site: &Site) -> Result<(), AllocError> {
+    match site.image.local_at(site.at) {
+        Some(LocalInstr::Swap { .. }) => {
+            let count = Number(site.image.slots().len() as u64);
+            let text = "there is no slot array #; the program has #";
+            push_text(hint, text, &[Number(u64::from(site.parts.imm())), count])
+        }
+        Some(LocalInstr::Take { .. }) => {
+            let [register, ..] = site.parts.registers;
+            let register = Number(u64::from(register));
+            push_text(hint, "r# is taken into itself", &[register])
+        }
+        _ => match written_twice(site.parts) {
+            Some(register) => {
+                let text = "r# is written twice; each result wants a register of its own";
+                push_text(hint, text, &[numbered(register)])
+            }
+            None => {
+                let opcode = Number(u64::from(site.parts.opcode));
+                push_text(hint, "no instruction has the opcode #", &[opcode])?;
+                push_state(hint, &site.state)
+            }
+        },
+    }
+}
+
+/// The first register that the call writes again.
+fn written_twice(parts: InstrBytes) -> Option<Register> {
+    for index in 0..MOST_PLACES {
+        if let Some(place) = place_at(parts, index)
+            && matches!(place.purpose, b'd' | b'g')
+            && is_among(parts, index, place.register, "dg")
+        {
+            return Some(place.register);
+        }
+    }
+    None
+}
+
+/// Adds which line is missing for what the call makes.
+pub fn push_need(hint: &mut String, site: &Site) -> Result<(), AllocError> {
+    let condition = match site.image.call_at(site.at) {
+        Some(CallInstr::ChanCreate { .. }) => Condition::NewChannel,
+        Some(CallInstr::EventCreate { .. }) => Condition::NewEvent,
+        Some(CallInstr::PortCreate { .. }) => Condition::NewPort,
+        _ => Condition::NewProcess,
+    };
+    let name = Name(condition.name());
+    push_text(hint, "a line is missing that declares it: .need #", &[name])
+}
+
+/// Adds where the instruction jumps to.
+pub fn push_target(hint: &mut String, site: &Site) -> Result<(), AllocError> {
+    let last = site.image.len().saturating_sub(1);
+    let values = [Number(u64::from(site.parts.target())), Number(last as u64)];
+    push_text(
+        hint,
+        "it leads to #, and the last instruction is #",
+        &values,
+    )
+}

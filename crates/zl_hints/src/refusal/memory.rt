@@ -1,0 +1,109 @@
+//! Which address may lie outside the memory, or which place outside a slot array.
+
+use crate::refusal::places::Site;
+use std::alloc::AllocError;
+use zl_asm::hints::Value::{Name, Number};
+use zl_asm::hints::{Value, push_text};
+use zl_code::{CallInstr, Image, Instr, InstrBytes, LocalInstr, Register};
+
+/// Adds how far the instruction may go, and how far it can.
+pub fn push_range(hint: &mut String, site: &Site) -> Result<(), AllocError> {
+    let Some(instr) = site.image.instr_at(site.at) else {
+        return Ok(());
+    };
+    let parts = InstrBytes::split(instr.to_bytes());
+    let offset = parts.imm();
+    let [first, second, third, fourth, ..] = parts.registers;
+    match &instr {
+        Instr::Local(LocalInstr::Swap { .. }) => push_slot(hint, site, second, offset),
+        Instr::Local(LocalInstr::LoadByte { .. }) => push_bytes(hint, site, second, offset, 1),
+        Instr::Local(LocalInstr::LoadWord { .. }) => push_bytes(hint, site, second, offset, 8),
+        Instr::Local(LocalInstr::StoreByte { .. }) => push_bytes(hint, site, first, offset, 1),
+        Instr::Local(LocalInstr::StoreWord { .. }) => push_bytes(hint, site, first, offset, 8),
+        Instr::Call(CallInstr::ChanWrite { .. }) => push_message(hint, site, third, fourth),
+        Instr::Call(CallInstr::ChanReadEtc { .. }) => push_message(hint, site, third, fourth),
+        _ => Ok(()),
+    }
+}
+
+/// The number of the register, for a place of a text behind `r`.
+fn numbered(register: u8) -> Value<'static> {
+    Number(u64::from(register))
+}
+
+/// What the number in the register is at most.
+fn bound_of(site: &Site, register: u8) -> u64 {
+    match Register::new(register) {
+        Some(register) => site.state.get(register).bound().unwrap_or(u64::MAX),
+        None => u64::MAX,
+    }
+}
+
+/// Adds which place of the slot array may be asked for, and how many it has.
+fn push_slot(hint: &mut String, site: &Site, place: u8, array: u32) -> Result<(), AllocError> {
+    let length = match site.image.slots().get(array as usize) {
+        Some(slots) => Number(u64::from(slots.length)),
+        None => Number(0),
+    };
+    push_text(hint, "r#", &[numbered(place)])?;
+    push_most(hint, bound_of(site, place))?;
+    push_text(
+        hint,
+        ", and slot array # has the length #: jge r#, #, ..",
+        &[Number(u64::from(array)), length, numbered(place), length],
+    )
+}
+
+/// Adds how far so many bytes may go from the register and the offset on.
+fn push_bytes(
+    hint: &mut String,
+    site: &Site,
+    base: u8,
+    offset: u32,
+    bytes: u64,
+) -> Result<(), AllocError> {
+    let offset = u64::from(offset);
+    let unit = if bytes == 1 { "byte" } else { "bytes" };
+    let values = [numbered(base), Number(offset), Number(bytes), Name(unit)];
+    push_text(hint, "r# + # + # #", &values)?;
+    push_end(hint, site, base, offset.saturating_add(bytes))
+}
+
+/// Adds how far a message may go, by its address and its length. The one that has to be tested is the
+/// length, where the address lies in the memory.
+fn push_message(hint: &mut String, site: &Site, address: u8, length: u8) -> Result<(), AllocError> {
+    push_text(hint, "r# + r#", &[numbered(address), numbered(length)])?;
+    let first = bound_of(site, address);
+    if first <= u64::from(site.image.memory()) {
+        push_end(hint, site, length, first)
+    } else {
+        push_end(hint, site, address, bound_of(site, length))
+    }
+}
+
+/// Adds up to where the register and the rest may go, and what keeps them in the memory.
+fn push_end(hint: &mut String, site: &Site, register: u8, rest: u64) -> Result<(), AllocError> {
+    let memory = u64::from(site.image.memory());
+    let end = bound_of(site, register).saturating_add(rest);
+    push_most(hint, end)?;
+    push_text(hint, ", and the memory has #", &[Number(memory)])?;
+    let mut separator = ": ";
+    if let Some(most) = memory.checked_sub(rest) {
+        let first = Number(most.saturating_add(1));
+        push_text(hint, ": jge r#, #, ..", &[numbered(register), first])?;
+        separator = " or ";
+    }
+    if end <= u64::from(Image::MOST_MEMORY) {
+        push_text(hint, "#.memory #", &[Name(separator), Number(end)])?;
+    }
+    Ok(())
+}
+
+/// Adds what a number may be at most.
+fn push_most(hint: &mut String, most: u64) -> Result<(), AllocError> {
+    let text = match most {
+        u64::MAX => " may be any number",
+        _ => " may be #",
+    };
+    push_text(hint, text, &[Number(most)])
+}

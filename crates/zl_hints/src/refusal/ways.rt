@@ -1,0 +1,77 @@
+//! Ways through the code: two that meet, and one that is too long.
+
+use crate::refusal::known::{REGISTERS, numbered, push_value};
+use std::alloc::{AllocError, Global};
+use zl_asm::hints::Value::Number;
+use zl_asm::hints::push_text;
+use zl_code::{Image, Register};
+use zl_verify::{Seen, Way, seen_in, way_from};
+
+/// How many instructions are told of the beginning of a long way, and of its end.
+const SHOWN: usize = 6;
+
+/// Adds which register holds what nothing describes after both ways that meet.
+pub fn push_meeting(hint: &mut String, alloc: Global, image: &Image) -> Result<(), AllocError> {
+    hint.push_str("two ways meet here")?;
+    let Some(
+        Seen {
+            known: Some(known),
+            other: Some(other),
+        },
+    ) = seen_in(alloc, image)
+    else {
+        return Ok(());
+    };
+    for number in 0..REGISTERS {
+        let Some(register) = Register::new(number) else {
+            continue;
+        };
+        if known.get(register).join(other.get(register)).is_none() {
+            push_text(hint, ": r# has ", &[numbered(register)])?;
+            push_value(hint, known.get(register))?;
+            hint.push_str(" after one, and ")?;
+            push_value(hint, other.get(register))?;
+            return hint.push_str(" after the other; a handle goes only with a handle or 0");
+        }
+    }
+    Ok(())
+}
+
+/// Adds a way from the instruction of this number that is longer than the budget.
+pub fn push_long_way(
+    hint: &mut String,
+    alloc: Global,
+    image: &Image,
+    at: usize,
+) -> Result<(), AllocError> {
+    push_text(
+        hint,
+        "from here more instructions may follow one another without a wait or an exit than the \
+         budget, which is #",
+        &[Number(u64::from(image.budget()))],
+    )?;
+    match way_from(alloc, image, at) {
+        Some(way) => push_way(hint, &way),
+        None => Ok(()),
+    }
+}
+
+/// Adds the numbers of the instructions on the way, of many only the first and the last.
+fn push_way(hint: &mut String, way: &Way) -> Result<(), AllocError> {
+    let count = way.places.len();
+    let mut text = ": #";
+    for (n, place) in way.places.iter().enumerate() {
+        if n < SHOWN || n.saturating_add(SHOWN) >= count {
+            push_text(hint, text, &[Number(*place as u64)])?;
+            text = ", #";
+        } else if n == SHOWN {
+            hint.push_str(" ..")?;
+            text = " #";
+        }
+    }
+    let (text, number) = match way.again {
+        Some(place) => (" and again #: no budget will do", place),
+        None => (", which are #: no smaller budget will do", count),
+    };
+    push_text(hint, text, &[Number(number as u64)])
+}

@@ -1,0 +1,11 @@
+pub mod Common
+pub mod HexDigits
+pub mod Decimals
+pub mod RowsScenario
+pub mod Programs
+pub mod LineDigits
+pub mod HandleWords
+pub mod ReadingOn
+pub mod InOrder
+pub mod ReadOnce
+pub mod WholeBlocks

@@ -1,6 +1,0 @@
-use Rattle.zl_trace.proofs.Common.{◌≡◌, ◌==◌, length, map}
-use Rattle.std.specs.Prelude.{filter, not}
-use Rattle.zl_trace.proofs.words.split_words.Given as goal
-
-abbrev pub invariant-loop-word : goal.invariant-loop-word
-invariant-loop-word l = map (λ w. w.now) l.words.items ≡ filter (λ w. not (length w == 0)) (map (λ w. w.now) l.yielded)

@@ -1,5 +1,0 @@
-use Rattle.zlab.proofs.Common.{◌≡◌, drop, digits_of, digits_said}
-use Rattle.zlab.proofs.scenario.body.push_digits.Given as goal
-
-abbrev pub invariant-loop-byte : goal.invariant-loop-byte
-invariant-loop-byte l = digits_said l.digits (digits_of (drop l.byte-index l.line)) ≡ digits_said l.initial.digits (digits_of l.line)

@@ -1,7 +1,0 @@
-use Rattle.zlab.proofs.Common.{◌≡◌, ◌++◌, drop, all_of, handle_of}
-use Rattle.std.specs.Option.{option_map}
-use Rattle.zl_asm.specs.Values.{texts}
-use Rattle.zlab.proofs.scenario.handles.read_handles.Given as goal
-
-abbrev pub invariant-loop-word : goal.invariant-loop-word
-invariant-loop-word l = all_of handle_of (texts l.words) ≡ option_map (λ more. l.handles ++ more) (all_of handle_of (texts (drop l.word-index l.words)))

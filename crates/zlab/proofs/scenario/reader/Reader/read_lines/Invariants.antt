@@ -1,6 +1,0 @@
-use Rattle.zlab.proofs.Common.{◌+◌, length, map}
-use Rattle.zlab.proofs.ReadingOn.{ReadsOn}
-use Rattle.zlab.proofs.scenario.reader.Reader.read_lines.Given as goal
-
-abbrev pub invariant-loop-index : goal.invariant-loop-index
-invariant-loop-index l = ReadsOn l.initial.self (map (λ x. x.1.now) l.yielded) (length l.yielded + 1) l.self

@@ -1,8 +1,0 @@
-use Rattle.zlab.proofs.Common.{ap, ◌∙◌, ap₂, with_rule, app_of_fields}
-use Rattle.std.proofs.lemmas.Result.{IfOk-weaker}
-use Rattle.zlab.proofs.words.replaying.Goals as goal
-
-pub returns : goal.returns
-returns c =
-    let first = c.in_ok-arg.ensures.shape c.needed.ensures.local ∙ ap₂ with_rule (ap app_of_fields c.about.ensures ∙ c.new.ensures.app) c.needed.ensures.rule in
-    IfOk-weaker c.arg-2.result _ _ (λ made added. added.shape c.needed-2.ensures.local ∙ ap₂ with_rule first c.needed-2.ensures.rule) c.arg-2.ensures

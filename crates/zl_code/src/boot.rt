@@ -1,6 +1,6 @@
-ghost use Rattle.std.specs.Prelude.{◌≡◌, ◌++◌, ◌∷◌, [], OnOk, OnErr, IfErr};
+ghost use Rattle.std.specs.Prelude.{◌≡◌, ◌↔◌, ◌++◌, ◌∷◌, [], IsTrue, IfOk, OnOk, OnErr, IfErr};
 
-use std::alloc::{AllocFailed, Global};
+use std::alloc::{AllocError, AllocFailed, Global};
 use std::marker::Model;
 use zl_rights::{Action, Condition, Koid};
 
@@ -16,6 +16,56 @@ pub struct Boot {
 impl Boot {
     /// The largest limit of a trace.
     pub const MOST_ITEMS: u64 = 1_000_000;
+
+    /// Another boot of the same statements, with the same limit. Only memory can be refused.
+    pub fn copy(&self, alloc: Global) -> Result<Boot, AllocError>
+        ensures statements { IfOk result
+            (λ boot. boot.statements.items ≡ self.now.statements.items) }
+        ensures limit { IfOk result (λ boot. boot.limit ≡ self.now.limit) }
+    {
+        Ok(Boot {
+            statements: copied_statements(alloc, &self.statements)?,
+            limit: self.limit,
+        })
+    }
+
+    /// Whether the other has the same statements in the same order, and the same limit.
+    pub fn is_same(&self, other: &Boot) -> bool
+        ensures { IsTrue result ↔ (self.now.statements.items ≡ other.now.statements.items)
+            × (self.now.limit ≡ other.now.limit) }
+    {
+        if !are_same_statements(&self.statements, &other.statements) {
+            return false;
+        }
+        self.limit == other.limit
+    }
+}
+
+/// The same statements once more.
+fn copied_statements(alloc: Global, statements: &[Statement]) -> Result<Vec<Statement>, AllocError>
+    ensures { IfOk result (λ copied. copied.items ≡ statements.now) }
+{
+    let mut copied = Vec::with_capacity(alloc, statements.len())?;
+    for statement in statements {
+        let again = statement.copy(alloc)?;
+        copied.push(again)?;
+    }
+    Ok(copied)
+}
+
+/// Whether both have the same statements in the same order.
+fn are_same_statements(one: &[Statement], other: &[Statement]) -> bool
+    ensures { IsTrue result ↔ one.now ≡ other.now }
+{
+    if one.len() != other.len() {
+        return false;
+    }
+    for n in 0..one.len() {
+        if !one[n].is_same(&other[n]) {
+            return false;
+        }
+    }
+    true
 }
 
 /// One statement. Each object that it makes gets the next koid, and is gone after the boot unless a
@@ -49,8 +99,112 @@ pub enum Statement {
     },
 }
 
+impl Statement {
+    /// Another statement like this one. Only memory can be refused, for the list of its handles.
+    pub fn copy(&self, alloc: Global) -> Result<Statement, AllocError>
+        ensures { IfOk result (λ statement. statement ≡ self.now) }
+    {
+        match self {
+            Statement::Job { parent } => Ok(Statement::Job { parent: *parent }),
+            Statement::Policy {
+                job,
+                condition,
+                action,
+            } => Ok(Statement::Policy {
+                job: *job,
+                condition: *condition,
+                action: *action,
+            }),
+            Statement::Event => Ok(Statement::Event),
+            Statement::Port => Ok(Statement::Port),
+            Statement::Channel => Ok(Statement::Channel),
+            Statement::Process {
+                job,
+                program,
+                word,
+                handles,
+            } => {
+                let handles = handles.copy(alloc)?;
+                Ok(Statement::Process {
+                    job: *job,
+                    program: *program,
+                    word: *word,
+                    handles,
+                })
+            }
+        }
+    }
+
+    /// Whether the other statement is the same.
+    pub fn is_same(&self, other: &Statement) -> bool
+        ensures { IsTrue result ↔ self.now ≡ other.now }
+    {
+        match (self, other) {
+            (
+                Statement::Job { parent },
+                Statement::Job {
+                    parent: other_parent,
+                },
+            ) => { parent == other_parent }
+            (
+                Statement::Policy {
+                    job,
+                    condition,
+                    action,
+                },
+                Statement::Policy {
+                    job: other_job,
+                    condition: other_condition,
+                    action: other_action,
+                },
+            ) => {
+                job == other_job
+                    && is_same_condition(*condition, *other_condition)
+                    && is_same_action(*action, *other_action)
+            }
+            (Statement::Event, Statement::Event) => true,
+            (Statement::Port, Statement::Port) => true,
+            (Statement::Channel, Statement::Channel) => true,
+            (
+                Statement::Process {
+                    job,
+                    program,
+                    word,
+                    handles,
+                },
+                Statement::Process {
+                    job: other_job,
+                    program: other_program,
+                    word: other_word,
+                    handles: other_handles,
+                },
+            ) => {
+                job == other_job
+                    && program == other_program
+                    && word == other_word
+                    && handles.is_same(other_handles)
+            }
+            _ => false,
+        }
+    }
+}
+
+/// Whether both are the same condition: no two have one number.
+fn is_same_condition(one: Condition, other: Condition) -> bool
+    ensures { IsTrue result ↔ one ≡ other }
+{
+    one.number() == other.number()
+}
+
+/// Whether both are the same action: no two have one number.
+fn is_same_action(one: Action, other: Action) -> bool
+    ensures { IsTrue result ↔ one ≡ other }
+{
+    one.number() == other.number()
+}
+
 /// A handle that a statement gives to its process. Own profile.
-#[derive(Clone, Copy)]
+#[derive(Clone, Copy, PartialEq, Eq)]
 pub struct Grant {
     /// The object that it names, which an earlier statement made, or the root job.
     pub koid: Koid,
@@ -98,12 +252,34 @@ impl Grants {
         self.list.push(grant)
     }
 
+    /// The same handles once more. Only memory can be refused.
+    pub fn copy(&self, alloc: Global) -> Result<Grants, AllocError>
+        ensures { IfOk result (λ grants. grants ≡ self.now) }
+    {
+        Ok(Grants {
+            list: self.list.to_vec(alloc)?,
+        })
+    }
+
+    /// Whether the other has the same handles in the same order.
+    pub fn is_same(&self, other: &Grants) -> bool
+        ensures { IsTrue result ↔ self.now ≡ other.now }
+    {
+        are_same_grants(self.as_slice(), other.as_slice())
+    }
+
     /// The handles in order.
     pub fn as_slice(&self) -> &[Grant]
         ensures { result.now ≡ self.now }
     {
         self.list.as_slice()
     }
+}
+
+fn are_same_grants(one: &[Grant], other: &[Grant]) -> bool
+    ensures { IsTrue result ↔ one.now ≡ other.now }
+{
+    one == other
 }
 
 /// Which statement can't be done, counted from 0, and why. Own profile.

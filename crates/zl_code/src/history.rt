@@ -1,4 +1,4 @@
-ghost use Rattle.std.specs.Prelude.{◌≡◌};
+ghost use Rattle.std.specs.Prelude.{◌≡◌, ◌↔◌, IsTrue};
 ghost use Rattle.zl_code.specs.CallNames.{call_name};
 
 use zl_rights::{Pid, Status};
@@ -65,6 +65,13 @@ impl CallName {
             CallName::JobSetPolicy => "job_set_policy",
         }
     }
+
+    /// Whether the other is the same call: no two have one name.
+    pub fn is_same(self, other: CallName) -> bool
+        ensures { IsTrue result ↔ self ≡ other }
+    {
+        self.name() == other.name()
+    }
 }
 
 /// How a system call ends. Own profile.
@@ -76,6 +83,20 @@ pub enum Outcome {
     Blocked,
     /// Its process ends with this code.
     Ended(i32),
+}
+
+impl Outcome {
+    /// Whether the other call ended alike.
+    pub fn is_same(self, other: Outcome) -> bool
+        ensures { IsTrue result ↔ self ≡ other }
+    {
+        match (self, other) {
+            (Outcome::Answered(status), Outcome::Answered(other_status)) => status == other_status,
+            (Outcome::Blocked, Outcome::Blocked) => true,
+            (Outcome::Ended(code), Outcome::Ended(other_code)) => code == other_code,
+            _ => false,
+        }
+    }
 }
 
 /// One item of a trace. Own profile.
@@ -96,6 +117,48 @@ pub enum TraceItem {
     Stuck {
         pid: Pid,
     },
+}
+
+impl TraceItem {
+    /// Whether the other item is the same.
+    pub fn is_same(self, other: TraceItem) -> bool
+        ensures { IsTrue result ↔ self ≡ other }
+    {
+        match (self, other) {
+            (
+                TraceItem::Run { pid, count },
+                TraceItem::Run {
+                    pid: other_pid,
+                    count: other_count,
+                },
+            ) => pid == other_pid && count == other_count,
+            (
+                TraceItem::Call { pid, call, outcome },
+                TraceItem::Call {
+                    pid: other_pid,
+                    call: other_call,
+                    outcome: other_outcome,
+                },
+            ) => pid == other_pid && call.is_same(other_call) && outcome.is_same(other_outcome),
+            (TraceItem::Stuck { pid }, TraceItem::Stuck { pid: other_pid }) => pid == other_pid,
+            _ => false,
+        }
+    }
+}
+
+/// Whether both have the same items in the same order. Own profile.
+pub fn are_same_items(one: &[TraceItem], other: &[TraceItem]) -> bool
+    ensures { IsTrue result ↔ one.now ≡ other.now }
+{
+    if one.len() != other.len() {
+        return false;
+    }
+    for n in 0..one.len() {
+        if !one[n].is_same(other[n]) {
+            return false;
+        }
+    }
+    true
 }
 
 /// What a process is in, as a trace tells it. Own profile.

@@ -1,11 +1,11 @@
 //! Laws of the definitions: each function's contract is one law, and its body is empty.
 
-ghost use Rattle.std.specs.List.{flat_map};
-ghost use Rattle.std.specs.Prelude.{ℕ, ◌≡◌, ◌≢◌, ◌↔◌, false, IsTrue, List};
+ghost use Rattle.std.specs.List.{flat_map, list_any};
+ghost use Rattle.std.specs.Prelude.{ℕ, ◌==◌, ◌≡◌, ◌≢◌, ◌↔◌, false, IsTrue, List};
 ghost use Rattle.zl_rights.specs.declared.status.Status.TheVariants as status;
 ghost use Rattle.zl_rights.specs.Map.{get, has_key};
 ghost use Rattle.zl_rights.specs.Wakes.{wakes};
-ghost use Rattle.zl_rights.specs.World.{World, Process, Ready};
+ghost use Rattle.zl_rights.specs.World.{Cpu, World, Process, Ready};
 ghost use Rattle.zl_code.specs.declared.history.CallName.{CallName};
 ghost use Rattle.zl_code.specs.declared.history.Outcome.TheVariants as outcome;
 ghost use Rattle.zl_code.specs.declared.history.TraceItem.{TraceItem};
@@ -17,9 +17,10 @@ ghost use Rattle.zl_code.specs.Steps.{Step, Runs, single, IsLegalHistory};
 ghost use Rattle.zl_code.specs.Boot.{IsBoot};
 ghost use Rattle.zl_code.specs.Koids.{HasGivenKoids, KeepsKoids};
 ghost use Rattle.zl_code.specs.Handles.{HandlesAreNamed, HandlesAreSound, Throughout};
-ghost use Rattle.zl_code.specs.Effects.{may_get};
+ghost use Rattle.zl_code.specs.Effects.{may_get, on_process};
 ghost use Rattle.zl_code.specs.Frame.{LeavesOthers};
 ghost use Rattle.zl_code.specs.Headline.{GoesWell};
+ghost use Rattle.zl_code.specs.Programs.{HavePrograms};
 ghost use Rattle.zl_code.specs.Sound.{IsSound, KeepsProcesses, is_value};
 
 /// No bytes spell two images.
@@ -185,6 +186,20 @@ pub fn frame()
 pub fn runs_are_awake()
     ensures { (lib : Library) (statements : List Statement) (boot after : World) (items : List TraceItem)
         → IsBoot lib statements boot → Runs lib boot items after → wakes after ≡ after }
+{}
+
+/// Where nothing is due, nothing is due either once a process that isn't blocked went on by itself.
+pub fn local_steps_wake_nothing()
+    ensures { (w : World) (p : ℕ) (c : Cpu)
+        → list_any (λ q. p == q) w.blocked ≡ false → wakes w ≡ w
+        → wakes (on_process w p (λ q. record q { cpu = c })) ≡ on_process w p (λ q. record q { cpu = c }) }
+{}
+
+/// In the last world of a run from a boot world each process runs a program of the library, or is to
+/// run one.
+pub fn runs_have_programs()
+    ensures { (lib : Library) (statements : List Statement) (boot after : World) (items : List TraceItem)
+        → IsBoot lib statements boot → Runs lib boot items after → HavePrograms lib after }
 {}
 
 /// A history tells of a process just what the single steps tell that it stands for: local instructions

@@ -29,7 +29,7 @@ mod register;
 pub use boot::{Boot, BootCause, BootFault, Grant, Grants, Statement};
 pub use decoding::decode;
 pub use encoding::encode;
-pub use history::{CallName, Outcome, ProcState, TraceItem};
+pub use history::{CallName, Outcome, ProcState, TraceItem, are_same_items};
 pub use image::{DecodeFault, Image, SlotArray, Start};
 pub use instr::{CallInstr, HandleList, Instr, LocalInstr};
 pub use instr_bytes::InstrBytes;

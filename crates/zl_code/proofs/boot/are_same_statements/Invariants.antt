@@ -1,0 +1,5 @@
+use Rattle.zl_code.proofs.Common.{◌≡◌, take}
+use Rattle.zl_code.proofs.boot.are_same_statements.Given as goal
+
+abbrev pub invariant-loop-n : goal.invariant-loop-n
+invariant-loop-n l = take l.n l.one ≡ take l.n l.other

@@ -17,6 +17,7 @@ slot_written f (x ∷ xs) (suc n) place value d w there same =
     ∙ sym (set_behind (f x) (map f xs) n place value (slice_get (map f xs) n))
 
 -- where f sees the same in two lists, it sees the same in each place
-pub same_at : {A : Type 0} (f : A → List ℕ) (xs ys : List A) (n : ℕ) (x y : A) → x ≡ get_or xs n x → y ≡ get_or ys n y → n < length xs → n < length ys → map f xs ≡ map f ys → f x ≡ f y
-same_at f xs ys n x y of_x of_y in_xs in_ys e =
-    ap f of_x ∙ sym (get_or-map f xs n x [] in_xs) ∙ ap (λ zs. get_or zs n []) e ∙ get_or-map f ys n y [] in_ys ∙ sym (ap f of_y)
+pub same_at : {A B : Type 0} (f : A → B) (d : B) (xs ys : List A) (n : ℕ) (x y : A) → x ≡ get_or xs n x → y ≡ get_or ys n y → n < length xs → n < length ys
+    → map f xs ≡ map f ys → f x ≡ f y
+same_at f d xs ys n x y of_x of_y in_xs in_ys e =
+    ap f of_x ∙ sym (get_or-map f xs n x d in_xs) ∙ ap (λ zs. get_or zs n d) e ∙ get_or-map f ys n y d in_ys ∙ sym (ap f of_y)

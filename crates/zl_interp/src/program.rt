@@ -1,13 +1,13 @@
 //! Programs, checked or not, and the programs of a lab.
 
-ghost use Rattle.std.specs.Prelude.{◌≡◌, ◌↔◌, IsTrue, true, ◌==◌, ◌≤◌, ◌++◌, ◌∷◌, [], length, OnOk, OnErr, IfErr, IfSome, IfNone, slice_get, Some, None};
+ghost use Rattle.std.specs.Prelude.{◌≡◌, ◌↔◌, IsTrue, true, ◌==◌, ◌≤◌, ◌++◌, ◌∷◌, [], length, map, OnOk, OnErr, IfOk, IfErr, IfSome, IfNone, slice_get, Some, None};
 ghost use Rattle.std.specs.Arc.{arc_value};
 ghost use Rattle.zl_interp.specs.Program.{program_value};
 ghost use Rattle.zl_code.specs.Spells.{is_in_range};
 ghost use Rattle.zl_verify.specs.Checks.{HasStepBound};
 ghost use Rattle.zl_verify.specs.Covered.{IsVerified};
 
-use std::alloc::{AllocFailed, Global};
+use std::alloc::{AllocError, AllocFailed, Global};
 use std::marker::Model;
 use std::sync::Arc;
 use zl_code::Image;
@@ -159,4 +159,57 @@ impl Library {
     {
         self.programs.get(number)
     }
+
+    /// Another library of the same programs, which both keep. Only memory can be refused.
+    pub fn copy(&self, alloc: Global) -> Result<Library, AllocError>
+        ensures { IfOk result (λ library. library ≡ self.now) }
+    {
+        Ok(Library {
+            programs: shared_all(alloc, &self.programs)?,
+            alloc,
+        })
+    }
+
+    /// Whether the other library has the same programs in the same order: their images, and whether
+    /// they were checked.
+    pub fn is_same(&self, other: &Library) -> bool
+        ensures { IsTrue result ↔ self.now ≡ other.now }
+    {
+        are_same_programs(&self.programs, &other.programs)
+    }
+}
+
+/// The same programs once more, kept by both lists.
+fn shared_all(alloc: Global, programs: &[Arc<Program>]) -> Result<Vec<Arc<Program>>, AllocError>
+    ensures { IfOk result (λ shared. map (λ program. program_value (arc_value program)) shared.items
+        ≡ map (λ program. program_value (arc_value program)) programs.now) }
+{
+    let mut shared = Vec::with_capacity(alloc, programs.len())?;
+    for program in programs {
+        let again = Arc::try_clone(program)?;
+        shared.push(again)?;
+    }
+    Ok(shared)
+}
+
+/// Whether both have the same programs in the same order.
+fn are_same_programs(one: &[Arc<Program>], other: &[Arc<Program>]) -> bool
+    ensures { IsTrue result ↔ map (λ program. program_value (arc_value program)) one.now
+        ≡ map (λ program. program_value (arc_value program)) other.now }
+{
+    if one.len() != other.len() {
+        return false;
+    }
+    for n in 0..one.len() {
+        if !is_same_program(&one[n], &other[n]) {
+            return false;
+        }
+    }
+    true
+}
+
+fn is_same_program(one: &Arc<Program>, other: &Arc<Program>) -> bool
+    ensures { IsTrue result ↔ program_value (arc_value one.now) ≡ program_value (arc_value other.now) }
+{
+    one.is_same(other)
 }

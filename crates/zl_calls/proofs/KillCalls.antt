@@ -1,5 +1,5 @@
 -- The call task_kill, from what it did among all processes to the relation of steps, up to where processes wake.
-use Rattle.zl_calls.proofs.Common.{◌≡◌, ◌<◌, ◌^◌, ℕ, ℤ, zero, suc, Bool, true, false, not, ◌&&◌, ◌==◌, List, [], ◌∷◌, map, refl, sym, ap, ◌∙◌, subst, Option, Some, None, Result, Ok, Err, inl, inr, ◌⊎◌, IsTrue, arith, option_map, Map, get, each, update, lives, state_passes, none-some, same_Some, slice_get, eq-eqb, false≢true, is_sorted, nat_cmp, object_entry, process_entry, process_value, state_value, Objects, World, world_value, world_blocked, Library, Site, AtCall, next_for, cpu_answered, first_some, replied, taken, AreBlocked, IsConsistent, Releases, Ready, if◌then◌else◌, cases_Bool, eqb-true, refusal, site, slice_set, handle_operands, row_of, examined, operand, listed, IsNamed, ◌+◌, table_of, may_choose, sum_by, count_by, get-update, is_sorted-update, new_handles, taken_handles, remove_all, insert_all, effect, gives_ok, ended, on_process, Values}
+use Rattle.zl_calls.proofs.Common.{◌≡◌, ◌<◌, ◌^◌, ℕ, ℤ, zero, suc, Bool, true, false, not, ◌&&◌, ◌==◌, List, [], ◌∷◌, map, refl, sym, ap, ◌∙◌, subst, Option, Some, None, Result, Ok, Err, inl, inr, ◌⊎◌, IsTrue, arith, option_map, Map, get, each, update, lives, state_passes, none-some, same_Some, slice_get, eq-eqb, false≢true, is_sorted, nat_cmp, nat_tests, object_entry, process_entry, process_value, state_value, Objects, World, world_value, world_blocked, Library, Site, AtCall, next_for, cpu_answered, first_some, replied, taken, AreBlocked, IsConsistent, Releases, Ready, if◌then◌else◌, cases_Bool, eqb-true, refusal, site, slice_set, handle_operands, row_of, examined, operand, listed, IsNamed, ◌+◌, table_of, may_choose, sum_by, count_by, get-update, is_sorted-update, new_handles, taken_handles, remove_all, insert_all, effect, gives_ok, ended, on_process, Values}
 use Rattle.std.specs.List.{filter}
 use Rattle.std.specs.Result.{result_err}
 use Rattle.zl_rights.specs.LookUp.{looked_up}
@@ -89,7 +89,8 @@ place_stays f same (x ∷ ps) _ _ a b is (one_more q q2 qs qs2 _ mid _ one rest)
     let others : qs ≡ map f ps = cc in
     place_stays f same ps qs qs2 mid b others rest n p c here at
 
-module _ (ps : List Process) (r : Objects) (whole : IsConsistent ps r) (blocked : List ℕ) (sound : IsSoundWorld (world_blocked ps r blocked)) (t : ℕ) where
+module _ (ps : List Process) (r : Objects) (whole : IsConsistent ps r) (blocked : List ℕ) (sound : IsSoundWorld (world_blocked ps r blocked))
+    (t : ℕ) (some : (t == 0) ≡ false) where
   abbrev within : ℕ → Bool
   within = is_within r.objects t
 
@@ -102,7 +103,7 @@ module _ (ps : List Process) (r : Objects) (whole : IsConsistent ps r) (blocked 
 
     -- what the definitions see of the processes
     pub seen_killed : map process_entry ps2 ≡ each (λ k. process_killed (is_within_value (map object_entry r.objects) t k)) (map process_entry ps)
-    seen_killed = processes_killed ps ps2 r kills.between r2 t (are_idle ps r blocked sound whole.processes_in_order) kills.closes
+    seen_killed = processes_killed ps ps2 r kills.between r2 t some (are_idle ps r blocked sound whole.processes_in_order) kills.closes
 
     all_named : AllTables (λ e. IsNamed (all_killed r.objects t) e) ps
     all_named = tables_from (λ e. IsNamed (all_killed r.objects t) e) ps whole.processes_in_order
@@ -127,7 +128,7 @@ module _ (ps : List Process) (r : Objects) (whole : IsConsistent ps r) (blocked 
     -- the whole world after the kill
     pub killed_world : AreBlocked ps blocked → ◌≡◌ {A = World} (with_waiters (world_value ps2 (killing r t)) r.waits r.waits_made l2.blocked) (with_killed (world_blocked ps r blocked) t)
     unfolding with_killed
-    killed_world are = λ i. record (world_blocked ps r blocked) { processes = seen_killed i; objects = objects_killed r.objects t i; blocked = list_is i }
+    killed_world are = λ i. record (world_blocked ps r blocked) { processes = seen_killed i; objects = objects_killed r.objects t some i; blocked = list_is i }
       where
         list_is : l2.blocked ≡ filter (λ k. not (is_within_value (map object_entry r.objects) t k)) blocked
         list_is =
@@ -142,7 +143,7 @@ module _ (ps : List Process) (r : Objects) (whole : IsConsistent ps r) (blocked 
     pub got_killed : (k : ℕ) → get (map process_entry ps2) k ≡ option_map (process_killed (within k)) (get (map process_entry ps) k)
     got_killed k =
         ap (λ m. get m k) seen_killed ∙ (get-each (map process_entry ps) (λ j. process_killed (is_within_value (map object_entry r.objects) t j)) k
-        ∙ ap (λ (b : Bool). option_map (process_killed b) (get (map process_entry ps) k)) (same_within r.objects t k))
+        ∙ ap (λ (b : Bool). option_map (process_killed b) (get (map process_entry ps) k)) (same_within r.objects t some k))
 
 -- ---- the end of a step
 
@@ -263,6 +264,14 @@ module _ (lib : Library) (ps : List Process) (r : Objects) (whole : IsConsistent
     abbrev t : ℕ
     t = named.koid
 
+    -- what a handle names isn't 0
+    given : (t == 0) ≡ false
+    given =
+        let found : get p.table.entries task ≡ Some named = is_found (get p.table.entries task) (kind.Process ∷ kind.Job ∷ []) DESTROY named is_named in
+        let names : IsNamed r.objects named = whole.named p.pid (process_value p) task named there found in
+        let above : 0 < t = whole.no_zero t (rw names.there refl) in
+        grind (arith, nat_tests, above)
+
     passes : policed_refusal lib w p.pid (task_kill task) ≡ None
     passes = free ∙ (kill_refused lib w p.pid p.table.entries (rw there refl) task ∙ ap (λ x. answers (result_err x)) is_named)
 
@@ -270,24 +279,24 @@ module _ (lib : Library) (ps : List Process) (r : Objects) (whole : IsConsistent
     names_it = rw (there, is_found (get p.table.entries task) (kind.Process ∷ kind.Job ∷ []) DESTROY named is_named) refl
 
     after_it : ◌≡◌ {A = World} (with_waiters (world_value l2.processes (killing r t)) r.waits r.waits_made l2.blocked) (with_killed w t)
-    after_it = killed_world ps r whole blocked sound t l2 kills are
+    after_it = killed_world ps r whole blocked sound t given l2 kills are
 
     blocked_after : AreBlocked l2.processes l2.blocked
     blocked_after = record {
       once = λ k. ap (times k) (kills.blocked ∙ (λ i. filter (λ j. states_stay (map (ended_within r t) ps) l2.processes kills.between l2.objects kills.closes is_blocked j i) blocked))
           ∙ (times_kept (λ j. state_passes is_blocked (get (map process_entry l2.processes) j)) k blocked
           ∙ by_state k (get (map process_entry ps) k) refl);
-      counters = λ k q at h. by_process k (get (map process_entry ps) k) refl q (sym (got_killed ps r whole blocked sound t l2 kills k) ∙ at) h;
+      counters = λ k q at h. by_process k (get (map process_entry ps) k) refl q (sym (got_killed ps r whole blocked sound t given l2 kills k) ∙ at) h;
     }
       where
         by_state : (k : ℕ) (o : Option ProcessValue) → get (map process_entry ps) k ≡ o
             → (if state_passes is_blocked (get (map process_entry l2.processes) k) then times k blocked else 0) ≡ (if state_passes is_blocked (get (map process_entry l2.processes) k) then 1 else 0)
-        by_state k None at = rw (got_killed ps r whole blocked sound t l2 kills k, at) refl
+        by_state k None at = rw (got_killed ps r whole blocked sound t given l2 kills k, at) refl
         by_state k (Some q) at = elim (cases_Bool (is_blocked (process_killed (is_within r.objects t k) q).state)) as (λ _. (if state_passes is_blocked (get (map process_entry l2.processes) k) then times k blocked else 0) ≡ (if state_passes is_blocked (get (map process_entry l2.processes) k) then 1 else 0)) [
           | inl waits ↦
               let still : is_blocked q.state ≡ true = ap (λ (x : ProcessValue). is_blocked x.state) (sym (was_blocked (is_within r.objects t k) q waits)) ∙ waits in
-              rw (got_killed ps r whole blocked sound t l2 kills k, at, waits) (are.once k ∙ rw (at, still) refl)
-          | inr goes ↦ rw (got_killed ps r whole blocked sound t l2 kills k, at, goes) refl
+              rw (got_killed ps r whole blocked sound t given l2 kills k, at, waits) (are.once k ∙ rw (at, still) refl)
+          | inr goes ↦ rw (got_killed ps r whole blocked sound t given l2 kills k, at, goes) refl
         ]
 
         by_process : (k : ℕ) (o : Option ProcessValue) → get (map process_entry ps) k ≡ o → (q : ProcessValue) → option_map (process_killed (is_within r.objects t k)) o ≡ Some q → IsTrue (is_blocked q.state) → q.cpu.counter < 2 ^ 32
@@ -305,7 +314,7 @@ module _ (lib : Library) (ps : List Process) (r : Objects) (whole : IsConsistent
     dies = is_within r.objects t p.pid
 
     stands : get (map process_entry l2.processes) p.pid ≡ Some (process_killed dies (process_value p))
-    stands = got_killed ps r whole blocked sound t l2 kills p.pid ∙ rw there refl
+    stands = got_killed ps r whole blocked sound t given l2 kills p.pid ∙ rw there refl
 
     abbrev within_value : ℕ → Bool
     within_value k = is_within_value (map object_entry r.objects) t k
@@ -314,7 +323,7 @@ module _ (lib : Library) (ps : List Process) (r : Objects) (whole : IsConsistent
     at_place : (c : Process) → slice_get l2.processes place ≡ Some c → (c.pid ≡ p.pid) × (process_value c ≡ process_killed dies (process_value p))
     at_place c at =
         let same : c.pid ≡ p.pid = place_stays (ended_within r t) (λ x. ends_pid (lives (state_value x.state) && is_within r.objects t x.pid) x) ps (map (ended_within r t) ps) l2.processes kills.between l2.objects refl kills.closes place p c here at in
-        let write : IsWrite l2.processes (slice_set l2.processes place c) c c = writes_at l2.processes place c c (still_sorted ps r whole blocked sound t l2 kills) at refl in
+        let write : IsWrite l2.processes (slice_set l2.processes place c) c c = writes_at l2.processes place c c (still_sorted ps r whole blocked sound t given l2 kills) at refl in
         (same, same_Some (process_value c) (process_killed dies (process_value p)) (sym (subst (λ (k : ℕ). get (map process_entry l2.processes) k ≡ Some (process_value c)) same write.there) ∙ stands))
 
     kill_chosen : IsTrue (may_choose w (taken w p.pid kill_site) p.pid (task_kill task) [])
@@ -322,10 +331,10 @@ module _ (lib : Library) (ps : List Process) (r : Objects) (whole : IsConsistent
     kill_chosen = rw there refl
 
     killed_ends : dies ≡ true → outcome.Ended KILLED ≡ ok_outcome w p.pid (task_kill task)
-    killed_ends among = rw (names_it, same_within r.objects t p.pid, among) refl
+    killed_ends among = rw (names_it, same_within r.objects t given p.pid, among) refl
 
     killed_lives : dies ≡ false → outcome.Answered status.Ok ≡ ok_outcome w p.pid (task_kill task)
-    killed_lives apart = rw (names_it, same_within r.objects t p.pid, apart) refl
+    killed_lives apart = rw (names_it, same_within r.objects t given p.pid, apart) refl
 
     -- who is among the killed has no more to lose
     ended_still : dies ≡ true → ◌≡◌ {A = World} (ended (with_killed w t) p.pid KILLED) (with_killed w t)
@@ -333,12 +342,12 @@ module _ (lib : Library) (ps : List Process) (r : Objects) (whole : IsConsistent
     ended_still among = λ i. record w {
       processes = update_still (each (λ k. process_killed (within_value k)) w.processes) p.pid (process_ended KILLED) (λ x at. no_more x (sym (get-each w.processes (λ k. process_killed (within_value k)) p.pid ∙ rw there refl) ∙ at)) i;
       objects = each (λ k. object_killed (within_value k)) w.objects;
-      blocked = filter_still (λ k. not (within_value k)) p.pid (ap not (same_within r.objects t p.pid ∙ among)) blocked i;
+      blocked = filter_still (λ k. not (within_value k)) p.pid (ap not (same_within r.objects t given p.pid ∙ among)) blocked i;
     }
       where
         no_more : (x : ProcessValue) → Some (process_killed (within_value p.pid) (process_value p)) ≡ Some x → process_ended KILLED x ≡ x
         no_more x is =
-            let became : process_killed true (process_value p) ≡ x = subst (λ (b : Bool). process_killed b (process_value p) ≡ x) (same_within r.objects t p.pid ∙ among) (same_Some (process_killed (within_value p.pid) (process_value p)) x is) in
+            let became : process_killed true (process_value p) ≡ x = subst (λ (b : Bool). process_killed b (process_value p) ≡ x) (same_within r.objects t given p.pid ∙ among) (same_Some (process_killed (within_value p.pid) (process_value p)) x is) in
             subst (λ (y : ProcessValue). process_ended KILLED y ≡ y) became (rw ready refl)
 
     killed_calls : dies ≡ true → PolicedCalls lib w p.pid kill_site (outcome.Ended KILLED) (with_waiters (world_value l2.processes (killing r t)) r.waits r.waits_made l2.blocked)
@@ -347,7 +356,7 @@ module _ (lib : Library) (ps : List Process) (r : Objects) (whole : IsConsistent
 
     -- all has settled, though one goes on computing with another Cpu
     killed_got : (cpus : ℕ → ProcessValue → Cpu) (k : ℕ) → ((q : ProcessValue) → get (map process_entry ps) k ≡ Some q → cpus k q ≡ q.cpu) → get (map process_entry l2.processes) k ≡ option_map (killed_with (is_within r.objects t) cpus k) (get (map process_entry ps) k)
-    killed_got cpus k same = got_killed ps r whole blocked sound t l2 kills k ∙ by_process (get (map process_entry ps) k) refl
+    killed_got cpus k same = got_killed ps r whole blocked sound t given l2 kills k ∙ by_process (get (map process_entry ps) k) refl
       where
         by_process : (o : Option ProcessValue) → get (map process_entry ps) k ≡ o → option_map (process_killed (is_within r.objects t k)) o ≡ option_map (killed_with (is_within r.objects t) cpus k) o
         by_process None at = refl
@@ -360,7 +369,7 @@ module _ (lib : Library) (ps : List Process) (r : Objects) (whole : IsConsistent
           let is : code ≡ KILLED = the_code among in
           subst (λ (x : ℤ). HasLeft lib ps l2.processes r l2.objects blocked l2.blocked p.pid (item.Call p.pid name (outcome.Ended x))) (sym is)
           (leaves_so lib ps r blocked sound p there ready name kill_site next l2.processes (killing r t) l2.objects l2.blocked (outcome.Ended KILLED) refl
-          (ends_settled ps r whole blocked sound t l2 kills l2.processes (λ k q. q.cpu) (λ k. killed_got (λ j q. q.cpu) k (λ q there_too. refl)) (λ k. refl) (still_sorted ps r whole blocked sound t l2 kills))
+          (ends_settled ps r whole blocked sound t given l2 kills l2.processes (λ k q. q.cpu) (λ k. killed_got (λ j q. q.cpu) k (λ q there_too. refl)) (λ k. refl) (still_sorted ps r whole blocked sound t given l2 kills))
           blocked_after (killed_calls among) lists)
       | inr apart ↦ absurd (not_over apart)
     ]
@@ -393,7 +402,7 @@ module _ (lib : Library) (ps : List Process) (r : Objects) (whole : IsConsistent
       with_answer q = record q { cpu = cpu_answered kill_site status.Ok [] q.cpu }
 
       write : IsWrite l2.processes after c answered_caller
-      write = writes_at l2.processes place c answered_caller (still_sorted ps r whole blocked sound t l2 kills) at refl
+      write = writes_at l2.processes place c answered_caller (still_sorted ps r whole blocked sound t given l2 kills) at refl
 
       written : map process_entry after ≡ update (map process_entry l2.processes) p.pid with_answer
       written = write.writes with_answer refl ∙ ap (λ (k : ℕ). update (map process_entry l2.processes) k with_answer) same_pid
@@ -418,7 +427,7 @@ module _ (lib : Library) (ps : List Process) (r : Objects) (whole : IsConsistent
           ap (sum_by n) written ∙ omega (arith, kept)
 
       after_sorted : IsTrue (is_sorted nat_cmp (map process_entry after))
-      after_sorted = rw (written, is_sorted-update (map process_entry l2.processes) p.pid with_answer) (still_sorted ps r whole blocked sound t l2 kills)
+      after_sorted = rw (written, is_sorted-update (map process_entry l2.processes) p.pid with_answer) (still_sorted ps r whole blocked sound t given l2 kills)
 
       answered_calls : PolicedCalls lib w p.pid kill_site (outcome.Answered status.Ok) (with_waiters (world_value after (killing r t)) r.waits r.waits_made l2.blocked)
       unfolding effect gives_ok new_handles taken_handles handle_operands row_of remove_all insert_all replied on_process
@@ -433,7 +442,7 @@ module _ (lib : Library) (ps : List Process) (r : Objects) (whole : IsConsistent
       pub answered_so : HasLeft lib ps after r l2.objects blocked l2.blocked p.pid (item.Call p.pid name (outcome.Answered status.Ok))
       answered_so =
           leaves_so lib ps r blocked sound p there ready name kill_site next after (killing r t) l2.objects l2.blocked (outcome.Answered status.Ok) refl
-          (ends_settled ps r whole blocked sound t l2 kills after cpus after_got after_tables after_sorted)
+          (ends_settled ps r whole blocked sound t given l2 kills after cpus after_got after_tables after_sorted)
           (still_blocked l2.processes after c answered_caller write not_blocked not_blocked l2.blocked blocked_after) answered_calls lists
 
     pub lives_so : (c : Process) → slice_get l2.processes place ≡ Some c → ((code : ℤ) → c.state ≡ state.Ended code → ⊥)

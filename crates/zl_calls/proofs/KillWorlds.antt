@@ -37,9 +37,10 @@ module _ (m : Map Object) (t : ℕ) where
   same_under zero k = refl
   same_under (suc n) k = rw (same_parent k, same_under n (parent_at m k)) refl
 
-  pub same_within : (k : ℕ) → is_within_value (map object_entry m) t k ≡ is_within m t k
+  -- 0 is no koid, and nothing stands below it
+  pub same_within : (t == 0) ≡ false → (k : ℕ) → is_within_value (map object_entry m) t k ≡ is_within m t k
   unfolding is_within_value
-  same_within k = ap (λ (b : Bool). (k == t) || b) (same_under 16 k)
+  same_within some k = rw some (ap (λ (b : Bool). (k == t) || b) (same_under 16 k))
 
 -- ---- objects
 
@@ -59,9 +60,10 @@ unfolding each
 each_seen f g same [] = refl
 each_seen f g same (e ∷ m) = λ i. (e.0, (killed_seen (f e.0) e.1 ∙ ap (λ (b : Bool). object_killed b (object_value e.1)) (same e.0)) i) ∷ each_seen f g same m i
 
-pub objects_killed : (m : Map Object) (t : ℕ) → map object_entry (all_killed m t) ≡ each (λ k. object_killed (is_within_value (map object_entry m) t k)) (map object_entry m)
+pub objects_killed : (m : Map Object) (t : ℕ) → (t == 0) ≡ false
+    → map object_entry (all_killed m t) ≡ each (λ k. object_killed (is_within_value (map object_entry m) t k)) (map object_entry m)
 unfolding all_killed
-objects_killed m t = each_seen (is_within m t) (is_within_value (map object_entry m) t) (λ k. sym (same_within m t k)) m
+objects_killed m t some = each_seen (is_within m t) (is_within_value (map object_entry m) t) (λ k. sym (same_within m t some k)) m
 
 -- ---- processes
 
@@ -194,8 +196,9 @@ killed_all r t (p ∷ ps) _ _ mid r2 is idle (one_more p1 p2 qs ps2 _ between _ 
     let others : qs ≡ map (ended_within r t) ps = cc in
     λ i. killed_one r t p p1 p2 mid between first idle.0 one i ∷ killed_all r t ps qs ps2 between r2 others idle.1 rest i
 
-pub processes_killed : (ps ps2 : List Process) (r mid r2 : Objects) (t : ℕ) → AreIdle ps → ClosesAllEnded (map (ended_within r t) ps) mid ps2 r2
+pub processes_killed : (ps ps2 : List Process) (r mid r2 : Objects) (t : ℕ) → (t == 0) ≡ false → AreIdle ps
+    → ClosesAllEnded (map (ended_within r t) ps) mid ps2 r2
     → map process_entry ps2 ≡ each (λ k. process_killed (is_within_value (map object_entry r.objects) t k)) (map process_entry ps)
-processes_killed ps ps2 r mid r2 t idle closes =
+processes_killed ps ps2 r mid r2 t some idle closes =
     killed_all r t ps (map (ended_within r t) ps) ps2 mid r2 refl idle closes
-    ∙ (λ i. each (λ k. process_killed (sym (same_within r.objects t k) i)) (map process_entry ps))
+    ∙ (λ i. each (λ k. process_killed (sym (same_within r.objects t some k) i)) (map process_entry ps))

@@ -1,5 +1,5 @@
 -- Going through the objects by koid.
-use Rattle.zl_rights.proofs.Common.{◌≡◌, ◌<◌, ◌≤◌, ◌+◌, ◌==◌, ◌||◌, ℕ, Bool, true, false, List, [], ◌∷◌, refl, sym, ap, ◌∙◌, subst, Option, Some, None, inl, inr, arith, eq-eqb, eqb-true, IsTrue, is_some, if◌then◌else◌, cases_Bool, false≢true, true≢false, nat_tests, nat_cmp, nat_lt, Map, get, each, update, has_key, option_map}
+use Rattle.zl_rights.proofs.Common.{◌≡◌, ◌<◌, ◌≤◌, ◌+◌, ◌==◌, ◌||◌, ℕ, Bool, true, false, not, ◌&&◌, List, [], ◌∷◌, refl, sym, ap, ◌∙◌, subst, Option, Some, None, inl, inr, arith, eq-eqb, eqb-true, IsTrue, is_some, if◌then◌else◌, cases_Bool, false≢true, true≢false, nat_tests, nat_cmp, nat_lt, Map, get, each, update, has_key, option_map}
 use Rattle.std.specs.Cmp.{unsigned_tied}
 use Rattle.std.specs.Ordering.{is_gt}
 use Rattle.std.specs.List.{AllByRecursion}
@@ -149,7 +149,8 @@ kills m task k o = killed_if (is_within m task k) o
 
 -- whoever is among the killed stays so on the way
 same_within : (m : Map Object) (task from k : ℕ) → is_within (each (till from (kills m task)) m) task k ≡ is_within m task k
-same_within m task from k = ap (λ b. (k == task) || b) (same_below (each (till from (kills m task)) m) m task parent 16 k)
+same_within m task from k =
+    ap (λ b. not (task == 0) && ((k == task) || (not (task == 0) && b))) (same_below (each (till from (kills m task)) m) m task parent 16 k)
   where
     killed_stays : (b : Body) → parent_of (killed_body b) ≡ parent_of b
     killed_stays (body.Job own) = refl

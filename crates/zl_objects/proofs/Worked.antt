@@ -1,5 +1,5 @@
 -- A worked world that the objects fit: handles in a table and in a queue, and one that has gone and still counts.
-use Rattle.zl_rights.proofs.Common.{◌≡◌, ◌+◌, ◌<◌, ℕ, false, ◌==◌, ◌⊎◌, [], ◌∷◌, refl, sym, subst, None, Some, inl, inr, IsTrue, arith, count_by, cases_Bool, eqb-true, false≢true, nat_tests, same_Some, none-some, Map, get, has_key, World, Process, Created, Ready, is_process}
+use Rattle.zl_rights.proofs.Common.{◌≡◌, ◌+◌, ◌<◌, ℕ, false, ◌==◌, ◌⊎◌, [], ◌∷◌, refl, sym, subst, None, Some, inl, inr, IsTrue, arith, count_by, cases_Bool, eqb-true, false≢true, nat_tests, same_Some, none-some, Map, each, get, has_key, World, Process, Created, Ready, is_process}
 use Rattle.zl_rights.specs.declared.entry.Entry.{Entry}
 use Rattle.zl_rights.specs.declared.kind.Kind.TheVariants as kind
 use Rattle.zl_rights.specs.Counts.{handles_to}
@@ -8,6 +8,7 @@ use Rattle.zl_objects.specs.declared.object.Body.TheVariants as body
 use Rattle.zl_objects.specs.declared.object.Life.TheVariants as life
 use Rattle.zl_objects.specs.declared.object.Object.{Object}
 use Rattle.zl_jobs.specs.Jobs.{job_within, root_job}
+use Rattle.zl_objects.specs.Jobs.{all_killed, descendants, is_below_by}
 use Rattle.zl_objects.specs.Objects.{new_object}
 use Rattle.zl_objects.specs.Seen.{Agrees, is_in_job, with_objects, IsExact}
 
@@ -46,6 +47,20 @@ made = record process { state = Created; handles = [] }
 -- the process 5 has handles to itself and to 7, and one to the end 3 has just gone
 abbrev world : World
 world = record { processes = (5, process) ∷ (7, made) ∷ []; objects = []; waits = []; blocked = []; next_koid = 8; waits_made = 0 }
+
+-- in the root job stand the process 5, the job 6 and the process 7 in that; 0 is no job, so the event 4 doesn't stand below it
+below_root : descendants objects 1 ≡ 5 ∷ 6 ∷ 7 ∷ []
+unfolding descendants is_below_by get
+below_root = refl
+
+below_zero : descendants objects 0 ≡ []
+unfolding descendants
+below_zero = refl
+
+-- nor is anything killed for it
+killed_zero : all_killed objects 0 ≡ objects
+unfolding all_killed each
+killed_zero = refl
 
 -- what is true of each entry
 abbrev Each : (ℕ → Object → Type 0) → Map Object → Type 0

@@ -119,13 +119,13 @@ unfoldable pub is_below_by : Map Object → ℕ → ℕ → ℕ → Bool
 is_below_by m job zero k = false
 is_below_by m job (suc n) k = (parent_at m k == job) || is_below_by m job n (parent_at m k)
 
--- k stands below the job
+-- k stands below the job; 0 is no koid, so nothing stands below it
 abbrev pub is_below : Map Object → ℕ → ℕ → Bool
-is_below m job k = is_below_by m job MOST_LEVELS k
+is_below m job k = not (job == 0) && is_below_by m job MOST_LEVELS k
 
--- k is the job or stands below it
+-- k is the job or stands below it; nothing is so for 0
 abbrev pub is_within : Map Object → ℕ → ℕ → Bool
-is_within m job k = (k == job) || is_below m job k
+is_within m job k = not (job == 0) && ((k == job) || is_below m job k)
 
 -- all that stands below the job, in the order of koids
 unfoldable pub descendants : Map Object → ℕ → List ℕ

@@ -289,7 +289,7 @@ impl Objects {
     }
 
     /// Whether the koid is the job's, or that of a job or a process below it, at most 16 levels down.
-    /// The job's koid is to be above 0: 0 stands above whatever is in no job, events too.
+    /// 0 is no koid: nothing is so for it.
     ///
     /// Source: own profile.
     pub fn is_within(&self, job: Koid, koid: Koid) -> bool
@@ -299,8 +299,8 @@ impl Objects {
     }
 
     /// The job or process at place `n`, from 0, of all that stand below the job, each once, in the
-    /// order of their koids. What was killed or is over, and is still there, is among them. The job's
-    /// koid is to be above 0: below 0 nearly all objects would stand, events too.
+    /// order of their koids. What was killed or is over, and is still there, is among them. 0 is no
+    /// koid: nothing stands below it.
     ///
     /// Source: own profile.
     pub fn below(&self, job: Koid, n: usize) -> Option<Koid>

@@ -5,7 +5,8 @@ ghost use Rattle.std.specs.Map.{keys_of};
 ghost use Rattle.std.specs.Ordering.{nat_cmp};
 ghost use Rattle.std.specs.Prelude.{◌≡◌, ◌<◌, ℕ, IsTrue};
 ghost use Rattle.zl_rights.specs.Map.{get, has_key, update};
-ghost use Rattle.zl_objects.specs.Jobs.{all_killed, is_below, is_within, killed, killed_if, parent_at};
+ghost use Rattle.zl_jobs.specs.Jobs.{MOST_LEVELS};
+ghost use Rattle.zl_objects.specs.Jobs.{all_killed, is_below, is_below_by, is_within, killed, killed_if, parent_at};
 ghost use Rattle.zl_objects.specs.Walks.{IsNext};
 
 use crate::object::{Body, Object};
@@ -47,9 +48,9 @@ fn parent_at(by_koid: &BTreeMap<Koid, Object>, koid: Koid) -> Koid
     }
 }
 
-/// Whether it stands below the job, at any depth.
-pub fn is_below(by_koid: &BTreeMap<Koid, Object>, job: Koid, koid: Koid) -> bool
-    ensures { result ≡ is_below by_koid.now.entries job koid }
+/// Whether one comes to the job, going up from the koid at most 16 times.
+fn comes_to(by_koid: &BTreeMap<Koid, Object>, job: Koid, koid: Koid) -> bool
+    ensures { result ≡ is_below_by by_koid.now.entries job MOST_LEVELS koid }
 {
     let mut above = koid;
     for _ in 0..Job::MOST_DEPTH {
@@ -61,11 +62,19 @@ pub fn is_below(by_koid: &BTreeMap<Koid, Object>, job: Koid, koid: Koid) -> bool
     false
 }
 
-/// Whether it is the job or stands below it.
+/// Whether it stands below the job, at any depth. Going up from what is in no job one comes to 0, but
+/// that is no koid, and nothing stands below it.
+pub fn is_below(by_koid: &BTreeMap<Koid, Object>, job: Koid, koid: Koid) -> bool
+    ensures { result ≡ is_below by_koid.now.entries job koid }
+{
+    job != 0 && comes_to(by_koid, job, koid)
+}
+
+/// Whether it is the job or stands below it; nothing is so for 0.
 pub fn is_within(by_koid: &BTreeMap<Koid, Object>, job: Koid, koid: Koid) -> bool
     ensures { result ≡ is_within by_koid.now.entries job koid }
 {
-    koid == job || is_below(by_koid, job, koid)
+    job != 0 && (koid == job || is_below(by_koid, job, koid))
 }
 
 /// The least koid from this one on, if there is one.

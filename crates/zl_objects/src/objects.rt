@@ -349,9 +349,8 @@ impl Objects {
 
     /// The job is killed, and each job below it, and the processes below it are over; or the
     /// process is over, if it is one. What isn't held any more goes, with the waits as in `release`.
-    /// It takes no memory. The handles of the processes are to be closed by `release`, and the koid is
-    /// to be above 0: below 0 nearly all objects stand, and what stands there of jobs and processes
-    /// would be killed.
+    /// It takes no memory. The handles of the processes are to be closed by `release`. 0 is no koid:
+    /// nothing is killed for it.
     ///
     /// Source: the page "zx_task_kill" of the Fuchsia documentation.
     pub fn kill(&mut self, task: Koid)

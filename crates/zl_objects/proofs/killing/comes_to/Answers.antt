@@ -1,6 +1,6 @@
 use Rattle.std.proofs.Common.{arith, sym, ◌∙◌}
 use Rattle.zl_objects.proofs.Climbing.{met, passed, at_top}
-use Rattle.zl_objects.proofs.killing.is_below.Goals as goal
+use Rattle.zl_objects.proofs.killing.comes_to.Goals as goal
 
 pub returns-then-above-job : goal.returns-then-above-job
 returns-then-above-job c = sym (c.loop.invariant ∙ met c.args.by_koid.now.entries c.args.job c.loop.counter c.loop.above c.parent_at-above.result (omega arith) c.parent_at-above.ensures c.if-above-job.true)

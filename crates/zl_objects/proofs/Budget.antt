@@ -94,7 +94,7 @@ last_went m dying k last = record {
     noted = λ j q at unkept. rw (← append_assoc others dying (k ∷ [])) (by_key others old j q (changed held_once_less m k j q at) unkept (cases_Bool (k == j)));
   };
   leads = λ rest m3 tail. let_go k rest m m3 tail;
-  places = places_updated held_once_less (λ j o. omega arith) (λ o. refl) None m k;
+  places = places_updated held_once_less (λ j o. refl) (λ o. refl) None m k;
   thins = λ j o at. less_thins m k j o at;
 }
   where
@@ -114,7 +114,7 @@ other_went m dying k other = record {
     noted = λ j q at unkept. by_key others old j q (changed held_once_less m k j q at) unkept (cases_Bool (k == j));
   };
   leads = λ rest m3 tail. let_go k rest m m3 tail;
-  places = places_updated held_once_less (λ j o. omega arith) (λ o. refl) None m k;
+  places = places_updated held_once_less (λ j o. refl) (λ o. refl) None m k;
   thins = λ j o at. less_thins m k j o at;
 }
   where
@@ -186,16 +186,17 @@ module _ (m : Map Object) (d : List ℕ) (k : ℕ) where
   }
 
   -- nothing keeps it, the waits that end with it have ended, and the job was noted of which it was a living child
-  pub unkept_went : (o : Object) (m2 : Map Object) (d2 : List ℕ) → get m k ≡ Some o → is_kept m k o ≡ false → LetsGo (named_in (queue_of o.body)) (ending_waits k o (without m k)) (d ++ option_to_list (keeper_of o.body)) m2 d2 → LetsGo [] m (d ++ k ∷ []) m2 d2
+  pub unkept_went : (o : Object) (m2 : Map Object) (d2 : List ℕ) → get m k ≡ Some o → is_kept m k o ≡ false → length (without m k) + 1 ≡ length m
+      → LetsGo (named_in (queue_of o.body)) (ending_waits k o (without m k)) (d ++ option_to_list (keeper_of o.body)) m2 d2 → LetsGo [] m (d ++ k ∷ []) m2 d2
   unfolding budget
-  unkept_went o m2 d2 there unkept queue = record {
+  unkept_went o m2 d2 there unkept once queue = record {
     cheap = omega (arith, queue.cheap, length-append d (k ∷ []), length-append d keeper, few_keepers (keeper_of o.body), sum_left (λ e. cond (is_named e) 1 0) m k, named_same (without m k) mid same);
     notes = λ others old. queue.notes others (still_kept (without m k) mid same (others ++ (d ++ keeper)) (record {
       in_order = sorted_without m k old.in_order;
       noted = λ j q at loose. by_child others old j q (found_left m k j q at) loose (cases_Bool (is_child j o.body));
     }));
     leads = λ rest m3 tail. goes k o rest m m3 there unkept (waits_end (named_in (queue_of o.body) ++ rest) (without m k) mid m3 same (queue.leads rest m3 tail));
-    places = λ have. queue.places (ending_places m k o there have);
+    places = λ have. queue.places (ending_places m k o there once have);
     thins = thin_then m mid m2 (λ j q at. ending_thins m k o j q (ending_gone m k o (λ n is. has_same (without m k) n is k)) at) queue.thins;
   }
     where
@@ -282,6 +283,11 @@ module _ (m : Map Object) (k : ℕ) where
     pub there : get m k ≡ Some o
     pub unkept : is_kept m k o ≡ false
     pub left : left_at m k ≡ without m k
+
+  -- and that it alone is gone
+  pub one_taken : (n : Map Object) (q : Option Object) (o : Object) → n ≡ left_at m k → IsTaken o → q ≡ Some o
+      → length n + (if is_some q then 1 else 0) ≡ length m → length (without m k) + 1 ≡ length m
+  one_taken n q o left was some count = rw (left ∙ was.left, some) at count
 
   pub taken : (o : Object) → unkept_at m k ≡ Some o → IsTaken o
   taken o some = by_object (get m k) refl

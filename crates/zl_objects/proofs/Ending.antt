@@ -1,5 +1,5 @@
 -- The waits that end with an object that goes: its own, and those that give their packets to it.
-use Rattle.zl_rights.proofs.Common.{◌≡◌, ◌+◌, ◌<◌, ◌≤◌, ◌⊎◌, ℕ, Bool, true, false, not, ◌==◌, List, [], ◌∷◌, drop, filter, length, refl, sym, ap, ◌∙◌, subst, cond, Option, Some, None, inl, inr, IsTrue, arith, eq-eqb, nat_lt, if◌then◌else◌, option_map, slice_get, count_by, sum_by, sum_by-cons, cases_Bool, eqb-true, false≢true, none-some, same_Some, nat_tests, Map, get, has_key, update, without, each}
+use Rattle.zl_rights.proofs.Common.{◌≡◌, ◌+◌, ◌<◌, ◌⊎◌, ℕ, Bool, true, false, not, ◌==◌, List, [], ◌∷◌, drop, filter, length, refl, sym, ap, ◌∙◌, subst, cond, Option, Some, None, inl, inr, IsTrue, arith, eq-eqb, nat_lt, if◌then◌else◌, option_map, slice_get, count_by, sum_by, sum_by-cons, cases_Bool, eqb-true, false≢true, none-some, same_Some, nat_tests, Map, get, has_key, update, without, each}
 use Rattle.std.specs.Prelude.{◌-◌}
 use Rattle.zl_rights.proofs.MapLaws.{get-each, get-update}
 use Rattle.zl_table.proofs.MapEdits.{get-without}
@@ -13,7 +13,7 @@ use Rattle.zl_objects.specs.Dying.{Thins}
 use Rattle.zl_objects.specs.Ports.{at_port, changed_port, reserved_in, reserved_of, unreserved}
 use Rattle.zl_objects.specs.Waits.{AreSameButWaits, HavePlaces, bare, ending_port, ending_waits, giving_back, waits_at, waits_for, without_port_waits}
 use Rattle.zl_objects.proofs.Bodies.{Changed, changed, found_left}
-use Rattle.zl_objects.proofs.Sums.{sum_left, sum_no_more}
+use Rattle.zl_objects.proofs.Sums.{sum_same, sum_taken, sum_updated}
 
 -- ---- the steps of the code
 
@@ -142,17 +142,6 @@ ending_thins m k gone j o out at =
 
 -- ---- their places
 
-pub sum_out : {X : Type 0} (n : ℕ × X → ℕ) (m : Map X) (k : ℕ) (x : X) → get m k ≡ Some x → sum_by n (without m k) + n (k, x) ≤ sum_by n m
-unfolding get without
-sum_out n [] k x there = absurd (none-some x there)
-sum_out {X} n (e ∷ m) k x there = elim (cases_Bool (e.0 == k)) as (λ _. sum_by n (without (e ∷ m) k) + n (k, x) ≤ sum_by n (e ∷ m)) [
-  | inl here ↦
-      let same : e.1 ≡ x = same_Some e.1 x (rw here at there) in
-      let head : n e ≡ n (k, x) = λ i. n (eqb-true e.0 k here i, same i) in
-      rw here (omega (arith, sum_by-cons n e m, head, sum_left n m k))
-  | inr apart ↦ rw apart (omega (arith, sum_by-cons n e m, sum_by-cons n e (without m k), sum_out n m k x (rw apart at there)))
-]
-
 reserved_back : (m : Map Object) (p j : ℕ) → reserved_in (get (update m p (at_port without_place)) j) ≡ reserved_in (get m j) - cond (p == j) 1 0
 reserved_back m p j = ap reserved_in (get-update m p (at_port without_place) j) ∙ elim (p == j) as (λ b. reserved_in (if b then option_map (at_port without_place) (get m j) else get m j) ≡ reserved_in (get m j) - cond b 1 0) [
   | true ↦ by_object (get m j)
@@ -174,11 +163,12 @@ giving_reserved : (xs : List Watch) (m : Map Object) (j : ℕ) → reserved_in (
 giving_reserved [] m j = omega arith
 giving_reserved (x ∷ xs) m j = omega (arith, sum_by-cons (λ (y : Watch). cond (is_at_port j y) 1 0) x xs, reserved_back m x.port j, giving_reserved xs (update m x.port (at_port without_place)) j)
 
-giving_waits : (xs : List Watch) (m : Map Object) (j : ℕ) → waits_at (giving_back xs m) j ≤ waits_at m j
-giving_waits [] m j = omega arith
-giving_waits (x ∷ xs) m j = omega (arith, giving_waits xs (update m x.port (at_port without_place)) j, sum_no_more (λ (e : ℕ × Object). waits_for j e.1) m x.port (at_port without_place) (λ o. omega arith))
+giving_waits : (xs : List Watch) (m : Map Object) (j : ℕ) → waits_at (giving_back xs m) j ≡ waits_at m j
+giving_waits [] m j = refl
+giving_waits (x ∷ xs) m j =
+    giving_waits xs (update m x.port (at_port without_place)) j ∙ sum_same (λ (e : ℕ × Object). waits_for j e.1) m x.port (at_port without_place) (λ o. refl)
 
--- no wait at the port is left, and none more at others
+-- no wait at the port is left, and as many at others
 none_at : (k : ℕ) (xs : List Watch) → ◌≡◌ {A = ℕ} (count_by (is_at_port k) (filter (λ x. not (is_at_port k x)) xs)) 0
 none_at k [] = refl
 none_at k (x ∷ xs) = elim (cases_Bool (x.port == k)) as (λ _. ◌≡◌ {A = ℕ} (count_by (is_at_port k) (filter (λ y. not (is_at_port k y)) (x ∷ xs))) 0) [
@@ -188,22 +178,36 @@ none_at k (x ∷ xs) = elim (cases_Bool (x.port == k)) as (λ _. ◌≡◌ {A = 
       rw other (omega (arith, sum_by-cons (λ (y : Watch). cond (is_at_port k y) 1 0) x (filter (λ y. not (is_at_port k y)) xs), no, none_at k xs))
 ]
 
-no_more_at : (k j : ℕ) (xs : List Watch) → count_by (is_at_port j) (filter (λ x. not (is_at_port k x)) xs) ≤ count_by (is_at_port j) xs
-no_more_at k j [] = omega arith
-no_more_at k j (x ∷ xs) = elim (cases_Bool (x.port == k)) as (λ _. count_by (is_at_port j) (filter (λ y. not (is_at_port k y)) (x ∷ xs)) ≤ count_by (is_at_port j) (x ∷ xs)) [
-  | inl here ↦ rw here (omega (arith, sum_by-cons (λ (y : Watch). cond (is_at_port j y) 1 0) x xs, no_more_at k j xs))
-  | inr other ↦ rw other (omega (arith, sum_by-cons (λ (y : Watch). cond (is_at_port j y) 1 0) x (filter (λ y. not (is_at_port k y)) xs), sum_by-cons (λ (y : Watch). cond (is_at_port j y) 1 0) x xs, no_more_at k j xs))
-]
+module _ (k j : ℕ) (apart : (k == j) ≡ false) where
+  abbrev at_other : Watch → ℕ
+  at_other x = cond (is_at_port j x) 1 0
+
+  others_at : (xs : List Watch) → sum_by at_other (filter (λ x. not (is_at_port k x)) xs) ≡ sum_by at_other xs
+  others_at [] = refl
+  others_at (x ∷ xs) = elim (cases_Bool (x.port == k)) as (λ _. sum_by at_other (filter (λ y. not (is_at_port k y)) (x ∷ xs)) ≡ sum_by at_other (x ∷ xs)) [
+    | inl here ↦
+        let no : ◌≡◌ {A = ℕ} (at_other x) 0 = rw (eqb-true x.port k here, apart) refl in
+        rw here (omega (arith, sum_by-cons at_other x xs, no, others_at xs))
+    | inr other ↦ rw other (omega (arith, sum_by-cons at_other x (filter (λ y. not (is_at_port k y)) xs), sum_by-cons at_other x xs, others_at xs))
+  ]
+
+  each_others : (m : Map Object) → waits_at (each (λ i. without_port_waits k) m) j ≡ waits_at m j
+  unfolding each
+  each_others [] = refl
+  each_others (e ∷ m) =
+      let n : ℕ × Object → ℕ = λ x. waits_for j x.1 in
+      omega (
+        arith,
+        sum_by-cons n (e.0, without_port_waits k e.1) (each (λ i. without_port_waits k) m),
+        sum_by-cons n e m,
+        others_at e.1.signals.waits,
+        each_others m,
+      )
 
 each_none : (k : ℕ) (m : Map Object) → ◌≡◌ {A = ℕ} (waits_at (each (λ j. without_port_waits k) m) k) 0
 unfolding each
 each_none k [] = refl
 each_none k (e ∷ m) = omega (arith, sum_by-cons (λ (x : ℕ × Object). waits_for k x.1) (e.0, without_port_waits k e.1) (each (λ j. without_port_waits k) m), none_at k e.1.signals.waits, each_none k m)
-
-each_no_more : (k j : ℕ) (m : Map Object) → waits_at (each (λ i. without_port_waits k) m) j ≤ waits_at m j
-unfolding each
-each_no_more k j [] = omega arith
-each_no_more k j (e ∷ m) = omega (arith, sum_by-cons (λ (x : ℕ × Object). waits_for j x.1) (e.0, without_port_waits k e.1) (each (λ i. without_port_waits k) m), sum_by-cons (λ (x : ℕ × Object). waits_for j x.1) e m, no_more_at k j e.1.signals.waits, each_no_more k j m)
 
 each_reserved : (k j : ℕ) (m : Map Object) → reserved_in (get (each (λ i. without_port_waits k) m) j) ≡ reserved_in (get m j)
 each_reserved k j m = ap reserved_in (get-each m (λ i. without_port_waits k) j) ∙ by_object (get m j)
@@ -212,36 +216,44 @@ each_reserved k j m = ap reserved_in (get-each m (λ i. without_port_waits k) j)
     by_object None = refl
     by_object (Some o) = refl
 
--- places are reserved for the waits that are left
-pub ending_places : (m : Map Object) (k : ℕ) (o : Object) → get m k ≡ Some o → HavePlaces m → HavePlaces (ending_waits k o (without m k))
-ending_places m k o there have j = by_key (cases_Bool (k == j))
+-- just as many places are reserved as waits are left, where k alone has gone
+pub ending_places : (m : Map Object) (k : ℕ) (o : Object) → get m k ≡ Some o → length (without m k) + 1 ≡ length m → HavePlaces m
+    → HavePlaces (ending_waits k o (without m k))
+ending_places m k o there once have j = by_key (cases_Bool (k == j))
   where
     mid : Map Object
     mid = giving_back o.signals.waits (without m k)
 
-    fewer : waits_at mid j + waits_for j o ≤ waits_at m j
-    fewer = omega (arith, giving_waits o.signals.waits (without m k) j, sum_out (λ (e : ℕ × Object). waits_for j e.1) m k o there)
+    fewer : waits_at mid j + waits_for j o ≡ waits_at m j
+    fewer = omega (arith, giving_waits o.signals.waits (without m k) j, sum_taken (λ (e : ℕ × Object). waits_for j e.1) m k o there once)
 
     reserved : reserved_in (get mid j) ≡ reserved_in (get (without m k) j) - waits_for j o
     reserved = giving_reserved o.signals.waits (without m k) j
 
-    other : (b : Bool) → waits_at mid j ≤ reserved_in (get mid j) → waits_at (if b then each (λ i. without_port_waits k) mid else mid) j + 0 ≤ reserved_in (get (if b then each (λ i. without_port_waits k) mid else mid) j)
-    other true h = omega (arith, each_no_more k j mid, each_reserved k j mid, h)
-    other false h = omega (arith, h)
+    other : (k == j) ≡ false → (b : Bool) → waits_at mid j ≡ reserved_in (get mid j) → waits_at (ending_port k b mid) j + 0 ≡ reserved_in (get (ending_port k b mid) j)
+    other apart true h = omega (arith, each_others k j apart mid, each_reserved k j mid, h)
+    other apart false h = omega (arith, h)
 
-    this : (b : Bool) → nat_lt 0 (reserved_of o.body) ≡ b → k ≡ j → waits_at (if b then each (λ i. without_port_waits k) mid else mid) j + 0 ≤ reserved_in (get (if b then each (λ i. without_port_waits k) mid else mid) j)
-    this true is key = subst (λ (i : ℕ). waits_at (each (λ x. without_port_waits k) mid) i + 0 ≤ reserved_in (get (each (λ x. without_port_waits k) mid) i)) key (omega (arith, each_none k mid))
-    this false is key =
+    -- no place is reserved at k any more
+    this : (b : Bool) → nat_lt 0 (reserved_of o.body) ≡ b → k ≡ j → ◌≡◌ {A = ℕ} (reserved_in (get mid j)) 0
+        → waits_at (ending_port k b mid) j + 0 ≡ reserved_in (get (ending_port k b mid) j)
+    this true is key gone =
+        let none : ◌≡◌ {A = ℕ} (waits_at (ending_port k true mid) j) 0 = ap (waits_at (ending_port k true mid)) (sym key) ∙ each_none k mid in
+        omega (arith, none, each_reserved k j mid, gone)
+    this false is key gone =
         let at : reserved_in (get m j) ≡ reserved_of o.body = ap reserved_in (ap (get m) (sym key) ∙ there) in
         let zero : ◌≡◌ {A = ℕ} (reserved_of o.body) 0 = grind (arith, nat_tests, is) in
-        omega (arith, fewer, have j, at, zero)
+        omega (arith, fewer, have j, at, zero, gone)
 
-    by_key : IsTrue (k == j) ⊎ ((k == j) ≡ false) → waits_at (ending_waits k o (without m k)) j + 0 ≤ reserved_in (get (ending_waits k o (without m k)) j)
-    by_key (inl here) = this (nat_lt 0 (reserved_of o.body)) refl (eqb-true k j here)
+    by_key : IsTrue (k == j) ⊎ ((k == j) ≡ false) → waits_at (ending_waits k o (without m k)) j + 0 ≡ reserved_in (get (ending_waits k o (without m k)) j)
+    by_key (inl here) =
+        let out : get (without m k) j ≡ None = get-without m k j ∙ rw here refl in
+        let left : ◌≡◌ {A = ℕ} (reserved_in (get (without m k) j)) 0 = ap reserved_in out in
+        this (nat_lt 0 (reserved_of o.body)) refl (eqb-true k j here) (omega (arith, reserved, left))
     by_key (inr apart) =
         let left : get (without m k) j ≡ get m j = get-without m k j ∙ rw apart refl in
         let still : reserved_in (get (without m k) j) ≡ reserved_in (get m j) = ap reserved_in left in
-        other (nat_lt 0 (reserved_of o.body)) (omega (arith, fewer, have j, reserved, still))
+        other apart (nat_lt 0 (reserved_of o.body)) (omega (arith, fewer, have j, reserved, still))
 
 -- k has gone
 pub ending_gone : (m : Map Object) (k : ℕ) (o : Object) → ((n : Map Object) → AreSameButWaits (without m k) n → has_key n k ≡ has_key (without m k) k) → has_key (ending_waits k o (without m k)) k ≡ false
@@ -260,7 +272,8 @@ wait_counts K (x ∷ xs) each_there = rw first (ap (λ (ys : List Watch). x ∷ 
     first = each_there x.port (omega (arith, one, sum_by-cons (λ (y : Watch). cond (is_at_port x.port y) 1 0) x xs))
 
 pub all_ports_there : (m : Map Object) → HavePlaces m → (k : ℕ) (o : Object) → get m k ≡ Some o → filter (λ (x : Watch). has_key m x.port) o.signals.waits ≡ o.signals.waits
-all_ports_there m have k o at = wait_counts (has_key m) o.signals.waits (λ p some. by_object p (get m p) refl (omega (arith, some, have p, sum_out (λ (e : ℕ × Object). waits_for p e.1) m k o at)))
+all_ports_there m have k o at =
+    wait_counts (has_key m) o.signals.waits (λ p some. by_object p (get m p) refl (omega (arith, some, have p, sum_updated (λ (e : ℕ × Object). waits_for p e.1) m k o (without_port_waits p) at, none_at p o.signals.waits)))
   where
     by_object : (p : ℕ) (q : Option Object) → get m p ≡ q → 0 < reserved_in (get m p) → IsTrue (has_key m p)
     by_object p None is some = absurd (let zero : ◌≡◌ {A = ℕ} (reserved_in (get m p)) 0 = ap reserved_in is in omega (arith, some, zero))

@@ -13,7 +13,7 @@ use Rattle.zl_objects.specs.declared.wait.Wait.{Wait}
 use Rattle.zl_objects.specs.Objects.{held_once_more, is_end_at, is_end_body, raised_changed, sent, received, stopped}
 use Rattle.zl_objects.specs.Dying.{IsKept, Thins}
 use Rattle.zl_objects.specs.Listed.{is_there, wait_value, watch_of}
-use Rattle.zl_objects.specs.Ports.{at_port, is_port_at, reserved_in}
+use Rattle.zl_objects.specs.Ports.{at_port, is_port_at, reserved_in, reserved_of}
 use Rattle.zl_objects.specs.Release.{Cascades}
 use Rattle.zl_objects.specs.Waits.{HavePlaces, unwatched, waits_in, watched}
 use Rattle.zl_objects.proofs.Listed.{inserted_listed, left_listed, none_listed, popped_listed, unwatched_listed, updated_listed, updated_or_listed, watched_listed}
@@ -76,9 +76,9 @@ module _ {waits : List WaitValue} where
   pub roomy_kept : (m n : Map Object) (next room room2 : ℕ) (d d2 : List ℕ) → IsKept None m next d room waits → n ≡ m → d2 ≡ d → room ≤ room2 → IsKept None n next d2 room2 waits
   roomy_kept m n next room room2 d d2 kept is same more = record { whole = roomy_whole m n next room room2 d d2 kept.whole is same more; listed = rw is kept.listed }
 
-  pub inserted_kept : (m n : Map Object) (next room room2 : ℕ) (d d2 : List ℕ) (o : Object) → IsKept None m next d room waits → is_end_body o.body ≡ false → o.signals.waits ≡ [] → d2 ≡ d → length m + 1 ≤ room2 → n ≡ insert_entry nat_cmp m next o → IsKept None n (next + 1) d2 room2 waits
-  inserted_kept m n next room room2 d d2 o kept alone fresh same more into = record {
-    whole = inserted_whole m n next room room2 d d2 o kept.whole alone fresh same more into;
+  pub inserted_kept : (m n : Map Object) (next room room2 : ℕ) (d d2 : List ℕ) (o : Object) → IsKept None m next d room waits → is_end_body o.body ≡ false → reserved_of o.body ≡ 0 → o.signals.waits ≡ [] → d2 ≡ d → length m + 1 ≤ room2 → n ≡ insert_entry nat_cmp m next o → IsKept None n (next + 1) d2 room2 waits
+  inserted_kept m n next room room2 d d2 o kept alone empty fresh same more into = record {
+    whole = inserted_whole m n next room room2 d d2 o kept.whole alone empty fresh same more into;
     listed = inserted_listed waits m n next o kept.whole.below fresh kept.listed into;
   }
 
@@ -94,7 +94,7 @@ module _ {waits : List WaitValue} where
       → IsSome r ↔ (0 < length m.entries) → IfNone r (IsUnchanged m n) → IfSome r (λ p. lookup (is_at (nat_cmp p.0)) m.entries ≡ Some p.1) → IfSome r (λ p. IsUpperBound nat_cmp m p.0) → IfSome r (λ p. Updates nat_cmp m n p.0 None) → IfSome r (λ p. m.entries ≡ n.entries ++ p ∷ [])
       → IsKept None n.entries koid d room waits
   popped_kept m n next koid room d r kept newest alone unreserved unwatched there fewer some unchanged value greatest updates removal = record {
-    whole = popped_whole m n next koid room d r kept.whole newest alone unreserved there fewer some unchanged value greatest updates removal;
+    whole = popped_whole m n next koid room d r kept.whole newest alone unreserved unwatched there fewer some unchanged value greatest updates removal;
     listed = popped_listed waits m n next koid r kept.whole.below newest unwatched there unchanged value greatest updates kept.listed;
   }
 
@@ -104,12 +104,15 @@ module _ {waits : List WaitValue} where
   pub watched_kept : (order : ℕ) (x : Wait) (m n : Map Object) (next room : ℕ) (d : List ℕ) (waits2 : List WaitValue) → IsTrue (is_port_at m x.port) → IsTrue (has_key m x.object) → IsKept None m next d room waits
       → n ≡ update (update m x.port (at_port with_place)) x.object (watched (watch_of order x)) → waits2 ≡ waits ++ wait_value x ∷ [] → IsKept None n next d room waits2
   watched_kept order x m n next room d waits2 port there kept is more = rw more record {
-    whole = watched_whole (watch_of order x) mid n next room x.object d (made_whole (watch_of order x) m mid next room d port kept.whole refl) is;
-    listed = watched_listed order x waits mid n (has_key-update m x.port (at_port with_place) x.object ∙ there) (updated_listed (at_port with_place) (λ o. refl) waits m mid x.port kept.listed refl) is;
+    whole = watched_whole (watch_of order x) mid n next room x.object d still (made_whole (watch_of order x) m mid next room d port kept.whole refl) is;
+    listed = watched_listed order x waits mid n still (updated_listed (at_port with_place) (λ o. refl) waits m mid x.port kept.listed refl) is;
   }
     where
       mid : Map Object
       mid = update m x.port (at_port with_place)
+
+      still : IsTrue (has_key mid x.object)
+      still = has_key-update m x.port (at_port with_place) x.object ∙ there
 
   -- the earliest wait at the object k that passes is taken out of the list and there
   module _ (k : ℕ) (test : WaitValue → Bool) (m n : Map Object) (next room : ℕ) (d : List ℕ) (waits2 : List WaitValue) (kept : IsKept None m next d room waits)

@@ -1,5 +1,5 @@
 -- The places that are reserved for the packets of waits, after each change of the objects.
-use Rattle.zl_rights.proofs.Common.{◌≡◌, ◌+◌, ◌<◌, ◌≤◌, ◌⊎◌, ℕ, suc, take, drop, Bool, true, false, ◌==◌, List, [], ◌∷◌, ◌++◌, refl, sym, ap, ◌∙◌, subst, cond, Option, Some, None, inl, inr, IsTrue, arith, eq-eqb, if◌then◌else◌, count_by, sum_by-cons, option_map, find, cases_Bool, eqb-true, false≢true, nat_tests, Map, get, has_key, put, update}
+use Rattle.zl_rights.proofs.Common.{◌≡◌, ◌+◌, ◌<◌, ◌⊎◌, ℕ, suc, take, drop, Bool, true, false, ◌==◌, List, [], ◌∷◌, ◌++◌, refl, sym, ap, ◌∙◌, subst, cond, Option, Some, None, inl, inr, IsTrue, is_some, arith, eq-eqb, if◌then◌else◌, count_by, sum_by-cons, option_map, find, cases_Bool, eqb-true, false≢true, nat_tests, Map, get, has_key, put, update}
 use Rattle.std.specs.Prelude.{◌-◌}
 use Rattle.std.specs.List.{position_or_len}
 use Rattle.std.proofs.lemmas.List.Sums.{sum_by-append}
@@ -14,7 +14,7 @@ use Rattle.zl_objects.specs.declared.object.Object.{Object}
 use Rattle.zl_objects.specs.Ports.{at_port, changed_port, has_place_in, is_port_at, is_port_in, reserved_in, reserved_of}
 use Rattle.zl_objects.specs.Waits.{HavePlaces, HavePlacesWith, one_for, unwatched, waits_at, waits_for, waits_in, watched}
 use Rattle.zl_objects.proofs.ByKoid.{put_last}
-use Rattle.zl_objects.proofs.Sums.{sum_no_more, sum_updated}
+use Rattle.zl_objects.proofs.Sums.{sum_same, sum_updated}
 
 -- ---- one object is written
 
@@ -29,12 +29,13 @@ seen_updated g f same m k j = ap g (get-update m k f j) ∙ elim (cases_Bool (k 
     by_object None = refl
     by_object (Some o) = same o
 
--- no wait more, and as many places
-pub places_updated : (f : Object → Object) → ((j : ℕ) (o : Object) → waits_for j (f o) ≤ waits_for j o) → ((o : Object) → reserved_of (f o).body ≡ reserved_of o.body)
+-- as many waits, and as many places
+pub places_updated : (f : Object → Object) → ((j : ℕ) (o : Object) → waits_for j (f o) ≡ waits_for j o)
+    → ((o : Object) → reserved_of (f o).body ≡ reserved_of o.body)
     → (x : Option Watch) (m : Map Object) (k : ℕ) → HavePlacesWith x m → HavePlacesWith x (update m k f)
-places_updated f fewer same x m k have j =
+places_updated f waits same x m k have j =
     let reserved : reserved_in (get (update m k f) j) ≡ reserved_in (get m j) = seen_updated reserved_in f same m k j in
-    omega (arith, have j, sum_no_more (λ (e : ℕ × Object). waits_for j e.1) m k f (fewer j), reserved)
+    omega (arith, have j, sum_same (λ (e : ℕ × Object). waits_for j e.1) m k f (waits j), reserved)
 
 -- ---- the first wait that passes is taken out
 
@@ -72,19 +73,20 @@ places_unwatched test m k have = by_object (get m k) refl
 reserved_at_port : (f : Port → Port) (m : Map Object) (p j : ℕ) → reserved_in (get (update m p (at_port f)) j) ≡ (if p == j then reserved_in (option_map (at_port f) (get m j)) else reserved_in (get m j))
 reserved_at_port f m p j = ap reserved_in (get-update m p (at_port f) j) ∙ elim (p == j) as (λ b. reserved_in (if b then option_map (at_port f) (get m j) else get m j) ≡ (if b then reserved_in (option_map (at_port f) (get m j)) else reserved_in (get m j))) [ true ↦ refl | false ↦ refl ]
 
-waits_at_port : (f : Port → Port) (m : Map Object) (p j : ℕ) → waits_at (update m p (at_port f)) j ≤ waits_at m j
-waits_at_port f m p j = sum_no_more (λ (e : ℕ × Object). waits_for j e.1) m p (at_port f) (λ o. omega arith)
+waits_at_port : (f : Port → Port) (m : Map Object) (p j : ℕ) → waits_at (update m p (at_port f)) j ≡ waits_at m j
+waits_at_port f m p j = sum_same (λ (e : ℕ × Object). waits_for j e.1) m p (at_port f) (λ o. refl)
 
 -- its place is no longer reserved
 pub places_used : (f : Port → Port) → ((p : Port) → (f p).reserved ≡ p.reserved - 1) → (x : Watch) (m : Map Object) → HavePlacesWith (Some x) m → HavePlaces (update m x.port (at_port f))
-places_used f less x m have j = elim (cases_Bool (x.port == j)) as (λ _. waits_at (update m x.port (at_port f)) j + 0 ≤ reserved_in (get (update m x.port (at_port f)) j)) [
+places_used f less x m have j = elim (cases_Bool (x.port == j)) as (λ _. waits_at (update m x.port (at_port f)) j + 0 ≡ reserved_in (get (update m x.port (at_port f)) j)) [
   | inl here ↦
       let one : ◌≡◌ {A = ℕ} (cond (x.port == j) 1 0) 1 = rw here refl in
       let reserved : reserved_in (get (update m x.port (at_port f)) j) ≡ reserved_in (get m j) - 1 = reserved_at_port f m x.port j ∙ rw here (by_object (get m j)) in
       omega (arith, have j, waits_at_port f m x.port j, one, reserved)
   | inr apart ↦
+      let none : ◌≡◌ {A = ℕ} (cond (x.port == j) 1 0) 0 = rw apart refl in
       let reserved : reserved_in (get (update m x.port (at_port f)) j) ≡ reserved_in (get m j) = reserved_at_port f m x.port j ∙ rw apart refl in
-      omega (arith, have j, waits_at_port f m x.port j, reserved)
+      omega (arith, have j, waits_at_port f m x.port j, none, reserved)
 ]
   where
     by_body : (b : Body) → reserved_of (changed_port f b) ≡ reserved_of b - 1
@@ -100,7 +102,7 @@ places_used f less x m have j = elim (cases_Bool (x.port == j)) as (λ _. waits_
 
 -- a place is reserved for it
 pub places_made : (x : Watch) (m : Map Object) → IsTrue (is_port_at m x.port) → HavePlaces m → HavePlacesWith (Some x) (update m x.port (at_port with_place))
-places_made x m port have j = elim (cases_Bool (x.port == j)) as (λ _. waits_at (update m x.port (at_port with_place)) j + cond (x.port == j) 1 0 ≤ reserved_in (get (update m x.port (at_port with_place)) j)) [
+places_made x m port have j = elim (cases_Bool (x.port == j)) as (λ _. waits_at (update m x.port (at_port with_place)) j + cond (x.port == j) 1 0 ≡ reserved_in (get (update m x.port (at_port with_place)) j)) [
   | inl here ↦
       let one : ◌≡◌ {A = ℕ} (cond (x.port == j) 1 0) 1 = rw here refl in
       let reserved : reserved_in (get (update m x.port (at_port with_place)) j) ≡ reserved_in (get m j) + 1 = reserved_at_port with_place m x.port j ∙ rw here (by_object (get m j) (subst (λ (i : ℕ). IsTrue (is_port_at m i)) (eqb-true x.port j here) port)) in
@@ -123,12 +125,12 @@ places_made x m port have j = elim (cases_Bool (x.port == j)) as (λ _. waits_at
         by_body (body.Port p) is_port = refl
 
 -- it is registered, in its place
-pub places_taken : (x : Watch) (m : Map Object) (k : ℕ) → HavePlacesWith (Some x) m → HavePlaces (update m k (watched x))
-places_taken x m k have = by_object (get m k) refl
+pub places_taken : (x : Watch) (m : Map Object) (k : ℕ) → IsTrue (has_key m k) → HavePlacesWith (Some x) m → HavePlaces (update m k (watched x))
+places_taken x m k there have = by_object (get m k) refl there
   where
-    by_object : (q : Option Object) → get m k ≡ q → HavePlaces (update m k (watched x))
-    by_object None is j = rw (update_missing m k (watched x) is) (omega (arith, have j))
-    by_object (Some o) is j =
+    by_object : (q : Option Object) → get m k ≡ q → IsTrue (is_some q) → HavePlaces (update m k (watched x))
+    by_object None is h j = absurd (false≢true h)
+    by_object (Some o) is h j =
         let reserved : reserved_in (get (update m k (watched x)) j) ≡ reserved_in (get m j) = seen_updated reserved_in (watched x) (λ q. refl) m k j in
         omega (
           arith,
@@ -184,8 +186,10 @@ place_back (e ∷ m) p = elim (cases_Bool (e.0 == p)) as (λ _. update (update (
 
 -- ---- one object more
 
-pub places_put : (m : Map Object) (next : ℕ) (o : Object) → ((j : ℕ) → IsTrue (has_key m j) → j < next) → o.signals.waits ≡ [] → HavePlaces m → HavePlaces (put m next o)
-places_put m next o below none have j = by_key (cases_Bool (next == j))
+-- no place is reserved at it
+pub places_put : (m : Map Object) (next : ℕ) (o : Object) → ((j : ℕ) → IsTrue (has_key m j) → j < next) → o.signals.waits ≡ []
+    → reserved_of o.body ≡ 0 → HavePlaces m → HavePlaces (put m next o)
+places_put m next o below none empty have j = by_key (cases_Bool (next == j))
   where
     no_waits : ◌≡◌ {A = ℕ} (waits_for j o) 0
     no_waits = rw none refl
@@ -201,12 +205,13 @@ places_put m next o below none have j = by_key (cases_Bool (next == j))
     fresh None is = refl
     fresh (Some q) is = absurd (omega (arith, below next (rw is refl)))
 
-    by_key : IsTrue (next == j) ⊎ ((next == j) ≡ false) → waits_at (put m next o) j + 0 ≤ reserved_in (get (put m next o) j)
+    by_key : IsTrue (next == j) ⊎ ((next == j) ≡ false) → waits_at (put m next o) j + 0 ≡ reserved_in (get (put m next o) j)
     by_key (inl here) =
         let same : next ≡ j = eqb-true next j here in
         let nothing : ◌≡◌ {A = ℕ} (waits_at m next) 0 = omega (arith, have next, fresh (get m next) refl) in
         let moved : waits_at m next ≡ waits_at m j = ap (waits_at m) same in
-        omega (arith, waits, moved, nothing)
+        let new : reserved_in (get (put m next o) j) ≡ reserved_of o.body = reserved ∙ rw here refl in
+        omega (arith, waits, moved, nothing, new, empty)
     by_key (inr apart) =
         let old : reserved_in (get (put m next o) j) ≡ reserved_in (get m j) = reserved ∙ rw apart refl in
         omega (arith, waits, old, have j)

@@ -1,5 +1,5 @@
 -- The invariant of the objects, after each change.
-use Rattle.zl_rights.proofs.Common.{◌≡◌, ◌<◌, ◌≤◌, ◌+◌, ◌^◌, ◌==◌, ◌⊎◌, ℕ, Bool, true, false, List, [], ◌∷◌, ◌++◌, length, refl, sym, ap, ◌∙◌, subst, cond, Option, Some, None, inl, inr, arith, eq-eqb, IsTrue, is_some, nat_lt, if◌then◌else◌, find, count_by, nat_cmp, cases_Bool, false≢true, nat_tests, none-some, same_Some, Map, get, put, update, has_key, length-append, option_map, eqb-true}
+use Rattle.zl_rights.proofs.Common.{◌≡◌, ◌<◌, ◌≤◌, ◌+◌, ◌^◌, ◌==◌, ◌⊎◌, ℕ, Bool, true, false, List, [], ◌∷◌, ◌++◌, length, refl, sym, ap, ◌∙◌, subst, cond, Option, Some, None, inl, inr, arith, eq-eqb, IsTrue, is_some, nat_lt, if◌then◌else◌, find, count_by, nat_cmp, cases_Bool, false≢true, nat_tests, none-some, same_Some, Map, get, put, update, has_key, length-append, sum_by-cons, option_map, eqb-true}
 use Rattle.std.proofs.lemmas.List.Sums.{sum_by-append}
 use Rattle.std.specs.Prelude.{◌-◌, ◌↔◌, IfNone, IfSome, IsSome, Result, Ok, Err, OnOk, OnErr, is_err}
 use Rattle.std.specs.Cmp.{unsigned_tied}
@@ -66,11 +66,11 @@ module _ (f : Object → Object) (ends : (o : Object) → is_end_body (f o).body
       ]
 
   module _ (quiet : (o : Object) → (f o).signals ≡ o.signals) (same : (o : Object) → reserved_of (f o).body ≡ reserved_of o.body) where
-    fewer : (j : ℕ) (o : Object) → waits_for j (f o) ≤ waits_for j o
-    fewer j o = let is : waits_for j (f o) ≡ waits_for j o = ap (λ (s : SignalState). count_by (is_at_port j) s.waits) (quiet o) in omega (arith, is)
+    same_waits : (j : ℕ) (o : Object) → waits_for j (f o) ≡ waits_for j o
+    same_waits j o = ap (λ (s : SignalState). count_by (is_at_port j) s.waits) (quiet o)
 
     pub updated_whole : (m n : Map Object) (next room k : ℕ) (d : List ℕ) → IsWhole None m next d room → n ≡ update m k f → IsWhole None n next d room
-    updated_whole m n next room k d whole is = placed_whole None None m n next room k d whole is (places_updated f fewer same None m k whole.places)
+    updated_whole m n next room k d whole is = placed_whole None None m n next room k d whole is (places_updated f same_waits same None m k whole.places)
 
 same_ends : (f : Object → Object) → ((o : Object) → (f o).body ≡ o.body) → (o : Object) → is_end_body (f o).body ≡ is_end_body o.body
 same_ends f same o = ap is_end_body (same o)
@@ -90,7 +90,7 @@ more_whole = updated_whole held_once_more (same_ends held_once_more more_same) (
 
 -- other signals
 pub changed_whole : (m n : Map Object) (next room k clear set : ℕ) (d : List ℕ) → IsWhole None m next d room → n ≡ update m k (raised_changed clear set) → IsWhole None n next d room
-changed_whole m n next room k clear set d whole is = placed_whole f (λ o. refl) (λ m next o has. has) None None m n next room k d whole is (places_updated f (λ j o. omega arith) (λ o. refl) None m k whole.places)
+changed_whole m n next room k clear set d whole is = placed_whole f (λ o. refl) (λ m next o has. has) None None m n next room k d whole is (places_updated f (λ j o. refl) (λ o. refl) None m k whole.places)
   where
     f : Object → Object
     f = raised_changed clear set
@@ -114,7 +114,7 @@ at_port_whole g = placed_whole (at_port g) (λ o. same_end g o.body) (λ m next 
 
 -- other packets at a port
 pub port_whole : (g : Port → Port) → ((p : Port) → (g p).reserved ≡ p.reserved) → (m n : Map Object) (next room k : ℕ) (d : List ℕ) → IsWhole None m next d room → n ≡ update m k (at_port g) → IsWhole None n next d room
-port_whole g same m n next room k d whole is = at_port_whole g None None m n next room k d whole is (places_updated (at_port g) (λ j o. omega arith) (λ o. by_body o.body) None m k whole.places)
+port_whole g same m n next room k d whole is = at_port_whole g None None m n next room k d whole is (places_updated (at_port g) (λ j o. refl) (λ o. by_body o.body) None m k whole.places)
   where
     by_body : (b : Body) → reserved_of (changed_port g b) ≡ reserved_of b
     by_body (body.Job own) = refl
@@ -128,8 +128,10 @@ pub made_whole : (x : Watch) (m n : Map Object) (next room : ℕ) (d : List ℕ)
 made_whole x m n next room d port whole is = at_port_whole with_place None (Some x) m n next room x.port d whole is (places_made x m port whole.places)
 
 -- the wait is registered
-pub watched_whole : (x : Watch) (m n : Map Object) (next room k : ℕ) (d : List ℕ) → IsWhole (Some x) m next d room → n ≡ update m k (watched x) → IsWhole None n next d room
-watched_whole x m n next room k d whole is = placed_whole (watched x) (λ o. refl) (λ m next o has. has) (Some x) None m n next room k d whole is (places_taken x m k whole.places)
+pub watched_whole : (x : Watch) (m n : Map Object) (next room k : ℕ) (d : List ℕ) → IsTrue (has_key m k) → IsWhole (Some x) m next d room
+    → n ≡ update m k (watched x) → IsWhole None n next d room
+watched_whole x m n next room k d there whole is =
+    placed_whole (watched x) (λ o. refl) (λ m next o has. has) (Some x) None m n next room k d whole is (places_taken x m k there whole.places)
 
 -- the wait has gone, and its place is left
 pub unwatched_whole : (test : Watch → Bool) (m n : Map Object) (next room k : ℕ) (d : List ℕ) → IsWhole None m next d room → n ≡ update m k (unwatched test) → IsWhole (find test (waits_in (get m k))) n next d room
@@ -226,15 +228,15 @@ later_peer m next o (body.ChannelEnd p queue) below has = (omega (arith, has.0),
     apart : (next == p) ≡ false
     apart = grind (arith, nat_tests, has.0)
 
--- the new object has the next koid, and is no end
-pub inserted_whole : (m n : Map Object) (next room room2 : ℕ) (d d2 : List ℕ) (o : Object) → IsWhole None m next d room → is_end_body o.body ≡ false → o.signals.waits ≡ [] → d2 ≡ d → length m + 1 ≤ room2 → n ≡ insert_entry nat_cmp m next o → IsWhole None n (next + 1) d2 room2
-inserted_whole m n next room room2 d d2 o whole alone fresh same more into = rw (into, inserted m next o, same) record {
+-- the new object has the next koid, and is no end; no place is reserved at it
+pub inserted_whole : (m n : Map Object) (next room room2 : ℕ) (d d2 : List ℕ) (o : Object) → IsWhole None m next d room → is_end_body o.body ≡ false → reserved_of o.body ≡ 0 → o.signals.waits ≡ [] → d2 ≡ d → length m + 1 ≤ room2 → n ≡ insert_entry nat_cmp m next o → IsWhole None n (next + 1) d2 room2
+inserted_whole m n next room room2 d d2 o whole alone empty fresh same more into = rw (into, inserted m next o, same) record {
   below = λ k there. elim (put_key m next o k there) as (λ _. k < next + 1) [
     | inl here ↦ omega (arith, here)
     | inr old ↦ omega (arith, whole.below k old)
   ];
   peers = λ k q at. by_key k q (cases_Bool (next == k)) (sym (get-put m next o k) ∙ at);
-  places = places_put m next o whole.below fresh whole.places;
+  places = places_put m next o whole.below fresh empty whole.places;
   enough = omega (arith, more, ap (λ (x : Map Object). length x) (sym (inserted m next o) ∙ entry_inserted m next o whole.below), length-append m ((next, o) ∷ []));
   none = whole.none;
 }
@@ -278,13 +280,16 @@ pub channel_whole : (m n n2 : Map Object) (next room room2 handles : ℕ) (d d2 
 channel_whole m n n2 next room room2 handles d d2 o o2 whole first second same more into into2 = rw same record {
   below = λ k there. below_second k (rw is_put2 at there);
   peers = λ k q at. by_key k q (cases_Bool (next + 1 == k)) (cases_Bool (next == k)) (sym (get_second k) ∙ at);
-  places = rw is_put2 (places_put n (next + 1) o2 below (rw second refl) (rw is_put (places_put m next o whole.below (rw first refl) whole.places)));
+  places = rw is_put2 (places_put n (next + 1) o2 below (rw second refl) (rw second refl) first_places);
   enough = rw (channel_created m n n2 next o o2 whole.below into into2) (omega (arith, more, length-append (m ++ (next, o) ∷ []) ((next + 1, o2) ∷ []), length-append m ((next, o) ∷ [])));
   none = whole.none;
 }
   where
     is_put : n ≡ put m next o
     is_put = into ∙ inserted m next o
+
+    first_places : HavePlaces n
+    first_places = rw is_put (places_put m next o whole.below (rw first refl) (rw first refl) whole.places)
 
     is_put2 : n2 ≡ put n (next + 1) o2
     is_put2 = into2 ∙ inserted n (next + 1) o2
@@ -395,12 +400,12 @@ no_entries [] some = refl
 no_entries (e ∷ es) some = absurd (false≢true (some (omega arith)))
 
 -- the object with the greatest koid is gone; it was no end, so it was no peer
-pub popped_whole : (m n : BTreeMap ℕ Object) (next koid room : ℕ) (d : List ℕ) (r : Option (ℕ × Object)) → IsWhole None m.entries next d room → next ≡ koid + 1 → is_end_at m.entries koid ≡ false → reserved_in (get m.entries koid) ≡ 0 → IsTrue (has_key m.entries koid) → length n.entries ≤ length m.entries
+pub popped_whole : (m n : BTreeMap ℕ Object) (next koid room : ℕ) (d : List ℕ) (r : Option (ℕ × Object)) → IsWhole None m.entries next d room → next ≡ koid + 1 → is_end_at m.entries koid ≡ false → reserved_in (get m.entries koid) ≡ 0 → waits_in (get m.entries koid) ≡ [] → IsTrue (has_key m.entries koid) → length n.entries ≤ length m.entries
     → IsSome r ↔ (0 < length m.entries) → IfNone r (IsUnchanged m n) → IfSome r (λ p. lookup (is_at (nat_cmp p.0)) m.entries ≡ Some p.1) → IfSome r (λ p. IsUpperBound nat_cmp m p.0) → IfSome r (λ p. Updates nat_cmp m n p.0 None) → IfSome r (λ p. m.entries ≡ n.entries ++ p ∷ [])
     → IsWhole None n.entries koid d room
 unfolding get
-popped_whole m n next koid room d None whole newest alone unreserved there fewer some unchanged value greatest updates removal = rw unchanged (none_whole m.entries koid room d (no_entries m.entries some.1) whole.none)
-popped_whole m n next koid room d (Some p) whole newest alone unreserved there fewer some unchanged value greatest updates removal = record {
+popped_whole m n next koid room d None whole newest alone unreserved unwatched there fewer some unchanged value greatest updates removal = rw unchanged (none_whole m.entries koid room d (no_entries m.entries some.1) whole.none)
+popped_whole m n next koid room d (Some p) whole newest alone unreserved unwatched there fewer some unchanged value greatest updates removal = record {
   below = λ j at. lower j (rw (read j) at at);
   peers = λ j o at. peers j o at;
   places = places;
@@ -451,12 +456,19 @@ popped_whole m n next koid room d (Some p) whole newest alone unreserved there f
     peers : (j : ℕ) (o : Object) → get n.entries j ≡ Some o → HasPeer n.entries koid o.body
     peers j o at = by_body o.body (whole.peers j o (was j o at))
 
-    waits : (j : ℕ) → waits_at n.entries j ≤ waits_at m.entries j
-    waits j = rw removal (omega (arith, sum_by-append (λ (e : ℕ × Object). waits_for j e.1) n.entries (p ∷ [])))
-
     -- it was the one with this koid
     is_koid : p.0 ≡ koid
     is_koid = grind (arith, nat_tests, last, newest, greatest koid (rw (looked_up m.entries koid) there), unsigned_tied p.0 koid)
+
+    -- and no wait was at it
+    no_waits : p.1.signals.waits ≡ []
+    no_waits = ap waits_in (sym value ∙ (looked_up m.entries p.0 ∙ ap (get m.entries) is_koid)) ∙ unwatched
+
+    waits : (j : ℕ) → waits_at n.entries j ≡ waits_at m.entries j
+    waits j =
+        let none : ◌≡◌ {A = ℕ} (waits_for j p.1) 0 = rw no_waits refl in
+        let n_of : ℕ × Object → ℕ = λ e. waits_for j e.1 in
+        rw removal (omega (arith, sum_by-append n_of n.entries (p ∷ []), sum_by-cons n_of p [], none))
 
     same : (j : ℕ) → (koid == j) ≡ false → get n.entries j ≡ get m.entries j
     same j apart = rw (read j, tied j apart) (looked_up m.entries j)
@@ -467,10 +479,17 @@ popped_whole m n next koid room d (Some p) whole newest alone unreserved there f
     places : HavePlaces n.entries
     places j = by_key (cases_Bool (koid == j))
       where
-        by_key : IsTrue (koid == j) ⊎ ((koid == j) ≡ false) → waits_at n.entries j + 0 ≤ reserved_in (get n.entries j)
+        gone : get n.entries koid ≡ None
+        gone = rw (read koid, tied) refl
+          where
+            tied : is_at (nat_cmp p.0) koid ≡ true
+            tied = grind (arith, nat_tests, is_koid, unsigned_tied p.0 koid)
+
+        by_key : IsTrue (koid == j) ⊎ ((koid == j) ≡ false) → waits_at n.entries j + 0 ≡ reserved_in (get n.entries j)
         by_key (inl here) =
-            subst (λ (i : ℕ). waits_at n.entries i + 0 ≤ reserved_in (get n.entries i)) (eqb-true koid j here)
-            (omega (arith, waits koid, whole.places koid, unreserved))
+            let none : ◌≡◌ {A = ℕ} (reserved_in (get n.entries koid)) 0 = ap reserved_in gone in
+            subst (λ (i : ℕ). waits_at n.entries i + 0 ≡ reserved_in (get n.entries i)) (eqb-true koid j here)
+            (omega (arith, waits koid, whole.places koid, unreserved, none))
         by_key (inr apart) =
             let reserved : reserved_in (get n.entries j) ≡ reserved_in (get m.entries j) = ap reserved_in (same j apart) in
             omega (arith, waits j, whole.places j, reserved)

@@ -1,5 +1,5 @@
 -- The waits that are registered at the objects, and what operations make of them.
-use Rattle.std.specs.Prelude.{ℕ, ◌≡◌, Bool, nat_lt, ◌+◌, ◌≤◌, cond, ◌==◌, List, [], ◌∷◌, Option, Some, None, if◌then◌else◌}
+use Rattle.std.specs.Prelude.{ℕ, ◌≡◌, Bool, nat_lt, ◌+◌, cond, ◌==◌, List, [], ◌∷◌, Option, Some, None, if◌then◌else◌}
 use Rattle.std.specs.List.{find, filter, count_by, sum_by}
 use Rattle.zl_rights.specs.Map.{Map, each, get, has_key, update}
 use Rattle.zl_rights.specs.World.{Packet}
@@ -45,12 +45,11 @@ abbrev pub one_for : ℕ → Option Watch → ℕ
 one_for k None = 0
 one_for k (Some x) = cond (x.port == k) 1 0
 
--- for all waits that give their packets to one port, and for this one, places are reserved there, and perhaps more; none gives its packet
--- to a koid that is no port
+-- at each port just as many places are reserved as waits give their packets to it, with this one; none gives its packet to what is no port
 abbrev pub HavePlacesWith : Option Watch → Map Object → Type 0
-HavePlacesWith x m = (k : ℕ) → waits_at m k + one_for k x ≤ reserved_in (get m k)
+HavePlacesWith x m = (k : ℕ) → waits_at m k + one_for k x ≡ reserved_in (get m k)
 
--- for all waits that give their packets to one port places are reserved there, and perhaps more
+-- at each port just as many places are reserved as waits give their packets to it, and none gives its packet to what is no port
 abbrev pub HavePlaces : Map Object → Type 0
 HavePlaces m = HavePlacesWith None m
 

@@ -7,7 +7,7 @@ ghost use Rattle.zl_objects.specs.Jobs.{killing};
 ghost use Rattle.zl_objects.specs.Release.{all_koids, Ends, Releases};
 ghost use Rattle.zl_objects.specs.Seen.{LeavesLargest};
 ghost use Rattle.zl_objects.specs.Listed.{LeavesListed};
-ghost use Rattle.zl_objects.specs.Waits.{waits_in, LeavesWaits};
+ghost use Rattle.zl_objects.specs.Waits.{waits_in, HavePlaces, LeavesWaits};
 
 use crate::killing::kill_all;
 use crate::listing::keep_there;
@@ -304,14 +304,15 @@ impl Objects {
     /// there. It takes no memory.
     ///
     /// The largest held set is left where something kept each object before: right after `new`
-    /// nothing keeps the root job. The places of waits that end are given back at their ports, but
-    /// how many stay reserved there no clause says, here and below.
+    /// nothing keeps the root job. The places of waits that end are given back at their ports: at each
+    /// just as many stay reserved as waits are left that give their packets to it.
     ///
     /// Source: the page "zx_handle_close" of the Fuchsia documentation.
     pub fn release(&mut self, koid: Koid)
         ensures releases { Releases (koid ∷ []) [] self.old self.new }
         ensures largest { LeavesLargest (koid ∷ []) [] self.old self.new }
         ensures waits { LeavesWaits self.old self.new }
+        ensures places { HavePlaces self.new.objects }
         ensures listed { LeavesListed self.old self.new }
     {
         let_go(&mut self.by_koid, &mut self.dying, koid);
@@ -325,6 +326,7 @@ impl Objects {
         ensures releases { Releases [] (koid ∷ []) self.old self.new }
         ensures largest { LeavesLargest [] (koid ∷ []) self.old self.new }
         ensures waits { LeavesWaits self.old self.new }
+        ensures places { HavePlaces self.new.objects }
         ensures listed { LeavesListed self.old self.new }
     {
         remove_unkept(&mut self.by_koid, &mut self.dying, koid);
@@ -337,6 +339,7 @@ impl Objects {
         ensures ends { Ends pid self.old self.new }
         ensures waits { IfSome (job_in (get self.old.objects pid))
             (λ job. LeavesWaits (stopping self.old pid) self.new) }
+        ensures places { HavePlaces self.new.objects }
         ensures listed { LeavesListed self.old self.new }
     {
         if let Some(job) = job_of(&self.by_koid, pid) {
@@ -359,6 +362,7 @@ impl Objects {
         ensures largest { LeavesLargest [] (all_koids self.old.objects)
             (killing self.old task) self.new }
         ensures waits { LeavesWaits (killing self.old task) self.new }
+        ensures places { HavePlaces self.new.objects }
         ensures listed { LeavesListed self.old self.new }
     {
         self.mark_killed(task);

@@ -3,7 +3,7 @@
 //! An object that may have to go is noted in `dying`, which has room for each object. It stays with
 //! its queue until it is looked at again.
 
-ghost use Rattle.std.specs.Prelude.{◌≡◌, ◌≤◌, ◌<◌, ◌+◌, ◌++◌, ◌∷◌, [], length, nat_lt, ℕ, vec_capacity, IsTrue};
+ghost use Rattle.std.specs.Prelude.{◌≡◌, ◌≤◌, ◌<◌, ◌+◌, ◌++◌, ◌∷◌, [], if◌then◌else◌, is_some, length, nat_lt, ℕ, vec_capacity, IsTrue};
 ghost use Rattle.std.specs.Option.{option_to_list};
 ghost use Rattle.zl_rights.specs.Map.{each, get, has_key, update};
 ghost use Rattle.zl_objects.specs.Objects.{has_living_child, held_once_less, is_kept, keeper_in};
@@ -105,6 +105,8 @@ fn is_unkept(by_koid: &BTreeMap<Koid, Object>, koid: Koid) -> bool
 fn take_unkept(by_koid: &mut BTreeMap<Koid, Object>, koid: Koid) -> Option<Object>
     ensures taken { result ≡ unkept_at by_koid.old.entries koid }
     ensures left { by_koid.new.entries ≡ left_at by_koid.old.entries koid }
+    ensures count { length by_koid.new.entries + (if is_some result then 1 else 0)
+        ≡ length by_koid.old.entries }
 {
     if is_unkept(by_koid, koid) {
         by_koid.remove(&koid)

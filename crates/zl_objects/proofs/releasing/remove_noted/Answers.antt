@@ -1,11 +1,11 @@
-use Rattle.zl_rights.proofs.Common.{arith, ◌≡◌, ◌++◌, [], ℕ, Option, ap, sym, subst, ◌∙◌, without, None}
+use Rattle.zl_rights.proofs.Common.{arith, ◌≡◌, ◌+◌, ◌++◌, [], length, ℕ, Option, ap, sym, subst, ◌∙◌, without, None}
 use Rattle.std.specs.Option.{option_to_list}
 use Rattle.std.specs.Vec.{vec_capacity}
 use Rattle.zl_objects.specs.Objects.{keeper_in, keeper_of, queue_of}
 use Rattle.zl_objects.specs.Release.{named_in}
 use Rattle.zl_objects.specs.Dying.{unkept_at, LetsGo}
 use Rattle.zl_objects.specs.Waits.{ending_waits}
-use Rattle.zl_objects.proofs.Budget.{IsTaken, fewer_ending, kept_went, less_ending, less_noted, none_left_at, none_taken, none_went, no_queue, room_noted, taken, unkept_went}
+use Rattle.zl_objects.proofs.Budget.{IsTaken, fewer_ending, kept_went, less_ending, less_noted, none_left_at, none_taken, none_went, no_queue, one_taken, room_noted, taken, unkept_went}
 use Rattle.zl_objects.proofs.Ending.{ended_by}
 use Rattle.zl_objects.proofs.Released.{cascaded_shorter, cascades_of}
 use Rattle.zl_objects.proofs.releasing.remove_noted.Goals as goal
@@ -36,7 +36,10 @@ returns-in-ChannelEnd-clause-goes c =
     let ended : c.end_waits.new.by_koid.entries ≡ ending_waits c.args.koid c.in-Some.gone (without c.args.by_koid.now.entries c.args.koid) = c.end_waits.ensures ∙ ended_by c.args.by_koid.now.entries c.take_unkept.new.by_koid.entries c.args.koid c.in-Some.gone c.has_reserved-reserved.result was.there (c.take_unkept.ensures.left ∙ was.left) c.has_reserved-reserved.ensures in
     let noted : c.note_keeper.new.dying.items ≡ c.args.dying.now.items ++ option_to_list (keeper_of c.in-Some.gone.body) = c.note_keeper.ensures.noted ∙ ap (λ (q : Option ℕ). c.args.dying.now.items ++ option_to_list q) (c.keeper_at-keeper.ensures ∙ ap keeper_in was.there) in
     let went : LetsGo (named_in c.in-ChannelEnd.queue) (ending_waits c.args.koid c.in-Some.gone (without c.args.by_koid.now.entries c.args.koid)) (c.args.dying.now.items ++ option_to_list (keeper_of c.in-Some.gone.body)) c.let_go_queue.new.by_koid.entries c.let_go_queue.new.dying.items = rw (ended, noted) at c.let_go_queue.ensures.goes in
-    unkept_went c.args.by_koid.now.entries c.args.dying.now.items c.args.koid c.in-Some.gone c.let_go_queue.new.by_koid.entries c.let_go_queue.new.dying.items was.there was.unkept (subst (λ queue. LetsGo (named_in queue) (ending_waits c.args.koid c.in-Some.gone (without c.args.by_koid.now.entries c.args.koid)) (c.args.dying.now.items ++ option_to_list (keeper_of c.in-Some.gone.body)) c.let_go_queue.new.by_koid.entries c.let_go_queue.new.dying.items) (sym (ap queue_of c.in-ChannelEnd.is)) went)
+    let once : length (without c.args.by_koid.now.entries c.args.koid) + 1 ≡ length c.args.by_koid.now.entries =
+    one_taken c.args.by_koid.now.entries c.args.koid c.take_unkept.new.by_koid.entries c.take_unkept.result c.in-Some.gone
+    c.take_unkept.ensures.left was c.in-Some.is c.take_unkept.ensures.count in
+    unkept_went c.args.by_koid.now.entries c.args.dying.now.items c.args.koid c.in-Some.gone c.let_go_queue.new.by_koid.entries c.let_go_queue.new.dying.items was.there was.unkept once (subst (λ queue. LetsGo (named_in queue) (ending_waits c.args.koid c.in-Some.gone (without c.args.by_koid.now.entries c.args.koid)) (c.args.dying.now.items ++ option_to_list (keeper_of c.in-Some.gone.body)) c.let_go_queue.new.by_koid.entries c.let_go_queue.new.dying.items) (sym (ap queue_of c.in-ChannelEnd.is)) went)
 
 pub returns-in-ChannelEnd-clause-less : goal.returns-in-ChannelEnd-clause-less
 returns-in-ChannelEnd-clause-less c =
@@ -57,9 +60,12 @@ returns c =
     let was : IsTaken c.args.by_koid.now.entries c.args.koid c.in-Some.gone = taken c.args.by_koid.now.entries c.args.koid c.in-Some.gone (sym c.take_unkept.ensures.taken ∙ c.in-Some.is) in
     let ended : c.end_waits.new.by_koid.entries ≡ ending_waits c.args.koid c.in-Some.gone (without c.args.by_koid.now.entries c.args.koid) = c.end_waits.ensures ∙ ended_by c.args.by_koid.now.entries c.take_unkept.new.by_koid.entries c.args.koid c.in-Some.gone c.has_reserved-reserved.result was.there (c.take_unkept.ensures.left ∙ was.left) c.has_reserved-reserved.ensures in
     let noted : c.note_keeper.new.dying.items ≡ c.args.dying.now.items ++ option_to_list (keeper_of c.in-Some.gone.body) = c.note_keeper.ensures.noted ∙ ap (λ (q : Option ℕ). c.args.dying.now.items ++ option_to_list q) (c.keeper_at-keeper.ensures ∙ ap keeper_in was.there) in
+    let once : length (without c.args.by_koid.now.entries c.args.koid) + 1 ≡ length c.args.by_koid.now.entries =
+    one_taken c.args.by_koid.now.entries c.args.koid c.take_unkept.new.by_koid.entries c.take_unkept.result c.in-Some.gone
+    c.take_unkept.ensures.left was c.in-Some.is c.take_unkept.ensures.count in
     let empty : queue_of c.in-Some.gone.body ≡ [] = no_queue c.in-Some.gone.body c.in_default-body.not-ChannelEnd in
     rw (ended, noted) (record {
-      goes = unkept_went c.args.by_koid.now.entries c.args.dying.now.items c.args.koid c.in-Some.gone (ending_waits c.args.koid c.in-Some.gone (without c.args.by_koid.now.entries c.args.koid)) (c.args.dying.now.items ++ option_to_list (keeper_of c.in-Some.gone.body)) was.there was.unkept (rw empty (none_went (ending_waits c.args.koid c.in-Some.gone (without c.args.by_koid.now.entries c.args.koid)) (c.args.dying.now.items ++ option_to_list (keeper_of c.in-Some.gone.body))));
+      goes = unkept_went c.args.by_koid.now.entries c.args.dying.now.items c.args.koid c.in-Some.gone (ending_waits c.args.koid c.in-Some.gone (without c.args.by_koid.now.entries c.args.koid)) (c.args.dying.now.items ++ option_to_list (keeper_of c.in-Some.gone.body)) was.there was.unkept once (rw empty (none_went (ending_waits c.args.koid c.in-Some.gone (without c.args.by_koid.now.entries c.args.koid)) (c.args.dying.now.items ++ option_to_list (keeper_of c.in-Some.gone.body))));
       less = omega (arith, less_ending c.args.by_koid.now.entries c.args.dying.now.items c.args.koid c.in-Some.gone, fewer_ending c.args.by_koid.now.entries c.args.dying.now.items c.args.koid c.in-Some.gone was.there);
       capacity = c.note_keeper.ensures.capacity;
     })

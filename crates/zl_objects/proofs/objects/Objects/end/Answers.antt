@@ -37,6 +37,12 @@ returns-in-Some-clause-waits c =
     rw job (subst (λ (r : Objects). LeavesWaits r (record { objects = c.remove_unkept-in-Some.new.by_koid.entries; next_koid = c.self-in-Some.inside.next_koid; waits = map wait_value c.keep_there.new.waits.items; waits_made = c.self-in-Some.inside.waits_made })) (c.self-in-Some.view_is ∙ c.stop.ensures) (waits_left [] c.self-in-Some.inside.by_koid.entries c.remove_unkept-in-Some.new.by_koid.entries released.cascades
     (all_places c.self-in-Some.inside.by_koid.entries c.remove_unkept.new.by_koid.entries c.remove_unkept-in-Some.new.by_koid.entries c.args.pid c.in-Some.job c.remove_unkept.ensures.goes c.remove_unkept-in-Some.ensures.goes c.self-in-Some.invariant.whole.places) (all_thin c.self-in-Some.inside.by_koid.entries c.remove_unkept.new.by_koid.entries c.remove_unkept-in-Some.new.by_koid.entries c.args.pid c.in-Some.job c.remove_unkept.ensures.goes c.remove_unkept-in-Some.ensures.goes)))
 
+pub returns-in-Some-clause-places : goal.returns-in-Some-clause-places
+returns-in-Some-clause-places c = (invariant_of-self c).whole.places
+
+pub returns-in_default-clause-places : goal.returns-in_default-clause-places
+returns-in_default-clause-places c = rw (← c.self.view_is) c.self.invariant.whole.places
+
 pub returns-in_default-clause-waits : goal.returns-in_default-clause-waits
 returns-in_default-clause-waits c = rw (← c.self.view_is, sym c.job_of.ensures ∙ c.in_default.is) tt
 

@@ -33,3 +33,6 @@ returns-clause-waits c =
     let same : (record { objects = c.self.inside.by_koid.entries; next_koid = c.self.inside.next_koid; waits = map wait_value c.self.inside.waits.items; waits_made = c.self.inside.waits_made }) ≡ killing c.args.self.now c.args.task = c.self.view_is ∙ c.mark_killed.ensures in
     subst (λ (m : Map Object). (k : ℕ) (o : Object) → get c.sweep.new.by_koid.entries k ≡ Some o → KeepsWaits m c.sweep.new.by_koid.entries k o) (ap (λ (r : Objects). r.objects) same)
     (waits_left [] c.self.inside.by_koid.entries c.sweep.new.by_koid.entries (cascades_of [] c.self.inside.by_koid.entries c.sweep.new.by_koid.entries (all_koids c.self.inside.by_koid.entries) [] c.sweep.ensures.goes) (c.sweep.ensures.goes.places c.self.invariant.whole.places) c.sweep.ensures.goes.thins)
+
+pub returns-clause-places : goal.returns-clause-places
+returns-clause-places c = (invariant_of-self c).whole.places

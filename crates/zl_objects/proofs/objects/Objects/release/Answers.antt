@@ -31,3 +31,6 @@ pub returns-clause-waits : goal.returns-clause-waits
 returns-clause-waits c =
     let went : LetsGo (c.args.koid ∷ []) c.self.inside.by_koid.entries c.self.inside.dying.items c.remove_dying.new.by_koid.entries c.remove_dying.new.dying.items = both_went (c.args.koid ∷ []) [] _ _ _ _ _ _ c.let_go.ensures.goes c.remove_dying.ensures.goes in
     rw (← c.self.view_is) (waits_left (c.args.koid ∷ []) c.self.inside.by_koid.entries c.remove_dying.new.by_koid.entries (cascades_of (c.args.koid ∷ []) c.self.inside.by_koid.entries c.remove_dying.new.by_koid.entries c.self.inside.dying.items c.remove_dying.new.dying.items went) (went.places c.self.invariant.whole.places) went.thins)
+
+pub returns-clause-places : goal.returns-clause-places
+returns-clause-places c = (invariant_of-self c).whole.places

@@ -23,3 +23,6 @@ returns-clause-largest c = leaves_largest [] (c.args.koid ∷ []) c.args.self.no
 pub returns-clause-waits : goal.returns-clause-waits
 returns-clause-waits c =
     rw (← c.self.view_is) (waits_left [] c.self.inside.by_koid.entries c.remove_unkept.new.by_koid.entries (cascades_of [] c.self.inside.by_koid.entries c.remove_unkept.new.by_koid.entries (c.args.koid ∷ []) [] c.remove_unkept.ensures.goes) (c.remove_unkept.ensures.goes.places c.self.invariant.whole.places) c.remove_unkept.ensures.goes.thins)
+
+pub returns-clause-places : goal.returns-clause-places
+returns-clause-places c = (invariant_of-self c).whole.places

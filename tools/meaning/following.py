@@ -1,0 +1,102 @@
+"""Goes along with a trace: each item with what it was about, as long as the model has the same items."""
+from dataclasses import dataclass, field
+
+from meaning.calls import Done, perform
+from meaning.cpu import Stuck
+from meaning.numbers import STUCK
+from meaning.trouble import Trouble
+
+
+@dataclass
+class Followed:
+    """An item with the instruction at which its process stood, what it was about, and what came of it."""
+
+    item: object
+    place: int
+    text: str
+    done: Done = field(default_factory=lambda: Done(""))
+
+
+class Follower:
+    """A world that does what a trace says."""
+
+    def __init__(self, world):
+        self.world = world
+
+    def follow(self, item):
+        """The item's meaning, or Trouble where the model parts from it."""
+        process = self.world.processes.get(item.pid)
+        if process is None or process.state != "ready":
+            what = "there is none" if process is None else f"it is {process.state_text()}"
+            raise Trouble(f"{parting(item)}; here its process isn't ready: {what}")
+        self.world.place, self.world.actor = item.line, item.pid
+        place = process.cpu.place
+        try:
+            one = process.cpu.next()
+        except Stuck as stuck:
+            return Followed(item, place, self.text(process, place), self.stuck(process, item, stuck))
+        followed = Followed(item, place, self.text(process, place))
+        if one.is_call:
+            followed.done = self.call(process, one, item)
+        else:
+            followed.done = self.run(process, item)
+        return followed
+
+    def text(self, process, place):
+        """The line of the instruction at which the process stands."""
+        texts = self.world.programs[process.program].texts
+        return texts[place] if place < len(texts) else "no instruction"
+
+    def stuck(self, process, item, stuck):
+        if item.name != "stuck":
+            raise Trouble(f"{parting(item)}; here it is stuck: {stuck}")
+        self.world.end(process, STUCK)
+        return Done("stuck", about=[str(stuck)], came=self.world.settle())
+
+    def call(self, process, one, item):
+        if item.name != one.name:
+            raise Trouble(f"{parting(item)}; here {item.pid} stands at {one.name}")
+        wanted_memory = item.outcome == "NO_MEMORY"
+        done = perform(self.world, process, one, wanted_memory)
+        if done.outcome != item.outcome:
+            raise Trouble(f"{parting(item)}; here it is {item.pid} {one.name} {done.outcome}")
+        return done
+
+    def run(self, process, item):
+        """Local instructions in a row; of several the last one is told."""
+        told = ""
+        for n in range(item.count or 1):
+            try:
+                one = process.cpu.next()
+                if one.is_call or item.name not in ("run", "stuck"):
+                    raise Trouble(f"{parting(item)}; here {item.pid} stands at {one.name}")
+                told = process.cpu.local(one)
+            except Stuck as stuck:
+                if item.name == "stuck":
+                    return self.stuck(process, item, stuck)
+                which = f"instruction {n + 1} of these" if item.count > 1 else "it"
+                raise Trouble(f"{parting(item)}; here {which} is stuck: {stuck}") from stuck
+        if item.name == "stuck":
+            raise Trouble(f"{parting(item)}; here it isn't stuck: {told}")
+        several = [f"{item.count} instructions up to {process.cpu.place}"] if item.count > 1 else []
+        return Done("run", about=several + [told])
+
+    def compare_end(self, rest):
+        """The lines behind the items say of each process what the model has."""
+        told = {}
+        for place, line in rest:
+            words = line.split()
+            if words[0] == "process":
+                told[int(words[1]) if words[1:] and words[1].isdigit() else words[-1]] = (place, " ".join(words[2:]))
+        for pid, (place, text) in told.items():
+            process = self.world.processes.get(pid)
+            here = process.state_text() if process else "no process"
+            if here != text:
+                raise Trouble(f"line {place} of the trace is process {pid} {text}; here it is {here}")
+        missing = sorted(set(self.world.processes) - set(told))
+        if told and missing:
+            raise Trouble(f"the trace says nothing of process {missing[0]} at its end")
+
+
+def parting(item):
+    return f"this model parts from line {item.line} of the trace: {item.text}"

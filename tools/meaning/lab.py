@@ -1,0 +1,77 @@
+"""The lab itself: which program there is, and its answers."""
+import os
+import subprocess
+import sys
+import threading
+from pathlib import Path
+
+from meaning.trouble import Answered, Trouble
+
+TOP = Path(__file__).resolve().parent.parent.parent
+PROVED = TOP / "crates/zlab/out/zlab"
+# What ./run says at each start of a build that isn't proved; these programs aren't proved either.
+UNPROVED = b"run: an unproved quick build answers"
+
+
+def add_option(parser):
+    """The word for the program."""
+    parser.add_argument("--zlab", metavar="PROGRAM", help="the lab's program: the proved one if there is one, else ./run")
+
+
+class Lab:
+    """The lab's program."""
+
+    def __init__(self, program=None):
+        self.program = program or str(PROVED if os.access(PROVED, os.X_OK) else TOP / "run")
+
+    def answer(self, words, given, is_told=True):
+        """What it writes to the words and to this standard input, and its status. What it says on
+        standard error is passed on, if it is to be told."""
+        reading, writing = os.pipe()
+        teller = threading.Thread(target=pass_on, args=(reading, is_told), daemon=True)
+        teller.start()
+        try:
+            process = subprocess.Popen([self.program, *words], stdin=subprocess.PIPE,
+                                       stdout=subprocess.PIPE, stderr=writing)
+        except OSError as error:
+            raise Trouble(f"can't start {self.program}: {error.strerror}") from error
+        finally:
+            os.close(writing)
+        try:
+            output, _ = process.communicate(given)
+        except BaseException:
+            stop(process)
+            raise
+        teller.join(2)
+        if process.returncode < 0:
+            raise Trouble(f"{self.program} was ended by signal {-process.returncode}")
+        return process.returncode, output
+
+    def must(self, words, given):
+        """What it writes, where its status is 0; else its answer is passed on, and that is all."""
+        status, output = self.answer(words, given)
+        if status:
+            sys.stdout.buffer.write(output)
+            sys.stdout.flush()
+            raise Answered(status)
+        return output
+
+
+def stop(process):
+    """Ends the program and waits for its end, so that it clears up what it made."""
+    for stream in (process.stdin, process.stdout):
+        try:
+            stream.close()
+        except OSError:
+            pass
+    process.terminate()
+    process.wait()
+
+
+def pass_on(reading, is_told):
+    """Passes standard error on, line by line."""
+    with open(reading, "rb") as lines:
+        for line in lines:
+            if is_told and not line.startswith(UNPROVED):
+                sys.stderr.write(line.decode("ascii", "replace"))
+                sys.stderr.flush()

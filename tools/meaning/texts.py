@@ -1,0 +1,112 @@
+"""Texts of programs: their lines, and the image of one that the lab accepts.
+
+A text with a fault is the lab's to refuse; here it is no more than a TextFault with its line.
+"""
+import re
+
+from meaning.image import Image, Instruction
+from meaning.instructions import BY_NAME
+from meaning.numbers import KINDS, NEEDS
+
+
+class TextFault(Exception):
+    """A line that isn't understood."""
+
+    def __init__(self, line):
+        super().__init__(line)
+        self.line = line
+
+
+def bare(line):
+    """The line without its comment and the spaces at its ends."""
+    return line.split(";", 1)[0].strip(" ")
+
+
+def is_instruction(line):
+    """Whether an instruction stands in the line."""
+    text = bare(line)
+    if not text or text.endswith(":"):
+        return False
+    return not text.startswith(".") or text.startswith(".bytes")
+
+
+def words_of(line):
+    """Name and operands of a line."""
+    return [word for word in re.split(r"[ ,]+", bare(line)) if word]
+
+
+def number(word):
+    if re.fullmatch(r"[0-9]+", word):
+        return int(word)
+    if re.fullmatch(r"0x[0-9a-fA-F]+", word):
+        return int(word, 16)
+    raise ValueError(word)
+
+
+def register(word):
+    if not re.fullmatch(r"r(?:[12]?[0-9]|3[01])", word):
+        raise ValueError(word)
+    return int(word[1:])
+
+
+def instruction(words, labels):
+    """The instruction of a line's words."""
+    if words[0] == ".bytes":
+        return Instruction(None, bytes.fromhex(words[1]))
+    row = BY_NAME[words[0]]
+    used = len(row.fields)
+    registers = tuple(register(word) for word in words[1:1 + used])
+    rest = words[1 + used:]
+    if row.ending == "l":
+        return Instruction(row, b"", registers, handles=tuple(register(word) for word in rest))
+    value = number(rest.pop(0)) if row.has_number else 0
+    target = 0
+    if row.is_jump:
+        word = rest.pop(0)
+        target = labels[word] if word in labels else number(word)
+    if rest or len(registers) < used:
+        raise ValueError(words[0])
+    return Instruction(row, b"", registers, value, target)
+
+
+def kind_of(word):
+    return None if word == "any" else word if word in KINDS else KINDS[word]
+
+
+def assemble(lines):
+    """The image of pairs of a number and a line, and the numbers of its instructions' lines."""
+    single, needs, starts, slots = {}, set(), [], []
+    labels, code, places = {}, [], []
+    for place, line in lines:
+        words = words_of(line)
+        try:
+            if not words:
+                continue
+            if bare(line).endswith(":"):
+                labels[words[0][:-1]] = len(code)
+            elif words[0] in (".raw", ".memory", ".budget"):
+                single[words[0]] = number(words[1]) if words[1:] else True
+            elif words[0] == ".need":
+                needs.add(words[1])
+            elif words[0] == ".start":
+                starts.append((kind_of(words[1]), number(words[2])))
+            elif words[0] == ".slots":
+                slots.append((kind_of(words[1]), number(words[2]), number(words[3])))
+            else:
+                code.append(words)
+                places.append(place)
+        except (ValueError, KeyError, IndexError) as error:
+            raise TextFault(place) from error
+    return Image(
+        raw=".raw" in single, memory=single.get(".memory", 0), budget=single.get(".budget", 1),
+        needs=tuple(need for need in NEEDS if need in needs), starts=tuple(starts), slots=tuple(slots),
+        code=tuple(with_line(words, labels, place) for words, place in zip(code, places)),
+    ), places
+
+
+def with_line(words, labels, place):
+    """The instruction, or a TextFault with its line."""
+    try:
+        return instruction(words, labels)
+    except (ValueError, KeyError, IndexError) as error:
+        raise TextFault(place) from error

@@ -1,0 +1,61 @@
+"""Traces: their items, what is said of processes, and the end."""
+import re
+from dataclasses import dataclass
+
+from meaning.instructions import BY_NAME
+from meaning.numbers import STATUSES
+from meaning.trouble import Trouble
+
+MOST_BYTES = 134217728
+MOST_ITEMS = 1000000
+NUMBER = r"(?:0|[1-9][0-9]*)"
+RUN = re.compile(rf"({NUMBER}) +run +([1-9][0-9]*)")
+STUCK = re.compile(rf"({NUMBER}) +stuck")
+CALL = re.compile(rf"({NUMBER}) +([a-z_]+) +([A-Z_]+|blocked|ended +(?:0|-?[1-9][0-9]*))")
+
+
+@dataclass(frozen=True)
+class Item:
+    """One item: what a process did. `outcome` is the name of a status, `blocked`, or `ended CODE`."""
+
+    line: int
+    pid: int
+    name: str
+    count: int = 0
+    outcome: str = ""
+
+    @property
+    def text(self):
+        return " ".join(str(part) for part in (self.pid, self.name, self.count, self.outcome) if part)
+
+
+def item_in(line, place):
+    """The item of a line."""
+    text = line.strip(" ")
+    if found := RUN.fullmatch(text):
+        return Item(place, int(found[1]), "run", int(found[2]))
+    if found := STUCK.fullmatch(text):
+        return Item(place, int(found[1]), "stuck")
+    found = CALL.fullmatch(text)
+    if found and found[2] in BY_NAME and BY_NAME[found[2]].is_call:
+        outcome = " ".join(found[3].split())
+        if outcome[0].islower() or outcome in STATUSES:
+            return Item(place, int(found[1]), found[2], outcome=outcome)
+    shown = text if len(text) <= 60 else text[:60] + " .."
+    raise Trouble(f"line {place} of the trace isn't an item's: {shown!r}")
+
+
+def read_trace(text):
+    """The items, and the lines behind them with their numbers."""
+    items, rest = [], []
+    for place, line in enumerate(text.split("\n"), 1):
+        words = line.split()
+        if not words or line.startswith("#"):
+            continue
+        if rest or words[0] in ("process", "end"):
+            rest.append((place, " ".join(words)))
+        else:
+            items.append(item_in(line, place))
+            if len(items) > MOST_ITEMS:
+                raise Trouble(f"line {place} of the trace is behind {MOST_ITEMS:,} items, the most that there are")
+    return items, rest

@@ -1,7 +1,7 @@
 """A chart as SVG: time goes down, each process has a line, and what was sent goes aslant to who took it."""
 from html import escape
 
-LEFT, TOP, GAP, HIGH = 70, 70, 250, 30
+LEFT, TOP, GAP, HIGH = 70, 70, 300, 30
 LETTER = 6.3
 MOST_LETTERS = 66
 STYLE = """
@@ -44,19 +44,28 @@ def box(kind, x, y, text):
             f'<text x="{x + 12}" y="{y + 3}">{shown(text)}</text></g>')
 
 
-def arrow(chart, mark, row):
+def is_aslant(mark):
+    """Whether it was sent in another row than that in which it was taken."""
+    return mark.kind == "arrow" and mark.since is not None
+
+
+def path(chart, mark, row):
     """An arrow, from the row in which it was sent to that in which it was taken."""
-    begin, end = x_of(chart, mark.pid), x_of(chart, mark.to)
-    y = y_of(row)
-    since = y if mark.since is None or mark.kind == "wakes" else y_of(mark.since)
+    begin, end, y = x_of(chart, mark.pid), x_of(chart, mark.to), y_of(row)
+    since = y_of(mark.since) if is_aslant(mark) else y - 8 if begin == end else y
     kind = "wakes" if mark.kind == "wakes" else "arrow"
     if begin == end:
-        path = f"M{begin},{since} C{begin + 45},{since} {begin + 45},{y} {begin + 4},{y}"
-        return f'<path class="{kind}" d="{path}"/>' + box("sent", begin + 30, y, mark.text)
+        return f'<path class="{kind}" d="M{begin},{since} C{begin - 40},{since} {begin - 40},{y} {begin - 4},{y}"/>'
     side = 4 if begin < end else -4
-    middle = (begin + end) / 2
-    return (f'<path class="{kind}" d="M{begin},{since} L{end - side},{y}"/>'
-            f'<text class="on" x="{middle:.0f}" y="{(since + y) / 2 - 5:.0f}"><title>{escape(mark.text)}</title>'
+    return f'<path class="{kind}" d="M{begin},{since} L{end - side},{y}"/>'
+
+
+def label(chart, mark, row):
+    """What goes along an arrow: beside its end, or above it where it is level."""
+    begin, end, y = x_of(chart, mark.pid), x_of(chart, mark.to), y_of(row)
+    if is_aslant(mark) or begin == end:
+        return box("taken", end, y, ("gets " if mark.kind == "arrow" else "") + mark.text)
+    return (f'<text class="on" x="{(begin + end) / 2:.0f}" y="{y - 5}"><title>{escape(mark.text)}</title>'
             f'{shown(mark.text)}</text>')
 
 
@@ -89,7 +98,7 @@ def marked(chart, row, mark):
     """What stands in a row."""
     line = f'<text class="line" x="{LEFT - 25}" y="{y_of(row) + 3}">{mark.line or ""}</text>'
     if mark.kind in ("arrow", "wakes"):
-        return line + arrow(chart, mark, row)
+        return line + label(chart, mark, row)
     x = x_of(chart, mark.pid) if mark.pid else LEFT
     dot = f'<circle class="dot" cx="{x}" cy="{y_of(row)}" r="3.5"/>' if mark.kind == "sent" else ""
     taken = " (taken by nobody)" if mark.kind == "sent" and not mark.is_read else ""
@@ -107,6 +116,7 @@ def drawing(chart):
         f'<rect width="{wide}" height="{high}" fill="#fff"/>',
         f'<text class="title" x="{LEFT - 40}" y="28">{escape(chart.title)}</text>',
         *lives(chart), *waits(chart),
+        *(path(chart, mark, row) for row, mark in enumerate(chart.rows) if mark.kind in ("arrow", "wakes")),
         *(marked(chart, row, mark) for row, mark in enumerate(chart.rows)),
         "</svg>",
     ]

@@ -1,0 +1,108 @@
+"""The text of a program with what is known of it in comments."""
+from meaning.texts import bare, is_instruction
+from meaning.values import state_text
+from meaning.ways import counted_way, shortest_way, ways_to
+
+MOST_SHOWN = 40
+
+
+def annotated(lines, places, found, verdict, is_all):
+    """All lines: the program's own, what is known before each instruction, and behind them the answer."""
+    at = 0
+    for place, line in lines:
+        if is_instruction(line):
+            yield "; " + known_at(found, at, is_all)
+            for refusal in found.refusals:
+                if refusal.at == at:
+                    yield f"; here it is {refusal}{at_fault(refusal)}"
+            at += 1
+        yield line
+    texts = {number: (place, bare(line)) for number, (place, line) in
+             enumerate((place, line) for place, line in lines if is_instruction(line))}
+    yield from ended(texts, found, verdict)
+
+
+def at_fault(refusal):
+    """The register at fault, and what it has."""
+    if refusal.register is None or not refusal.state:
+        return ""
+    has = f": r{refusal.register} has {refusal.state[refusal.register]}"
+    if refusal.other:
+        return f"{has} after one way, and {refusal.other[refusal.register]} after the other"
+    return has
+
+
+def known_at(found, at, is_all):
+    """What is known before an instruction."""
+    state = found.states.get(at)
+    if state is None:
+        return f"{at} isn't reached" + (", but perhaps behind what is refused" if found.refusals else "")
+    before = found.states.get(at - 1)
+    goes_on = at - 1 in found.leads and at in found.leads[at - 1] and not is_target(found.image, at)
+    steps = found.steps.get(at)
+    count = "without end" if steps is None else str(steps)
+    if before is not None and goes_on and not is_all:
+        return f"{at} [{count}] {state_text(state, before) or 'as before'}"
+    told = state_text(state)
+    return f"{at} [{count}] {told + ', ' if told else ''}the others 0"
+
+
+def is_target(image, at):
+    return any(one.row and one.row.is_jump and one.target == at for one in image.code)
+
+
+def ended(texts, found, verdict):
+    """The answer, and the way to it."""
+    for refusal in found.refusals[1:]:
+        yield f"; also, without what is refused above: {refusal}"
+    if found.verdict != verdict:
+        yield f"; the lab names another: {verdict}"
+    yield f"; {found.verdict}"
+    if not found.refusals:
+        yield from counted(texts, found, max(found.leads, key=lambda at: (found.steps.get(at, 0), -at)))
+    elif found.refusals[0].cause == "Budget":
+        yield from counted(texts, found, found.refusals[0].at)
+    elif found.image.code:
+        yield from led(texts, found, found.refusals[0])
+
+
+def counted(texts, found, first):
+    """The way that a budget counts."""
+    places, again = counted_way(found, first)
+    budget = found.image.budget
+    if again is not None:
+        yield f"; no budget will do: without a wait or an exit it goes round, and {again} comes again"
+    elif len(places) > budget:
+        yield f"; the budget is {budget}, and this way has {len(places)} instructions without a wait or an exit"
+    else:
+        yield f"; the budget is {budget}, and {max(len(places), 1)} would do: the longest way has {len(places)}"
+    yield from way(texts, places)
+
+
+def led(texts, found, refusal):
+    """The way to where a program is refused."""
+    ways = ways_to(found.image, refusal)
+    if len(ways) == 1:
+        yield "; a way there:"
+    elif ways:
+        yield f"; two ways that can't meet at {refusal.at}:"
+    else:
+        ways = [shortest_way(found, refusal.at)]
+        yield f"; no single way is refused, but what several ways leave in common; one to {refusal.at}:"
+    for number, places in enumerate(ways):
+        if number:
+            yield "; and"
+        yield from way(texts, places)
+
+
+def way(texts, places):
+    """Instructions in the order in which they follow one another."""
+    for number, at in enumerate(places):
+        if MOST_SHOWN // 2 <= number < len(places) - MOST_SHOWN // 2:
+            if number == MOST_SHOWN // 2:
+                yield f";   .. {len(places) - MOST_SHOWN} more .."
+            continue
+        line, text = texts[at]
+        follows = places[number + 1] if number + 1 < len(places) else None
+        jumps = " -- jumps" if follows is not None and follows != at + 1 else ""
+        yield f";   {at:4} line {line:4}  {text}{jumps}"

@@ -1,0 +1,238 @@
+"""Names in scenarios and texts to their numbers. Lines keep their places, and what has no name is as it was."""
+import difflib
+import re
+
+from meaning.instructions import BY_NAME
+from meaning.numbers import (
+    ACTIONS, CONDITIONS, KINDS, KNOWN_RIGHTS, MODES, RIGHTS, SAME_RIGHTS, SIGNALS, STATUSES, USER_SIGNALS,
+)
+from meaning.scenario import is_skipped
+from meaning.trouble import Trouble
+
+OWNERS = {"READABLE": "CHANNEL", "WRITABLE": "CHANNEL", "PEER_CLOSED": "CHANNEL", "SIGNALED": "EVENT",
+          "TERMINATED": "TASK", "NO_JOBS": "JOB", "NO_PROCESSES": "JOB"}
+# Each family of names: its numbers, and the front of Zircon's names.
+FAMILIES = {
+    "right": (RIGHTS | {"KNOWN_RIGHTS": KNOWN_RIGHTS, "SAME_RIGHTS": SAME_RIGHTS}, "ZX_RIGHT_"),
+    "signal": (SIGNALS | {"USER_SIGNALS": USER_SIGNALS}, "ZX_"),
+    "kind": (KINDS, "ZX_OBJ_TYPE_"),
+    "condition": (CONDITIONS, "ZX_POL_"),
+    "action": (ACTIONS, "ZX_POL_ACTION_"),
+    "mode": (MODES, "ZX_JOB_POL_"),
+    "status": (STATUSES, "ZX_ERR_"),
+}
+IN_ZIRCON = {"USER_SIGNALS": "ZX_USER_SIGNAL_ALL", "OK": "ZX_OK"}
+NUMBER = re.compile(r"[0-9]+|0x[0-9a-fA-F]+")
+DEFINITION = re.compile(r"( *)(@\S+(?:, *@\S+)*) *= *(\S.*?)( *)")
+LABEL = re.compile(r"@[a-z][a-z0-9_]*")
+OBJECTS = {"job": 1, "event": 1, "port": 1, "channel": 2, "process": 1}
+
+
+def zircon_name(family, name):
+    if name in IN_ZIRCON:
+        return IN_ZIRCON[name]
+    if name.startswith("USER_"):
+        return "ZX_USER_SIGNAL_" + name[5:]
+    front = FAMILIES[family][1]
+    return front + (f"{OWNERS[name]}_" if family == "signal" else "") + name.upper()
+
+
+def all_names():
+    """Each name, ours and Zircon's, to the families that have it, and its number there."""
+    names = {}
+    for family, (numbers, _) in FAMILIES.items():
+        for name, number in numbers.items():
+            names.setdefault(name, {})[family] = number
+            names.setdefault(zircon_name(family, name), {})[family] = number
+    return names
+
+
+NAMES = all_names()
+
+
+class Names:
+    """The names of a file: those that everybody has, and its own, which begin with @."""
+
+    def __init__(self):
+        self.own = {"@root": 1}
+        self.line = 0
+
+    def fail(self, text):
+        raise Trouble(f"line {self.line}: {text}")
+
+    def define(self, name, number):
+        if not LABEL.fullmatch(name):
+            self.fail(f"{name} is no name: @, a small letter, then small letters, digits or _")
+        if name in self.own:
+            self.fail(f"{name} is {self.own[name]} already")
+        self.own[name] = number
+
+    def own_number(self, word):
+        """The number of a name of the file."""
+        if word not in self.own:
+            self.fail(f"nothing is called {word}" + meant(word, self.own))
+        return str(self.own[word])
+
+    def value(self, word, families=tuple(FAMILIES)):
+        """The number of a word where a number may stand; a word without a name stays as it is."""
+        if word.startswith("@"):
+            return self.own_number(word)
+        if NUMBER.fullmatch(word):
+            return word
+        parts = word.split("|")
+        known = [self.families_of(part) for part in parts if not NUMBER.fullmatch(part)]
+        fitting = set(families).intersection(*known)
+        if not fitting:
+            self.refuse(parts, families)
+        if len(fitting) > 1:
+            self.refuse_both(word, sorted(fitting))
+        family = fitting.pop()
+        bits = 0
+        for part in parts:
+            bits |= int(part, 0) if NUMBER.fullmatch(part) else NAMES[part][family]
+        return str(bits)
+
+    def families_of(self, name):
+        if name not in NAMES:
+            self.fail(f"no right, signal, kind, condition or status is called {name or 'nothing'}{meant(name, NAMES)}")
+        return NAMES[name]
+
+    def refuse(self, parts, families):
+        told = ", ".join(f"{part} is a {' or a '.join(NAMES[part])}" for part in parts if part in NAMES)
+        wanted = f", and here stands a {' or a '.join(families)}" if len(families) < len(FAMILIES) else ""
+        self.fail(told + wanted)
+
+    def refuse_both(self, word, families):
+        told = " and ".join(f"a {family} ({NAMES[word][family]})" for family in families if word in NAMES)
+        better = " or ".join(zircon_name(family, word) for family in families if word in NAMES)
+        self.fail(f"{word} is {told}: write {better}")
+
+
+def meant(name, names):
+    near = difflib.get_close_matches(name, names, 1)
+    return f"; did you mean {near[0]}?" if near else ""
+
+
+def replaced(line, find):
+    """The line with other words: `find` has for the words before a comment the new ones by their place."""
+    text, mark, comment = line.partition(";")
+    words = list(re.finditer(r"[^\s,]+", text))
+    changes = find([word[0] for word in words])
+    for place in sorted(changes, reverse=True):
+        text = text[:words[place].start()] + changes[place] + text[words[place].end():]
+    return text + mark + comment
+
+
+def in_text(names, line):
+    """A line of a text with its numbers."""
+    def find(words):
+        if not words or words[0].endswith(":") or words[0] == ".bytes":
+            return {}
+        if any(word.startswith("|") or word.endswith("|") for word in words):
+            names.fail("no space stands beside |")
+        row = BY_NAME.get(words[0])
+        if words[0] in (".start", ".slots"):
+            place, families = len(words) - 1, ("right",)
+        elif row and row.has_number:
+            place, families = 1 + len(row.fields), in_numbers(row.name)
+        else:
+            return {}
+        if not 2 <= place < len(words):
+            return {}
+        return {place: names.value(words[place], families)}
+    return replaced(line, find)
+
+
+def in_numbers(name):
+    """The families of which a number of the instruction may be."""
+    if name in ("dup", "replace"):
+        return ("right",)
+    if name in ("jhas", "jnhas"):
+        return ("right", "signal")
+    return tuple(FAMILIES)
+
+
+def in_statement(names, line):
+    """A line of a scenario, outside of blocks, with its numbers."""
+    body, plain, _ = line.partition("\r")
+    definition = DEFINITION.fullmatch(body)
+    if definition and NUMBER.fullmatch(definition[3]):
+        return f"# {line}"
+    if definition:
+        body = definition[1] + definition[3] + definition[4]
+
+    def find(words):
+        first = 2 if words[:1] == ["policy"] else len(words)
+        return {place: in_word(names, word, words[0], place)
+                for place, word in enumerate(words[:first]) if "@" in word or place}
+    return replaced(body, find) + plain
+
+
+def in_word(names, word, statement, place):
+    """A word of a statement with its number."""
+    if statement == "process" and place > 3 and ":" in word:
+        koid, rights = word.split(":", 1)
+        koid = names.own_number(koid) if koid.startswith("@") else koid
+        return f"{koid}:{rights if rights == '*' or not rights else names.value(rights, ('right',))}"
+    if word.startswith("@"):
+        return names.own_number(word)
+    if statement == "process" and place == 3:
+        return names.value(word)
+    return word
+
+
+def parts_of(lines):
+    """Each line with what it is: `statement`, `text` of a block, or `other`."""
+    inside = None
+    for place, line in enumerate(lines, 1):
+        words = line.split()
+        if is_skipped(line):
+            yield place, line, "other"
+        elif inside and words == ["end"]:
+            inside = None
+            yield place, line, "other"
+        elif inside:
+            yield place, line, "text" if inside == "asm" else "other"
+        else:
+            if "program" in words:
+                inside = words[-1]
+            yield place, line, "statement"
+
+
+def defined(lines):
+    """The names that the lines define."""
+    names, koid, program = Names(), 2, 0
+    for place, line, what in parts_of(lines):
+        names.line = place
+        definition = DEFINITION.fullmatch(line.partition("\r")[0]) if what == "statement" else None
+        words = (definition[3] if definition else line).split()
+        given = re.findall(r"@[^\s,]+", definition[2]) if definition else []
+        makes = OBJECTS.get(words[0], 0) if what == "statement" else 0
+        if NUMBER.fullmatch(words[0] if words else "") and given:
+            numbers = [int(words[0], 0)]
+        elif what == "statement" and words[0] == "program":
+            numbers, program = [program], program + 1
+        else:
+            numbers, koid = list(range(koid, koid + makes)), koid + makes
+        if len(given) > len(numbers):
+            names.fail(f"{given[len(numbers)]} has nothing to name")
+        for name, number in zip(given, numbers):
+            names.define(name, number)
+    return names
+
+
+def scenario_numbered(lines):
+    """The lines of a scenario with numbers for names."""
+    names = defined(lines)
+    ways = {"statement": in_statement, "text": in_text, "other": lambda _, line: line}
+    for place, line, what in parts_of(lines):
+        names.line = place
+        yield ways[what](names, line)
+
+
+def text_numbered(lines):
+    """The lines of a text with numbers for names."""
+    names = Names()
+    for place, line in enumerate(lines, 1):
+        names.line = place
+        yield in_text(names, line)

@@ -108,7 +108,7 @@ class Chart:
         """The states at the end."""
         for line, text in rest:
             words = text.split()
-            if words[0] == "process" and words[2:] and words[2] != "ended":
+            if words[0] == "process" and words[2] != "ended":
                 self.row("note", line, int(words[1]), f"at the end: {' '.join(words[2:])}")
 
 

@@ -1,4 +1,5 @@
 """Goes along with a trace: each item with what it was about, as long as the model has the same items."""
+import re
 from dataclasses import dataclass, field
 
 from meaning.calls import Done, perform
@@ -85,9 +86,8 @@ class Follower:
         """The lines behind the items say of each process what the model has."""
         told = {}
         for place, line in rest:
-            words = line.split()
-            if words[0] == "process":
-                told[int(words[1]) if words[1:] and words[1].isdigit() else words[-1]] = (place, " ".join(words[2:]))
+            if found := re.fullmatch(r"process ([0-9]{1,20}) (.*)", line):
+                told[int(found[1])] = (place, found[2])
         for pid, (place, text) in told.items():
             process = self.world.processes.get(pid)
             here = process.state_text() if process else "no process"

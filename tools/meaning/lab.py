@@ -1,5 +1,6 @@
 """The lab itself: which program there is, and its answers."""
 import os
+import signal
 import subprocess
 import sys
 import threading
@@ -28,11 +29,15 @@ class Lab:
         """What it writes to the words and to this standard input, and its status. What it says on
         standard error is passed on, if it is to be told."""
         reading, writing = os.pipe()
-        teller = threading.Thread(target=pass_on, args=(reading, is_told), daemon=True)
+        telling = threading.Event()
+        if is_told:
+            telling.set()
+        teller = threading.Thread(target=pass_on, args=(reading, telling), daemon=True)
         teller.start()
         try:
-            process = subprocess.Popen([self.program, *words], stdin=subprocess.PIPE,
-                                       stdout=subprocess.PIPE, stderr=writing)
+            # in a group of its own, so that all that it starts can be ended
+            process = subprocess.Popen([self.program, *words], stdin=subprocess.PIPE, stdout=subprocess.PIPE,
+                                       stderr=writing, start_new_session=True)
         except OSError as error:
             raise Trouble(f"can't start {self.program}: {error.strerror}") from error
         finally:
@@ -40,6 +45,7 @@ class Lab:
         try:
             output, _ = process.communicate(given)
         except BaseException:
+            telling.clear()
             stop(process)
             raise
         teller.join(2)
@@ -64,14 +70,17 @@ def stop(process):
             stream.close()
         except OSError:
             pass
-    process.terminate()
+    try:
+        os.killpg(process.pid, signal.SIGTERM)
+    except ProcessLookupError:
+        pass
     process.wait()
 
 
-def pass_on(reading, is_told):
+def pass_on(reading, telling):
     """Passes standard error on, line by line."""
     with open(reading, "rb") as lines:
         for line in lines:
-            if is_told and not line.startswith(UNPROVED):
+            if telling.is_set() and not line.startswith(UNPROVED):
                 sys.stderr.write(line.decode("ascii", "replace"))
                 sys.stderr.flush()

@@ -7,6 +7,7 @@ from meaning.numbers import (
     ACTIONS, CONDITIONS, KINDS, KNOWN_RIGHTS, MODES, RIGHTS, SAME_RIGHTS, SIGNALS, STATUSES, USER_SIGNALS,
 )
 from meaning.scenario import is_skipped
+from meaning.texts import number
 from meaning.trouble import Trouble
 
 OWNERS = {"READABLE": "CHANNEL", "WRITABLE": "CHANNEL", "PEER_CLOSED": "CHANNEL", "SIGNALED": "EVENT",
@@ -22,7 +23,7 @@ FAMILIES = {
     "status": (STATUSES, "ZX_ERR_"),
 }
 IN_ZIRCON = {"USER_SIGNALS": "ZX_USER_SIGNAL_ALL", "OK": "ZX_OK"}
-NUMBER = re.compile(r"[0-9]+|0x[0-9a-fA-F]+")
+NUMBER = re.compile(r"[0-9]{1,20}|0x[0-9a-fA-F]{1,16}")
 DEFINITION = re.compile(r"( *)(@\S+(?:, *@\S+)*) *= *(\S.*?)( *)")
 LABEL = re.compile(r"@[a-z][a-z0-9_]*")
 OBJECTS = {"job": 1, "event": 1, "port": 1, "channel": 2, "process": 1}
@@ -41,9 +42,9 @@ def all_names():
     """Each name, ours and Zircon's, to the families that have it, and its number there."""
     names = {}
     for family, (numbers, _) in FAMILIES.items():
-        for name, number in numbers.items():
-            names.setdefault(name, {})[family] = number
-            names.setdefault(zircon_name(family, name), {})[family] = number
+        for name, given in numbers.items():
+            names.setdefault(name, {})[family] = given
+            names.setdefault(zircon_name(family, name), {})[family] = given
     return names
 
 
@@ -60,12 +61,12 @@ class Names:
     def fail(self, text):
         raise Trouble(f"line {self.line}: {text}")
 
-    def define(self, name, number):
+    def define(self, name, given):
         if not LABEL.fullmatch(name):
             self.fail(f"{name} is no name: @, a small letter, then small letters, digits or _")
         if name in self.own:
             self.fail(f"{name} is {self.own[name]} already")
-        self.own[name] = number
+        self.own[name] = given
 
     def own_number(self, word):
         """The number of a name of the file."""
@@ -77,7 +78,7 @@ class Names:
         """The number of a word where a number may stand; a word without a name stays as it is."""
         if word.startswith("@"):
             return self.own_number(word)
-        if NUMBER.fullmatch(word):
+        if word[:1].isdigit() and "|" not in word:
             return word
         parts = word.split("|")
         known = [self.families_of(part) for part in parts if not NUMBER.fullmatch(part)]
@@ -89,7 +90,7 @@ class Names:
         family = fitting.pop()
         bits = 0
         for part in parts:
-            bits |= int(part, 0) if NUMBER.fullmatch(part) else NAMES[part][family]
+            bits |= number(part) if NUMBER.fullmatch(part) else NAMES[part][family]
         return str(bits)
 
     def families_of(self, name):
@@ -209,15 +210,15 @@ def defined(lines):
         given = re.findall(r"@[^\s,]+", definition[2]) if definition else []
         makes = OBJECTS.get(words[0], 0) if what == "statement" else 0
         if NUMBER.fullmatch(words[0] if words else "") and given:
-            numbers = [int(words[0], 0)]
+            numbers = [number(words[0])]
         elif what == "statement" and words[0] == "program":
             numbers, program = [program], program + 1
         else:
             numbers, koid = list(range(koid, koid + makes)), koid + makes
         if len(given) > len(numbers):
             names.fail(f"{given[len(numbers)]} has nothing to name")
-        for name, number in zip(given, numbers):
-            names.define(name, number)
+        for name, value in zip(given, numbers):
+            names.define(name, value)
     return names
 
 

@@ -8,8 +8,8 @@ from meaning.trouble import Trouble
 
 MOST_BYTES = 134217728
 MOST_ITEMS = 1000000
-NUMBER = r"(?:0|[1-9][0-9]*)"
-RUN = re.compile(rf"({NUMBER}) +run +([1-9][0-9]*)")
+NUMBER = r"(?:0|[1-9][0-9]{0,19})"
+RUN = re.compile(rf"({NUMBER}) +run +([1-9][0-9]{{0,9}})")
 STUCK = re.compile(rf"({NUMBER}) +stuck")
 CALL = re.compile(rf"({NUMBER}) +([a-z_]+) +([A-Z_]+|blocked|ended +(?:0|-?[1-9][0-9]*))")
 

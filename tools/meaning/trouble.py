@@ -57,6 +57,9 @@ def end(number, _frame):
 def started(main):
     """Runs main, a function of no arguments that answers the status, and ends the program."""
     name = Path(sys.argv[0]).name
+    if sys.stdout is None:
+        print(f"{name}: can't write the output: it is closed", file=sys.stderr)
+        sys.exit(3)
     for number in (signal.SIGINT, signal.SIGTERM, signal.SIGHUP):
         signal.signal(number, end)
     try:

@@ -2,11 +2,12 @@
 from dataclasses import dataclass, field
 
 from meaning.cpu import Cpu, signed
+from meaning.instructions import handle_places
 from meaning.numbers import (
     ACTION_NAMES, BY_POLICY, CONDITION_NAMES, KILLED, KINDS, MODE_NAMES, SAME_RIGHTS, STATUSES, signals_text,
 )
 from meaning.objects import Message, Packet, Wait, first_entry
-from meaning.refusals import cancelled, conditions_of, handle_places, refusal, request_of
+from meaning.refusals import cancelled, conditions_of, refusal, request_of
 from meaning.world import Awaited, packet_text
 
 
@@ -20,7 +21,7 @@ class Done:
     names: list = field(default_factory=list)
     about: list = field(default_factory=list)
     came: list = field(default_factory=list)
-    # whose message, packet or start this is: (what, by, in which item, in words)
+    # what went from one process to another: (what, whose or whom, which sending, in words)
     arrows: list = field(default_factory=list)
 
 
@@ -28,7 +29,7 @@ def perform(world, process, one, is_without_memory=False):
     """One call, with all that comes of it. Memory is refused where the trace says so."""
     request = request_of(world, process, one)
     refused = refusal(request)
-    done = Done("", operands_told(request), [f"{entry.kind} {entry.koid}" for entry in request.entries.values()])
+    done = Done("", operands_told(request), names_of(request))
     if not refused and is_without_memory and one.row.grows:
         refused = "NO_MEMORY"
     if refused == "ended":
@@ -56,6 +57,12 @@ def operands_told(request):
         elif value or request.name != "close":
             told.append(f"r{register} has {value}: no handle")
     return told
+
+
+def names_of(request):
+    """The same in short."""
+    entries = [(request.values[place], request.entries.get(place)) for place, _, _ in handle_places(request.one)]
+    return [f"{entry.kind} {entry.koid}" if entry else f"{value} is no handle" for value, entry in entries]
 
 
 def consume(request, kept=None):
@@ -138,7 +145,8 @@ def replace(request, done):
 def chan_create(request, done):
     ends = request.world.make_channel()
     values = [new_handle(request, first_entry(end, "channel")) for end in ends]
-    done.about.append(f"{register_of(request, 1)} gets channel {ends[0]}, {register_of(request, 2)} its peer {ends[1]}")
+    first, second = register_of(request, 1), register_of(request, 2)
+    done.about.append(f"{first} gets channel {ends[0]}, {second} its peer {ends[1]}")
     finish(request, done, *values)
 
 
@@ -163,7 +171,7 @@ def chan_write(request, done):
     world.touch(peer.koid)
     text = message_text(world, message)
     done.about.append(f"{text} to channel {peer.koid}")
-    done.arrows.append(("sent", process.koid, world.place, text))
+    done.arrows.append(("sent", process.koid, message.sending, text))
     finish(request, done)
 
 
@@ -179,7 +187,7 @@ def chan_read_etc(request, done):
         triples += [request.process.table.insert(entry), KINDS[entry.kind], entry.rights]
     text = message_text(world, message)
     done.about.append(f"{text}, from process {message.by}")
-    done.arrows.append(("read", message.by, message.place, text))
+    done.arrows.append(("read", message.by, message.sending, text))
     finish(request, done, len(message.content), len(message.entries), *triples)
 
 
@@ -198,7 +206,8 @@ def change(request, done, target):
     clear, given = request.values[2:4]
     target.raised = target.raised & ~clear | given
     request.world.touch(target.koid)
-    changes = [f"{word} {signals_text(bits, target.kind)}" for word, bits in (("clears", clear), ("sets", given)) if bits]
+    changes = [f"{word} {signals_text(bits, target.kind)}"
+               for word, bits in (("clears", clear), ("sets", given)) if bits]
     done.about.append((" and ".join(changes) or "changes nothing") + f" at {target.kind} {target.koid}")
     finish(request, done)
 
@@ -240,7 +249,8 @@ def block(request, done, mask, places):
 def wait_async(request, done):
     world, target, port = request.world, request.object(1), request.object(2)
     key, mask = request.values[3:5]
-    wait = Wait(world.order(), request.process.koid, request.values[1], target.koid, port.koid, key, mask)
+    wait = Wait(world.order(), request.process.koid, request.values[1], target.koid, target.kind, port.koid,
+                key, mask)
     target.waits.append(wait)
     port.watching.append(wait)
     request.process.own_waits.setdefault(wait.value, []).append(wait)
@@ -258,14 +268,14 @@ def port_queue(request, done):
     port.packets.append(packet)
     world.touch(port.koid)
     done.about.append(packet_text(packet))
-    done.arrows.append(("sent", packet.by, world.place, packet_text(packet)))
+    done.arrows.append(("sent", packet.by, packet.sending, packet_text(packet)))
     finish(request, done)
 
 
 def take_packet(request, done):
     packet = request.object(1).packets.popleft()
     done.about.append(packet_text(packet))
-    done.arrows.append(("read", packet.by, packet.place, packet_text(packet)))
+    done.arrows.append(("read", packet.by, packet.sending, packet_text(packet)))
     finish(request, done, *packet.fields)
 
 
@@ -310,7 +320,7 @@ def process_start(request, done):
     target.cpu.registers[0] = world.insert(target, entry)
     text = f"starts with {world.name(entry)} and the word {word}"
     done.about.append(f"process {target.koid} {text}")
-    done.arrows.append(("to", target.koid, world.place, text))
+    done.arrows.append(("to", target.koid, None, text))
     consume(request)
     finish(request, done)
 
@@ -324,7 +334,7 @@ def process_exit(request, done):
 def task_kill(request, done):
     world, target = request.world, request.object(1)
     world.kill(target.koid)
-    done.arrows += [("to", one.pid, world.place, "kills it") for one in world.came if one.kind == "over"]
+    done.arrows += [("to", one.pid, None, "kills it") for one in world.came if one.kind == "over"]
     if not request.process.lives:
         done.outcome = f"ended {KILLED}"
         return

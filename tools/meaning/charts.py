@@ -34,7 +34,7 @@ class Chart:
         self.title = title
         self.rows = []
         self.pids = sorted(world.processes)
-        # the rows in which something was sent, by the number of the item's line
+        # the rows in which something was sent, by which sending it was
         self.sent = {}
 
     def name(self, pid):
@@ -55,8 +55,8 @@ class Chart:
         """An item becomes the rows that it has."""
         item, done = followed.item, followed.done
         about = ", ".join(done.names + done.about)
-        for what, pid, place, text in done.arrows:
-            self.arrow(item, what, pid, place, text)
+        for what, pid, sending, text in done.arrows:
+            self.arrow(item, what, pid, sending, text)
         if item.name == "stuck":
             self.row("over", item.line, item.pid, f"stuck: {about}")
         elif item.outcome == "blocked":
@@ -70,18 +70,18 @@ class Chart:
         for came in done.came:
             self.came(item, came)
 
-    def arrow(self, item, what, pid, place, text):
+    def arrow(self, item, what, pid, sending, text):
         if what == "sent":
             mark = self.row("sent", item.line, item.pid, f"{item.name}: {text}")
-            self.sent.setdefault(place, (len(self.rows) - 1, mark))
+            self.sent[sending] = len(self.rows) - 1, mark
         elif what == "read":
-            self.delivered(item.line, pid, item.pid, place, text)
+            self.delivered(item.line, pid, item.pid, sending, text)
         elif pid != item.pid:
             self.row("arrow", item.line, item.pid, text, to=pid)
 
-    def delivered(self, line, by, to, place, text):
-        """What was sent in the row of an item comes to a process."""
-        since, mark = self.sent.get(place, (None, None))
+    def delivered(self, line, by, to, sending, text):
+        """What was sent in an earlier row comes to a process."""
+        since, mark = self.sent.get(sending, (None, None))
         if mark:
             mark.is_read = True
         self.row("arrow", line, by, text, to=to, since=since)
@@ -90,11 +90,11 @@ class Chart:
         """What came of an item."""
         if came.kind == "packet":
             mark = self.row("sent", item.line, item.pid, came.text)
-            self.sent.setdefault(item.line, (len(self.rows) - 1, mark))
+            self.sent[came.packet.sending] = len(self.rows) - 1, mark
         elif came.kind == "woken":
             self.row("wakes", item.line, item.pid, came.text, to=came.pid)
-            if came.packet and came.packet.place in self.sent:
-                self.sent[came.packet.place][1].is_read = True
+            if came.packet and came.packet.sending in self.sent:
+                self.sent[came.packet.sending][1].is_read = True
         elif came.kind == "over":
             self.row("over", item.line, came.pid, came.text)
         elif came.kind == "gone":

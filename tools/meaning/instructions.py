@@ -90,3 +90,13 @@ BY_NAME = {row.name: row for row in LOCALS + CALLS}
 BY_OPCODE = {row.opcode: row for row in LOCALS + CALLS}
 # At these the count of instructions begins anew.
 PAUSES = ("wait_one", "port_wait", "process_exit")
+
+
+def handle_places(one):
+    """The places of handles among the operands, each with what is wanted of it and whether it goes."""
+    places = [place for place, use in enumerate(one.row.fields) if use in (HANDLE, CONSUMED)]
+    found = [(place, wanted, one.row.fields[place] == CONSUMED)
+             for place, wanted in zip(places, one.row.wants)]
+    first = len(one.row.fields)
+    found += [(first + n, one.row.wants[1], True) for n in range(len(one.handles))]
+    return found

@@ -16,7 +16,8 @@ UNPROVED = b"run: an unproved quick build answers"
 
 def add_option(parser):
     """The word for the program."""
-    parser.add_argument("--zlab", metavar="PROGRAM", help="the lab's program: the proved one if there is one, else ./run")
+    parser.add_argument("--zlab", metavar="PROGRAM",
+                        help="the lab's program: the proved one if there is one, else ./run")
 
 
 class Lab:

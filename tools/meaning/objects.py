@@ -50,6 +50,7 @@ class Wait:
     pid: int
     value: int
     koid: int
+    kind: str
     port: int
     key: int
     mask: int
@@ -71,6 +72,11 @@ class Packet:
     def fields(self):
         return self.key, self.type, self.value, self.observed
 
+    @property
+    def sending(self):
+        """Which sending it is: the item, and of its packets the one of this wait."""
+        return self.place, self.wait.order if self.wait else 0
+
 
 @dataclass(frozen=True)
 class Message:
@@ -80,6 +86,10 @@ class Message:
     entries: tuple
     by: int
     place: int
+
+    @property
+    def sending(self):
+        return self.place, 0
 
 
 @dataclass(eq=False)

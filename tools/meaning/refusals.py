@@ -1,7 +1,7 @@
 """Why a call is refused: handles from left to right, the policy, and then what each call looks for."""
 from dataclasses import dataclass, field
 
-from meaning.instructions import CONSUMED, HANDLE
+from meaning.instructions import handle_places
 from meaning.numbers import (
     ACTION_NAMES, CONDITION_NAMES, MODE_NAMES, NEEDS, SAME_RIGHTS, SIGNALED, USER_SIGNALS,
 )
@@ -36,16 +36,6 @@ def request_of(world, process, one):
     """The call with the values of its registers."""
     registers = process.cpu.registers
     return Request(world, process, one, [registers[register] for register in one.registers + one.handles])
-
-
-def handle_places(one):
-    """The places of handles among the operands, each with what is wanted of it and whether it goes."""
-    places = [place for place, use in enumerate(one.row.fields) if use in (HANDLE, CONSUMED)]
-    found = [(place, wanted, one.row.fields[place] == CONSUMED)
-             for place, wanted in zip(places, one.row.wants)]
-    first = len(one.row.fields)
-    found += [(first + n, one.row.wants[1], True) for n in range(len(one.handles))]
-    return found
 
 
 def examined(request):

@@ -1,7 +1,6 @@
 """The verifier's rule of each instruction: where it leads, and with what in the registers, or a cause."""
-from meaning.instructions import READ, WRITTEN
+from meaning.instructions import READ, WRITTEN, handle_places
 from meaning.numbers import KIND_NAMES, KNOWN_RIGHTS, SAME_RIGHTS
-from meaning.refusals import handle_places
 from meaning.values import (
     ANY, ANYTHING, TAGS, ZERO, Has, KindOf, RightsOf, Word, new_handle, refined, rounded, with_value,
 )

@@ -2,8 +2,8 @@
 from html import escape
 
 LEFT, TOP, GAP, HIGH = 70, 70, 300, 30
-LETTER = 6.3
-MOST_LETTERS = 66
+LETTER = 6.2
+MOST_LETTERS = 84
 STYLE = """
 text { font: 11px sans-serif; fill: #222; }
 .title { font-weight: bold; font-size: 14px; }
@@ -64,7 +64,9 @@ def label(chart, mark, row):
     """What goes along an arrow: beside its end, or above it where it is level."""
     begin, end, y = x_of(chart, mark.pid), x_of(chart, mark.to), y_of(row)
     if is_aslant(mark) or begin == end:
-        return box("taken", end, y, ("gets " if mark.kind == "arrow" else "") + mark.text)
+        # room for the head of an arrow from the right
+        aside = 12 if begin > end else 0
+        return box("taken", end + aside, y, ("gets " if mark.kind == "arrow" else "") + mark.text)
     return (f'<text class="on" x="{(begin + end) / 2:.0f}" y="{y - 5}"><title>{escape(mark.text)}</title>'
             f'{shown(mark.text)}</text>')
 

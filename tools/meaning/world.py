@@ -24,8 +24,8 @@ class Awaited:
 
 @dataclass(frozen=True)
 class Came:
-    """Something that came of a step: `gone`, `packet`, `woken`, `over`, in words. Of one who was woken by
-    a packet, `packet` has it."""
+    """Something that came of a step: `gone`, `packet`, `woken`, `over`, in words. `packet` is the one that
+    came, or that somebody was woken by."""
 
     kind: str
     text: str
@@ -154,10 +154,14 @@ class World:
 
     def settle(self):
         """Removes what nobody holds, queues packets of waits, and wakes who waits."""
+        gone = []
         while self.suspects:
             koid = self.suspects.pop()
             if koid in self.objects and not self.objects[koid].is_held():
-                self.drop(self.objects[koid])
+                gone.append(self.objects[koid])
+                self.drop(gone[-1])
+        self.came += [Came("gone", f"{one.kind} {one.koid} is gone")
+                      for one in sorted(gone, key=lambda one: one.koid) if is_told(one)]
         self.fire()
         self.wake()
         self.touched.clear()
@@ -167,8 +171,6 @@ class World:
     def drop(self, gone):
         """An object that nobody holds is gone, and what lies in it."""
         del self.objects[gone.koid]
-        if gone.koid != ROOT and not (gone.kind == "process" and gone.state == "ended"):
-            self.came.append(Came("gone", f"{gone.kind} {gone.koid} is gone"))
         if gone.kind == "channel":
             self.touch(gone.peer)
             for message in gone.queue:
@@ -205,8 +207,9 @@ class World:
             self.objects[wait.port].packets.append(packet)
             self.touch(wait.port)
             seen = self.objects[wait.koid]
-            self.came.append(Came("packet", f"{seen.kind} {seen.koid} is {signals_text(active, seen.kind)}:"
-                                  f" a packet with the key {wait.key} comes to port {wait.port}"))
+            text = (f"{seen.kind} {seen.koid} is {signals_text(active, seen.kind)}:"
+                    f" a packet with the key {wait.key} comes to port {wait.port}")
+            self.came.append(Came("packet", text, packet=packet))
 
     def wake(self):
         """Each blocked process that has what it waits for is ready."""
@@ -241,9 +244,14 @@ class World:
         self.came.append(Came("woken", f"{one.pid} goes on: {text}", one.pid, packet))
 
 
+def is_told(gone):
+    """Whether it is worth a word that the object is gone; of an ended process its end was told."""
+    return gone.koid != ROOT and not (gone.kind == "process" and gone.state == "ended")
+
+
 def packet_text(packet):
     """A packet in words."""
     if packet.type == 0:
         return f"the packet with the key {packet.key} and the value {packet.value}"
     seen = packet.wait
-    return f"the packet with the key {packet.key} of the wait at object {seen.koid}, by process {seen.pid}"
+    return f"the packet with the key {packet.key} of a wait at {seen.kind} {seen.koid}"

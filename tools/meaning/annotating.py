@@ -38,17 +38,13 @@ def known_at(found, at, is_all):
     if state is None:
         return f"{at} isn't reached" + (", but perhaps behind what is refused" if found.refusals else "")
     before = found.states.get(at - 1)
-    goes_on = at - 1 in found.leads and at in found.leads[at - 1] and not is_target(found.image, at)
+    goes_on = at in found.leads.get(at - 1, ()) and at not in found.blocks
     steps = found.steps.get(at)
     count = "without end" if steps is None else str(steps)
     if before is not None and goes_on and not is_all:
         return f"{at} [{count}] {state_text(state, before) or 'as before'}"
     told = state_text(state)
     return f"{at} [{count}] {told + ', ' if told else ''}the others 0"
-
-
-def is_target(image, at):
-    return any(one.row and one.row.is_jump and one.target == at for one in image.code)
 
 
 def ended(texts, found, verdict):
@@ -82,13 +78,15 @@ def counted(texts, found, first):
 def led(texts, found, refusal):
     """The way to where a program is refused."""
     ways = ways_to(found.image, refusal)
-    if len(ways) == 1:
+    if ways and len(ways) == 1:
         yield "; a way there:"
     elif ways:
         yield f"; two ways that can't meet at {refusal.at}:"
+    elif ways is None:
+        yield "; the shortest of many ways there, not all of which were tried:"
     else:
-        ways = [shortest_way(found, refusal.at)]
-        yield f"; no single way is refused, but what several ways leave in common; one to {refusal.at}:"
+        yield "; no single way is refused, but what several leave in common where they meet; the shortest one:"
+    ways = ways or [shortest_way(found, refusal.at)]
     for number, places in enumerate(ways):
         if number:
             yield "; and"

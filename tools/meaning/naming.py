@@ -6,7 +6,7 @@ from meaning.instructions import BY_NAME
 from meaning.numbers import (
     ACTIONS, CONDITIONS, KINDS, KNOWN_RIGHTS, MODES, RIGHTS, SAME_RIGHTS, SIGNALS, STATUSES, USER_SIGNALS,
 )
-from meaning.scenario import is_skipped
+from meaning.scenario import is_skipped, words_of
 from meaning.texts import number
 from meaning.trouble import Trouble
 
@@ -186,7 +186,7 @@ def parts_of(lines):
     """Each line with what it is: `statement`, `text` of a block, or `other`."""
     inside = None
     for place, line in enumerate(lines, 1):
-        words = line.split()
+        words = words_of(line)
         if is_skipped(line):
             yield place, line, "other"
         elif inside and words == ["end"]:
@@ -206,7 +206,7 @@ def defined(lines):
     for place, line, what in parts_of(lines):
         names.line = place
         definition = DEFINITION.fullmatch(line.partition("\r")[0]) if what == "statement" else None
-        words = (definition[3] if definition else line).split()
+        words = words_of(definition[3] if definition else line)
         given = re.findall(r"@[^\s,]+", definition[2]) if definition else []
         makes = OBJECTS.get(words[0], 0) if what == "statement" else 0
         if NUMBER.fullmatch(words[0] if words else "") and given:

@@ -34,8 +34,13 @@ class Scenario:
     turns_from: int | None = None
 
 
+def words_of(line):
+    """The words of a line; only spaces part them."""
+    return [word for word in line.split(" ") if word]
+
+
 def is_skipped(line):
-    return line.startswith("#") or not line.strip(" ")
+    return line.startswith("#") or not words_of(line)
 
 
 def is_scenario(content):
@@ -93,7 +98,7 @@ def read_scenario(text):
         place += 1
         if is_skipped(line):
             continue
-        words = line.split()
+        words = words_of(line)
         if words[0] == "--":
             scenario.turns_from = place
             break
@@ -112,7 +117,7 @@ def without_turns(text):
     for place, line in enumerate(lines):
         if is_skipped(line):
             continue
-        words = line.split()
+        words = words_of(line)
         if inside:
             inside = words != ["end"]
         elif words[0] == "program":

@@ -4,6 +4,7 @@ from dataclasses import dataclass
 
 from meaning.instructions import BY_NAME
 from meaning.numbers import STATUSES
+from meaning.scenario import words_of
 from meaning.trouble import Trouble
 
 MOST_BYTES = 134217728
@@ -49,7 +50,7 @@ def read_trace(text):
     """The items, and the lines behind them with their numbers."""
     items, rest = [], []
     for place, line in enumerate(text.split("\n"), 1):
-        words = line.split()
+        words = words_of(line)
         if not words or line.startswith("#"):
             continue
         if rest or words[0] in ("process", "end"):

@@ -61,7 +61,9 @@ def started(main):
         print(f"{name}: can't write the output: it is closed", file=sys.stderr)
         sys.exit(3)
     for number in (signal.SIGINT, signal.SIGTERM, signal.SIGHUP):
-        signal.signal(number, end)
+        # what runs on behind a terminal, say by nohup, stays so
+        if signal.getsignal(number) != signal.SIG_IGN:
+            signal.signal(number, end)
     try:
         status = main()
         sys.stdout.flush()

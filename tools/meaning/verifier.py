@@ -30,10 +30,11 @@ class Refusal:
 
 @dataclass
 class Found:
-    """What is known: the state before each instruction that is reached, where each leads by what is
-    known, the refusals in the order in which they were met, and the numbers of steps."""
+    """What is known: where blocks begin, the state before each instruction that is reached, where each
+    leads by what is known, the refusals in the order in which they were met, and the numbers of steps."""
 
     image: object
+    blocks: set = field(default_factory=set)
     states: dict = field(default_factory=dict)
     leads: dict = field(default_factory=dict)
     refusals: list = field(default_factory=list)
@@ -51,9 +52,10 @@ class Search:
         self.image = image
         self.bounds = bounds_of(image)
         self.amended = replace(image, needs=tuple(NEEDS), memory=1 << 70)
-        self.found = Found(image)
         length = len(image.code)
+        # where a block begins: at the start, and wherever an instruction may jump
         self.blocks = {one.target for one in image.code if one.row and one.row.is_jump and one.target < length} | {0}
+        self.found = Found(image, self.blocks)
         self.known = {0: start_state(image)}
         self.waiting = {0}
 

@@ -44,7 +44,8 @@ class Walk:
 
 
 def ways_to(image, refusal):
-    """The ways to where a program is refused: one along which it is, two that can't meet, or none."""
+    """The ways to where a program is refused: one along which it is, two that can't meet, none, or None
+    where there are too many to go along all."""
     walk, arrived = Walk(image), []
     for number, place, state, refused in walk.arrivals():
         if place != refusal.at:
@@ -56,7 +57,7 @@ def ways_to(image, refusal):
                 if join(known, state)[0] is None:
                     return [walk.way(other), walk.way(number)]
             arrived.append((number, state))
-    return []
+    return [] if len(walk.met) < MOST_STATES else None
 
 
 def shortest_way(found, at):

@@ -5,6 +5,7 @@ concern their process have no chart.
 """
 from dataclasses import dataclass
 
+from meaning.following import state_in
 from meaning.trouble import Trouble
 
 MOST_ROWS = 5000
@@ -107,9 +108,9 @@ class Chart:
     def end(self, rest):
         """The states at the end."""
         for line, text in rest:
-            words = text.split()
-            if words[0] == "process" and words[2] != "ended":
-                self.row("note", line, int(words[1]), f"at the end: {' '.join(words[2:])}")
+            state = state_in(text)
+            if state and not state[1].startswith("ended"):
+                self.row("note", line, state[0], f"at the end: {state[1]}")
 
 
 def plain(text):

@@ -86,8 +86,8 @@ class Follower:
         """The lines behind the items say of each process what the model has."""
         told = {}
         for place, line in rest:
-            if found := re.fullmatch(r"process ([0-9]{1,20}) (.*)", line):
-                told[int(found[1])] = (place, found[2])
+            if state := state_in(line):
+                told[state[0]] = (place, state[1])
         for pid, (place, text) in told.items():
             process = self.world.processes.get(pid)
             here = process.state_text() if process else "no process"
@@ -96,6 +96,12 @@ class Follower:
         missing = sorted(set(self.world.processes) - set(told))
         if told and missing:
             raise Trouble(f"the trace says nothing of process {missing[0]} at its end")
+
+
+def state_in(line):
+    """The number of a process and its state, in a line at the end of a trace that says them."""
+    found = re.fullmatch(r"process ([0-9]{1,20}) (.*)", line)
+    return (int(found[1]), found[2]) if found else None
 
 
 def parting(item):

@@ -6,7 +6,7 @@ from meaning.ways import counted_way, shortest_way, ways_to
 MOST_SHOWN = 40
 
 
-def annotated(lines, places, found, verdict, is_all):
+def annotated(lines, found, verdict, is_all):
     """All lines: the program's own, what is known before each instruction, and behind them the answer."""
     at = 0
     for place, line in lines:

@@ -1,4 +1,4 @@
-"""Who holds what in a world: the handles of those that live, and what lies in queues."""
+"""Who holds what in a world, and who waits: handles of those that live, and what lies in queues."""
 from meaning.calls import message_text
 from meaning.numbers import signals_text
 from meaning.world import packet_text
@@ -12,11 +12,20 @@ def registers_with(process, value):
     return ", ".join(found) or "no register"
 
 
+def awaited_text(world, awaited):
+    """What a blocked process waits for."""
+    at = world.objects[awaited.koid]
+    what = "a packet" if awaited.mask is None else signals_text(awaited.mask, at.kind)
+    return f"{what} at {at.kind} {at.koid}"
+
+
 def held(world):
     """All of it in lines."""
     for process in world.processes.values():
         if process.state not in ("ready", "blocked"):
             continue
+        if process.awaits:
+            yield f"process {process.koid} waits for {awaited_text(world, process.awaits)}"
         for value, entry in sorted(process.table.entries.items()):
             yield f"process {process.koid} has handle {value}, by {registers_with(process, value)}: {world.name(entry)}"
     for one in world.objects.values():

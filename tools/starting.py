@@ -1,0 +1,69 @@
+"""How the tools start the lab: which program it is, and what it answers."""
+import subprocess
+import sys
+from pathlib import Path
+
+TOP = Path(__file__).resolve().parent.parent
+# The bytes that the program takes of its input at most.
+MOST_INPUT = 4_194_304
+# The proved program, if it is newer than the sources, or else the file of their quick build.
+FIND = 'top=$1; . "$top/tools/program.sh"; ' \
+       'if is_newer_than_the_sources "$proved"; then echo "$proved"; else quick_of_the_sources; fi'
+
+
+class Trouble(Exception):
+    """What ends a tool: the line that it says."""
+
+
+def read_file(path):
+    """The bytes of a file, no more than one past the most that the lab takes."""
+    try:
+        with open(path, "rb") as file:
+            return file.read(MOST_INPUT + 1)
+    except OSError as fault:
+        raise Trouble(f"can't read {path}: {fault.strerror}") from None
+
+
+def find_program(tool):
+    """The file of the program that ./run would take; a quick build is made if there is none."""
+    found = subprocess.run(["bash", "-c", FIND, "bash", TOP], stdout=subprocess.PIPE, text=True)
+    program = Path(found.stdout.strip())
+    if found.returncode != 0 or not found.stdout.strip():
+        raise Trouble("no program: ./build makes one, and --zlab PROGRAM names another")
+    if program.parent != TOP / "out/quick":
+        return program
+    if not program.exists():
+        print(f"{tool}: makes a quick build, which takes a minute or two and is kept", file=sys.stderr)
+        if subprocess.run([TOP / "tools/quick-build"], stdout=subprocess.DEVNULL).returncode != 0:
+            raise Trouble("no quick build; --zlab PROGRAM names another program")
+    print(f"{tool}: an unproved quick build answers (./build proves one, which takes an hour)", file=sys.stderr)
+    return program
+
+
+class Lab:
+    """The program, as the tools start it."""
+
+    def __init__(self, tool, program=None):
+        self.program = Path(program).resolve() if program else find_program(tool)
+        # How often it was started for a trace.
+        self.runs = 0
+
+    def answer(self, given, *words):
+        """What the program writes, where it ends with status 0."""
+        try:
+            run = subprocess.run([self.program, *words], input=given, capture_output=True)
+        except OSError as fault:
+            raise Trouble(f"can't start {self.program}: {fault.strerror}") from None
+        if run.returncode != 0:
+            said = [line for line in (run.stdout + run.stderr).decode(errors="replace").splitlines() if line]
+            raise Trouble("; ".join(said[:2]) or f"{self.program} ended with status {run.returncode}")
+        return run.stdout
+
+    def trace(self, scenario, schedule):
+        """The lines of the trace of a scenario, which has no schedule, along the turns of one."""
+        self.runs += 1
+        return self.answer(b"%s--\n%s" % (scenario, schedule)).decode().splitlines()
+
+    def image(self, text):
+        """The image of an assembler text."""
+        return self.answer(text, "asm", "/dev/stdin", "/dev/stdout")

@@ -1,0 +1,101 @@
+"""What an end of all orders is: the state of each process, who waits for what, and who could bring it."""
+from .cpu import FAR, ROUND
+from .numbers import (
+    DESTROY, NO_JOBS, NO_PROCESSES, PEER_CLOSED, READABLE, SIGNAL, SIGNALED, SIGNAL_PEER, TERMINATED, USER_SIGNALS,
+    WRITE, signals_named)
+
+
+def end_name(world):
+    """The states of all processes."""
+    return ", ".join(f"{pid} {process.state_text()}" for pid, process in sorted(world.processes.items()))
+
+
+def is_cut(world):
+    """Whether a process has more local instructions ahead than the trace may have items."""
+    return any(process.state == "ready" and process.stop == FAR for process in world.processes.values())
+
+
+def holders(world, koid, rights):
+    """The living processes that have a handle to the object with these rights."""
+    return {pid for pid, process in world.processes.items() for entry in process.handles.values()
+            if entry.koid == koid and entry.rights & rights == rights}
+
+
+def killers(world, koid):
+    """Those that could kill the process or the job."""
+    pids = set()
+    while koid in world.objects:
+        pids |= holders(world, koid, DESTROY)
+        koid = world.objects[koid].above
+    return pids
+
+
+def changers(world, koid, mask):
+    """Those that could make a signal of the mask active at the object."""
+    thing = world.objects.get(koid)
+    if thing is None:
+        return set()
+    pids = set()
+    if mask & (USER_SIGNALS | (SIGNALED if thing.kind == "event" else 0)):
+        pids |= holders(world, koid, SIGNAL)
+    if thing.kind == "channel":
+        pids |= holders(world, thing.peer, WRITE) if mask & READABLE else set()
+        pids |= holders(world, thing.peer, 0) if mask & PEER_CLOSED else set()
+        pids |= holders(world, thing.peer, SIGNAL_PEER) if mask & USER_SIGNALS else set()
+    elif thing.kind in ("process", "job"):
+        pids |= killers(world, koid) if mask & (TERMINATED | NO_JOBS | NO_PROCESSES) else set()
+        pids |= {pid for pid in world.processes if pid in world.objects and world.is_within(koid, pid)}
+    return pids
+
+
+def bringers(world, pid):
+    """The other living processes that could end the wait of a blocked one."""
+    koid, mask, _ = world.processes[pid].awaited
+    if mask is not None:
+        pids = changers(world, koid, mask)
+    else:
+        pids = holders(world, koid, WRITE)
+        for wait in world.waits:
+            if wait.port == koid:
+                pids |= changers(world, wait.object, wait.mask)
+    return {other for other in pids if other != pid and world.processes[other].lives()}
+
+
+def wait_text(world, pid, others):
+    """What a blocked process waits for, and who could bring it."""
+    koid, mask, _ = world.processes[pid].awaited
+    if mask is None:
+        what = f"in port_wait for a packet at port {koid}"
+    elif mask == 0:
+        what = "in wait_one for no signal at all"
+    else:
+        kind = world.objects[koid].kind
+        what = f"in wait_one for {signals_named(mask, kind)} at {kind} {koid}"
+    who = " or ".join(str(other) for other in sorted(others)) if others else "nobody else"
+    return f"{pid} waits {what}, which {who} could bring"
+
+
+def reached_from(start, edges):
+    """What is reached by one edge or more."""
+    reached, left = set(), [start]
+    while left:
+        for target in edges.get(left.pop(), ()):
+            if target not in reached:
+                reached.add(target)
+                left.append(target)
+    return reached
+
+
+def end_reasons(world):
+    """Why nobody goes on where some haven't ended, in lines."""
+    edges = {pid: bringers(world, pid) for pid in world.blocked}
+    in_circle = [pid for pid in world.blocked if pid in reached_from(pid, edges)]
+    waits = [wait_text(world, pid, edges[pid]) for pid in sorted(world.blocked)]
+    lines = []
+    if waits:
+        lines.append(("deadlock: " if in_circle else "blocked for good: ") + "; ".join(waits))
+    rounds = [str(pid) for pid, process in world.processes.items()
+              if process.state == "ready" and process.stop == ROUND]
+    if rounds:
+        lines.append(f"goes round for ever without a call: {', '.join(rounds)}")
+    return lines

@@ -1,0 +1,155 @@
+"""All orders of calls: the graph of the worlds that they lead to, each gone on from once."""
+from collections import deque
+from typing import NamedTuple
+
+from .ends import end_name, end_reasons, is_cut
+from .turns import choices, go, last_lines, turns_to_call
+
+
+class End(NamedTuple):
+    """An end of orders: the states of its processes, and why nobody goes on."""
+    name: str
+    reasons: tuple
+
+
+class Run:
+    """One order, as far as it was gone: its world, its schedule, and what the trace has of it."""
+
+    def __init__(self, first):
+        self.world = first.copy()
+        self.order, self.turns, self.lines = [], [], []
+
+    def may_go(self, pid):
+        """Whether the trace has room for the process up to its next call."""
+        return self.world.items + turns_to_call(self.world, pid) <= self.world.limit
+
+    def go(self, pid):
+        count = turns_to_call(self.world, pid)
+        self.order.append(pid)
+        self.turns.append((pid, count))
+        said = go(self.world, pid)
+        self.lines += [f"{pid} run 1"] * (count - 1) + [said]
+        return said
+
+    def trace(self):
+        """All lines of the trace of its schedule."""
+        return [*self.lines, *last_lines(self.world), "end schedule"]
+
+    def end(self):
+        """The end that it has come to, if it is one."""
+        if choices(self.world) or is_cut(self.world):
+            return None
+        return End(end_name(self.world), tuple(end_reasons(self.world)))
+
+
+def run_of(first, order):
+    run = Run(first)
+    for pid in order:
+        run.go(pid)
+    return run
+
+
+class Graph:
+    """The worlds by number, and the steps between them. A step is a process that goes on through a call."""
+
+    def __init__(self, first):
+        self.first = first
+        # Parts of worlds by number, so that a world is known by a short tuple, and worlds by number.
+        self.parts, self.numbers = {}, {}
+        # By world: the world and the process that led to it first; of a root, None and the order to it.
+        self.came = []
+        self.steps = []
+        # How many orders lead to each root.
+        self.roots = {}
+        self.ends = {}
+        # The order to a bad step or end, once there is one, and what is bad.
+        self.found = None
+        # Some worlds weren't gone on from, as there are too many, or as traces have no room.
+        self.has_too_many = self.is_cut = False
+
+    def key(self, world):
+        return tuple(self.parts.setdefault(part, len(self.parts)) for part in world.parts())
+
+    def number(self, world, came):
+        """The number of the world, and whether it is new."""
+        key = self.key(world)
+        new = key not in self.numbers
+        if new:
+            self.numbers[key] = len(self.came)
+            self.came.append(came)
+            self.steps.append([])
+        return self.numbers[key], new
+
+    def order_to(self, world):
+        """The first order that led to the world."""
+        order = []
+        while self.came[world][0] is not None:
+            world, pid = self.came[world]
+            order.append(pid)
+        return [*self.came[world][1], *reversed(order)]
+
+    def search(self, roots, most, bad, progress):
+        """Goes on from each world once, in rising numbers of calls, up to so many worlds or what is bad."""
+        queue = deque()
+        for world, order, count in roots:
+            number, new = self.number(world, (None, order))
+            self.roots[number] = self.roots.get(number, 0) + count
+            if new:
+                queue.append((number, world))
+        while queue and self.found is None:
+            progress.say(f"{len(self.came)} worlds, {len(queue)} to go on from, {len(self.ends)} at their end")
+            if len(self.came) >= most:
+                self.has_too_many = True
+                return
+            self.go_on(*queue.popleft(), queue, bad)
+
+    def go_on(self, number, world, queue, bad):
+        pids = choices(world)
+        if not pids:
+            self.come_to_end(number, world, bad)
+        for pid in pids:
+            if world.items + turns_to_call(world, pid) > world.limit:
+                self.is_cut = True
+                continue
+            after = world.copy()
+            said = go(after, pid)
+            target, new = self.number(after, (number, pid))
+            self.steps[number].append((pid, target))
+            if self.found is None and bad.has_answer(said):
+                self.found = [*self.order_to(number), pid]
+            if new:
+                queue.append((target, after))
+
+    def come_to_end(self, number, world, bad):
+        if is_cut(world):
+            self.is_cut = True
+            return
+        self.ends[number] = End(end_name(world), tuple(end_reasons(world)))
+        if self.found is None and bad.has_end(world):
+            self.found = self.order_to(number)
+
+
+def roots_of(first, part, parts):
+    """Where a part of the search begins: worlds, each with an order to it and the number of orders.
+
+    All parts take the same first calls, until there are some worlds for each, and share these worlds out.
+    An end on the way is the first part's.
+    """
+    roots, level = [], [(first, (), 1)]
+    while level and len(level) < 4 * parts:
+        after, numbers = [], Graph(first)
+        for world, order, count in level:
+            pids = choices(world)
+            if not pids:
+                roots += [(world, order, count)] if part == 1 else []
+            for pid in pids:
+                next_world = world.copy()
+                go(next_world, pid)
+                number, new = numbers.number(next_world, None)
+                if new:
+                    after.append((next_world, (*order, pid), count))
+                else:
+                    same, to_it, others = after[number]
+                    after[number] = (same, to_it, others + count)
+        level = after
+    return [*roots, *level[part - 1::parts]]

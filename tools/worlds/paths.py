@@ -1,0 +1,95 @@
+"""Ways through the graph of worlds: how many there are, the shortest, and such that take each step."""
+import heapq
+from collections import defaultdict, deque
+
+from .orders import Run
+
+
+def orders_to_ends(graph):
+    """How many orders lead to each end by its name; None where some go round, so that there is no number."""
+    indegree = [0] * len(graph.steps)
+    for steps in graph.steps:
+        for _, target in steps:
+            indegree[target] += 1
+    counts = [graph.roots.get(number, 0) for number in range(len(graph.steps))]
+    ready = deque(number for number, count in enumerate(indegree) if count == 0)
+    done = 0
+    while ready:
+        number = ready.popleft()
+        done += 1
+        for _, target in graph.steps[number]:
+            counts[target] += counts[number]
+            indegree[target] -= 1
+            if indegree[target] == 0:
+                ready.append(target)
+    if done < len(graph.steps):
+        return None
+    named = defaultdict(int)
+    for number, end in graph.ends.items():
+        named[end] += counts[number]
+    return named
+
+
+def endless_worlds(graph):
+    """The worlds from which no order comes to an end."""
+    before = defaultdict(list)
+    for number, steps in enumerate(graph.steps):
+        for _, target in steps:
+            before[target].append(number)
+    reached, left = set(graph.ends), list(graph.ends)
+    while left:
+        for number in before[left.pop()]:
+            if number not in reached:
+                reached.add(number)
+                left.append(number)
+    return [number for number in range(len(graph.steps)) if number not in reached]
+
+
+def lines_in(order):
+    """How many lines the schedule of an order has."""
+    return sum(place == 0 or order[place - 1] != pid for place, pid in enumerate(order))
+
+
+def shortest_orders(graph):
+    """For each end an order with the fewest lines of a schedule, and among these with the fewest calls."""
+    heap, came, found = [], {}, {}
+    for root in graph.roots:
+        order = graph.order_to(root)
+        heap.append((lines_in(order), len(order), root, order[-1] if order else 0, None))
+    heapq.heapify(heap)
+    while heap:
+        lines, calls, number, last, before = heapq.heappop(heap)
+        if (number, last) in came:
+            continue
+        came[number, last] = before
+        if number in graph.ends:
+            found.setdefault(graph.ends[number], (number, last))
+        for pid, target in graph.steps[number]:
+            if (target, pid) not in came:
+                heapq.heappush(heap, (lines + (pid != last), calls + 1, target, pid, (number, last)))
+    return {end: way_to(graph, came, place) for end, place in found.items()}
+
+
+def way_to(graph, came, place):
+    """The order by which the place was come to."""
+    order = []
+    while came[place] is not None:
+        order.append(place[1])
+        place = came[place]
+    return [*graph.order_to(place[0]), *reversed(order)]
+
+
+def covering_runs(graph):
+    """Runs that together take each step of the graph."""
+    left = [list(reversed(steps)) for steps in graph.steps]
+    for number in range(len(left)):
+        while left[number]:
+            run = Run(graph.first)
+            for pid in graph.order_to(number):
+                run.go(pid)
+            at = number
+            while left[at] and run.may_go(left[at][-1][0]):
+                pid, at_next = left[at].pop()
+                run.go(pid)
+                at = at_next
+            yield run

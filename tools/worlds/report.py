@@ -1,0 +1,65 @@
+"""How ends of orders are told, and what several parts of a search have told, added up."""
+import re
+from typing import NamedTuple
+
+from .orders import End
+
+INDENT = "    "
+
+
+class Told(NamedTuple):
+    """An end, how many orders came to it (None where some go round, so that there is no number), and a schedule."""
+    end: End
+    count: int | None
+    turns: str
+
+
+def count_text(count):
+    return f"{count:,}"
+
+
+def orders_text(count):
+    return f"{count_text(count)} order{'' if count == 1 else 's'}"
+
+
+def ends_text(count):
+    return f"{count} end{'' if count == 1 else 's'}"
+
+
+def turns_text(turns):
+    return " / ".join(f"{pid} {count}" for pid, count in turns) or "no turns"
+
+
+def print_ends(ends):
+    """Prints the ends, those to which the most orders came first."""
+    total = sum(told.count or 0 for told in ends)
+    for told in sorted(ends, key=lambda told: -(told.count or 0)):
+        often = "some orders" if told.count is None else f"{count_text(told.count)} of {orders_text(total)}"
+        print(f"\n{often}: {told.end.name or 'no processes'}")
+        for line in [*told.end.reasons, told.turns]:
+            print(INDENT + line)
+
+
+def read_ends(lines):
+    """The ends in lines that were printed so."""
+    head, below = None, []
+    for line in [*lines, ""]:
+        if head and line.startswith(INDENT):
+            below.append(line.strip())
+            continue
+        if head and below:
+            count = None if head[1] == "some" else int(head[2].replace(",", ""))
+            yield Told(End(head[3], tuple(below[:-1])), count, below[-1])
+        head, below = re.fullmatch(r"(some|([\d,]+) of [\d,]+) orders?: (.*)", line.rstrip("\n")), []
+
+
+def add_up(ends):
+    """The ends of several parts, each once, with the schedule that has the fewest lines."""
+    whole = {}
+    for told in ends:
+        before = whole.setdefault(told.end, told)
+        if before is not told:
+            count = None if None in (before.count, told.count) else before.count + told.count
+            turns = min(before.turns, told.turns, key=lambda turns: turns.count("/"))
+            whole[told.end] = Told(told.end, count, turns)
+    return list(whole.values())

@@ -1,0 +1,91 @@
+"""Turns taken in a world: what the trace has of them, and what each order of calls is as a schedule."""
+from .calls import do_call
+from .cpu import AT_CALL, AT_STUCK, ROUND
+from .numbers import STUCK
+
+
+def choices(world):
+    """The processes that come to another call, or to their end, by turns of their own."""
+    return [pid for pid, process in world.processes.items()
+            if process.state == "ready" and process.stop in (AT_CALL, AT_STUCK)]
+
+
+def turns_to_call(world, pid):
+    """How many turns take the process through its next call."""
+    return world.processes[pid].ahead + 1
+
+
+def go(world, pid):
+    """Takes the process through its next call: what the trace says of it."""
+    process = world.processes[pid]
+    world.items += turns_to_call(world, pid)
+    if process.stop == AT_STUCK:
+        world.end(pid, STUCK)
+        said = f"{pid} stuck"
+    else:
+        name = world.images[process.program].code[process.cpu.counter].name
+        said = f"{pid} {name} {do_call(world, pid)}"
+    world.follow()
+    return said
+
+
+def take_turns(world, pid, count):
+    """Takes so many turns, as the lab does: yields what the trace says of each that isn't skipped."""
+    for _ in range(count):
+        process = world.processes.get(pid)
+        if process is None or process.state != "ready" or world.items >= world.limit:
+            return
+        if process.ahead == 0 and process.stop in (AT_CALL, AT_STUCK):
+            yield go(world, pid)
+        else:
+            process.ahead -= process.stop != ROUND
+            world.items += 1
+            yield f"{pid} run 1"
+
+
+def is_over(world, schedule):
+    """Whether a turn of the schedule would add an item where the trace has as many as it may have."""
+    return world.items >= world.limit and any(
+        count and pid in world.processes and world.processes[pid].state == "ready" for pid, count in schedule)
+
+
+def played(world, schedule):
+    """The lines of the trace of a schedule from this world, which goes on to its end."""
+    lines = []
+    for place, (pid, count) in enumerate(schedule):
+        before = world.items
+        lines += take_turns(world, pid, count)
+        rest = [(pid, count - (world.items - before)), *schedule[place + 1:]]
+        if is_over(world, rest):
+            return [*lines, *last_lines(world), "end limit"]
+    return [*lines, *last_lines(world), "end schedule"]
+
+
+def last_lines(world):
+    """The lines of the processes at the end of a trace, by koid."""
+    return [f"process {pid} {process.state_text()}" for pid, process in sorted(world.processes.items())]
+
+
+def schedule_of(world, order):
+    """The schedule that takes the processes of the order through their calls, from this world on."""
+    schedule = []
+    for pid in order:
+        schedule.append((pid, turns_to_call(world, pid)))
+        go(world, pid)
+    return joined(schedule)
+
+
+def joined(schedule):
+    """The schedule with turns that follow each other in one line, where one process has them."""
+    lines = []
+    for pid, count in schedule:
+        if lines and lines[-1][0] == pid:
+            lines[-1] = (pid, lines[-1][1] + count)
+        elif count:
+            lines.append((pid, count))
+    return lines
+
+
+def schedule_text(schedule):
+    """The lines of the schedule, as the lab reads them."""
+    return "".join(f"{pid} {count}\n" for pid, count in schedule)

@@ -47,6 +47,8 @@ class Lab:
         self.program = Path(program).resolve() if program else find_program(tool)
         # How often it was started for a trace.
         self.runs = 0
+        if not self.answer(b"", "--version").startswith(b"zlab "):
+            raise Trouble(f"{self.program} isn't zlab")
 
     def answer(self, given, *words):
         """What the program writes, where it ends with status 0."""

@@ -14,16 +14,9 @@ class Told(NamedTuple):
     turns: str
 
 
-def count_text(count):
-    return f"{count:,}"
-
-
-def orders_text(count):
-    return f"{count_text(count)} order{'' if count == 1 else 's'}"
-
-
-def ends_text(count):
-    return f"{count} end{'' if count == 1 else 's'}"
+def counted(count, noun):
+    """So many of what the noun names."""
+    return f"{count:,} {noun}{'' if count == 1 else 's'}"
 
 
 def turns_text(turns):
@@ -34,7 +27,7 @@ def print_ends(ends):
     """Prints the ends, those to which the most orders came first."""
     total = sum(told.count or 0 for told in ends)
     for told in sorted(ends, key=lambda told: -(told.count or 0)):
-        often = "some orders" if told.count is None else f"{count_text(told.count)} of {orders_text(total)}"
+        often = "some orders" if told.count is None else f"{told.count:,} of {counted(total, 'order')}"
         print(f"\n{often}: {told.end.name or 'no processes'}")
         for line in [*told.end.reasons, told.turns]:
             print(INDENT + line)

@@ -15,9 +15,9 @@ class Scenario:
         self.lab = lab
         lines = data.split(b"\n")
         end = self.read(lines)
-        front = b"\n".join(lines[:end])
-        # What stands above the line of a schedule, with the end of its last line.
-        self.text = front + b"\n" if front and not front.endswith(b"\n") else front
+        # What stands above the line of a schedule, and the same without what the lab skips.
+        self.text = b"".join(line + b"\n" for line in lines[:end])
+        self.short_text = b"".join(line + b"\n" for line in lines[:end] if line and not line.startswith(b"#"))
 
     def read(self, lines):
         """Reads statements up to a line `--`, the number of which it gives."""

@@ -1,4 +1,6 @@
 """How the tools start the lab: which program it is, and what it answers."""
+import os
+import signal
 import subprocess
 import sys
 from pathlib import Path
@@ -40,6 +42,30 @@ def find_program(tool):
     return program
 
 
+def run_tool(tool, main):
+    """Does what main does, and ends with its status; one line says what went wrong, where something does."""
+    def interrupted(*_):
+        raise KeyboardInterrupt
+
+    signal.signal(signal.SIGTERM, interrupted)
+    try:
+        status = main()
+        sys.stdout.flush()
+    except Trouble as trouble:
+        print(f"{tool}: {trouble}", file=sys.stderr)
+        status = 2
+    except KeyboardInterrupt:
+        print(f"{tool}: interrupted", file=sys.stderr)
+        status = 130
+    except OSError as fault:
+        # What is left isn't tried once more at the end.
+        os.dup2(os.open(os.devnull, os.O_WRONLY), sys.stdout.fileno())
+        if not isinstance(fault, BrokenPipeError):
+            print(f"{tool}: can't write the output: {fault.strerror}", file=sys.stderr)
+        status = 2
+    sys.exit(status)
+
+
 class Lab:
     """The program, as the tools start it."""
 
@@ -50,16 +76,21 @@ class Lab:
         if not self.answer(b"", "--version").startswith(b"zlab "):
             raise Trouble(f"{self.program} isn't zlab")
 
-    def answer(self, given, *words):
-        """What the program writes, where it ends with status 0."""
+    def run(self, given, *words):
+        """The program's status, and what it writes to standard output and to standard error."""
         try:
             run = subprocess.run([self.program, *words], input=given, capture_output=True)
         except OSError as fault:
             raise Trouble(f"can't start {self.program}: {fault.strerror}") from None
-        if run.returncode != 0:
-            said = [line for line in (run.stdout + run.stderr).decode(errors="replace").splitlines() if line]
-            raise Trouble("; ".join(said[:2]) or f"{self.program} ended with status {run.returncode}")
-        return run.stdout
+        return run.returncode, run.stdout, run.stderr
+
+    def answer(self, given, *words):
+        """What the program writes, where it ends with status 0."""
+        status, written, said = self.run(given, *words)
+        if status != 0:
+            lines = [line for line in (written + said).decode(errors="replace").splitlines() if line]
+            raise Trouble("; ".join(lines[:2]) or f"{self.program} ended with status {status}")
+        return written
 
     def trace(self, scenario, schedule):
         """The lines of the trace of a scenario, which has no schedule, along the turns of one."""

@@ -2,7 +2,7 @@
 import heapq
 from collections import defaultdict, deque
 
-from .orders import Run
+from .orders import run_of
 
 
 def orders_to_ends(graph):
@@ -80,16 +80,15 @@ def way_to(graph, came, place):
 
 
 def covering_runs(graph):
-    """Runs that together take each step of the graph."""
+    """Runs that together take each step of the graph, each with how many steps are left to take then."""
     left = [list(reversed(steps)) for steps in graph.steps]
+    count = sum(len(steps) for steps in left)
     for number in range(len(left)):
         while left[number]:
-            run = Run(graph.first)
-            for pid in graph.order_to(number):
-                run.go(pid)
+            run = run_of(graph.first, graph.order_to(number))
             at = number
             while left[at] and run.may_go(left[at][-1][0]):
-                pid, at_next = left[at].pop()
+                pid, target = left[at].pop()
                 run.go(pid)
-                at = at_next
-            yield run
+                at, count = target, count - 1
+            yield run, count

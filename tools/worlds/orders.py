@@ -6,6 +6,15 @@ from .ends import end_name, end_reasons, is_cut
 from .turns import choices, go, last_lines, turns_to_call
 
 
+# How many calls are the same in all parts of a search at most.
+MOST_SHARED = 24
+
+
+def may_go(world, pid):
+    """Whether the trace has room for the process up to its next call."""
+    return world.items + turns_to_call(world, pid) <= world.limit
+
+
 class End(NamedTuple):
     """An end of orders: the states of its processes, and why nobody goes on."""
     name: str
@@ -18,10 +27,6 @@ class Run:
     def __init__(self, first):
         self.world = first.copy()
         self.order, self.turns, self.lines = [], [], []
-
-    def may_go(self, pid):
-        """Whether the trace has room for the process up to its next call."""
-        return self.world.items + turns_to_call(self.world, pid) <= self.world.limit
 
     def go(self, pid):
         count = turns_to_call(self.world, pid)
@@ -108,7 +113,7 @@ class Graph:
         if not pids:
             self.come_to_end(number, world, bad)
         for pid in pids:
-            if world.items + turns_to_call(world, pid) > world.limit:
+            if not may_go(world, pid):
                 self.is_cut = True
                 continue
             after = world.copy()
@@ -130,18 +135,21 @@ class Graph:
 
 
 def roots_of(first, part, parts):
-    """Where a part of the search begins: worlds, each with an order to it and the number of orders.
+    """Where a part of the search begins, and what it alone has to try of the way there.
 
-    All parts take the same first calls, until there are some worlds for each, and share these worlds out.
-    An end on the way is the first part's.
+    A root is a world with an order to it and the number of orders. All parts take the same first calls, until
+    there are some worlds for each, and share these worlds out. An end on the way is the first part's, and so
+    are orders that lead to a world to which another one led before.
     """
-    roots, level = [], [(first, (), 1)]
-    while level and len(level) < 4 * parts:
+    roots, others, level = [], [], [(first, (), 1)]
+    for _ in range(MOST_SHARED):
+        if len(level) >= 4 * parts or not all(may_go(world, pid) for world, _, _ in level for pid in choices(world)):
+            break
         after, numbers = [], Graph(first)
         for world, order, count in level:
             pids = choices(world)
             if not pids:
-                roots += [(world, order, count)] if part == 1 else []
+                roots.append((world, order, count))
             for pid in pids:
                 next_world = world.copy()
                 go(next_world, pid)
@@ -149,7 +157,10 @@ def roots_of(first, part, parts):
                 if new:
                     after.append((next_world, (*order, pid), count))
                 else:
-                    same, to_it, others = after[number]
-                    after[number] = (same, to_it, others + count)
+                    same, to_it, so_far = after[number]
+                    after[number] = (same, to_it, so_far + count)
+                    others.append((*order, pid))
         level = after
-    return [*roots, *level[part - 1::parts]]
+    first_part = (roots, others) if part == 1 else ([], [])
+    mine = [*first_part[0], *level[part - 1::parts]]
+    return mine, [*first_part[1], *(order for _, order, _ in mine)]

@@ -2,7 +2,7 @@
 import heapq
 from collections import defaultdict, deque
 
-from .orders import run_of
+from .orders import may_go, run_of
 
 
 def orders_to_ends(graph):
@@ -71,12 +71,14 @@ def shortest_orders(graph):
 
 
 def way_to(graph, came, place):
-    """The order by which the place was come to."""
-    order = []
-    while came[place] is not None:
-        order.append(place[1])
-        place = came[place]
-    return [*graph.order_to(place[0]), *reversed(order)]
+    """The order by which the place was come to; where a trace has no room for it, the first one that led there."""
+    order, at = [], place
+    while came[at] is not None:
+        order.append(at[1])
+        at = came[at]
+    whole = [*graph.order_to(at[0]), *reversed(order)]
+    has_room = run_of(graph.first, whole).world.items <= graph.first.limit
+    return whole if has_room else graph.order_to(place[0])
 
 
 def covering_runs(graph):
@@ -87,7 +89,7 @@ def covering_runs(graph):
         while left[number]:
             run = run_of(graph.first, graph.order_to(number))
             at = number
-            while left[at] and run.may_go(left[at][-1][0]):
+            while left[at] and may_go(run.world, left[at][-1][0]):
                 pid, target = left[at].pop()
                 run.go(pid)
                 at, count = target, count - 1

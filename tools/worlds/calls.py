@@ -1,9 +1,9 @@
 """The 23 system calls, each with its refusals in their order (docs/ASSEMBLER.md#calls, docs/calls)."""
 from .numbers import (
-    ABSOLUTE, ACTIONS, ALLOW, CONDITIONS, DENY, DESTROY, DUPLICATE, KILL, KILLED, KINDS, MANAGE_JOB, MANAGE_PROCESS,
-    MOST_DEPTH, MOST_HANDLES, MOST_USER_PACKETS, NEW_OBJECTS, READ, RELATIVE, SAME_RIGHTS, SET_POLICY, SIGNAL,
-    SIGNALED, SIGNAL_PEER, STATUSES, TRANSFER, USER_SIGNALS, WAIT, WRITE)
-from .world import Awaited, Entry, Object, Packet, Wait, told_of
+    ABSOLUTE, ACTIONS, ALLOW, BY_POLICY, CONDITIONS, DENY, DESTROY, DUPLICATE, KILL, KILLED, KINDS, MANAGE_JOB,
+    MANAGE_PROCESS, MOST_DEPTH, MOST_HANDLES, MOST_USER_PACKETS, NEW_OBJECTS, READ, RELATIVE, SAME_RIGHTS,
+    SET_POLICY, SIGNAL, SIGNALED, SIGNAL_PEER, STATUSES, TRANSFER, USER_SIGNALS, WAIT, WRITE)
+from .world import Awaited, Entry, Object, Packet, Wait
 
 
 class Refused(Exception):
@@ -15,9 +15,9 @@ class Refused(Exception):
 
 
 class Ended(Exception):
-    """The call ends its caller with the code."""
+    """The call ends its caller with the code, that of a policy if no other is said."""
 
-    def __init__(self, code=None):
+    def __init__(self, code=BY_POLICY):
         super().__init__(code)
         self.code = code
 
@@ -227,23 +227,18 @@ def port_queue(call):
     return ()
 
 
-def first_packet(call, koid):
-    packet, *rest = call.world.objects[koid].packets
-    call.world.change(koid, packets=tuple(rest))
-    return told_of(packet)
-
-
 def port_wait(call):
     koid = call.handle(1, READ, "port").koid
-    if not call.world.objects[koid].packets:
+    values = call.world.take_packet(koid)
+    if values is None:
         raise Blocked(koid, None)
-    return first_packet(call, koid)
+    return values
 
 
 def port_poll(call):
-    koid = call.handle(1, READ, "port").koid
-    refuse_if(not call.world.objects[koid].packets, "TIMED_OUT")
-    return first_packet(call, koid)
+    values = call.world.take_packet(call.handle(1, READ, "port").koid)
+    refuse_if(values is None, "TIMED_OUT")
+    return values
 
 
 def port_cancel(call):
@@ -394,9 +389,6 @@ def do_call(world, pid):
         world.blocked.append(pid)
         return "blocked"
     except Ended as ended:
-        if ended.code is None:
-            world.end_by_policy(pid)
-        else:
-            world.end(pid, ended.code)
+        world.end(pid, ended.code)
         return f"ended {process.exit_code}"
 

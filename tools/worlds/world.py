@@ -3,7 +3,7 @@ from typing import NamedTuple
 
 from .cpu import Cpu, burst
 from .numbers import (
-    BY_POLICY, DEFAULT_RIGHTS, KILLED, NO_JOBS, NO_PROCESSES, PEER_CLOSED, READABLE, TERMINATED, WRITABLE)
+    ALLOW, DEFAULT_RIGHTS, KILLED, NO_JOBS, NO_PROCESSES, PEER_CLOSED, READABLE, STATUSES, TERMINATED, WRITABLE)
 
 
 class Entry(NamedTuple):
@@ -19,11 +19,6 @@ class Packet(NamedTuple):
     observed: int
     # Of a wait: process, value and object by which it was made.
     source: tuple | None
-
-
-def told_of(packet):
-    """What a packet gives to the registers."""
-    return packet.key, packet.type, packet.trigger, packet.observed
 
 
 class Wait(NamedTuple):
@@ -187,7 +182,7 @@ class World:
 
     def action_for(self, job, condition):
         """What the policy of the job says to the condition; unset it allows."""
-        return dict(self.objects[job].policy).get(condition, 0) if job in self.objects else 0
+        return dict(self.objects[job].policy).get(condition, ALLOW)
 
     def active(self, koid):
         """The active signals of an object, none where it is gone."""
@@ -229,9 +224,6 @@ class World:
             self.has_dropped = True
             self.processes[pid].end(code)
             self.blocked = [other for other in self.blocked if other != pid]
-
-    def end_by_policy(self, pid):
-        self.end(pid, BY_POLICY)
 
     def kill(self, top):
         """Ends the process, or the job and all below it."""
@@ -278,22 +270,32 @@ class World:
         if holding:
             self.waits = [wait for wait in self.waits if wait not in holding]
 
+    def take_packet(self, port):
+        """What the first packet of the port gives to registers, or nothing where there is none."""
+        packets = self.objects[port].packets if port in self.objects else ()
+        if not packets:
+            return None
+        self.change(port, packets=packets[1:])
+        packet = packets[0]
+        return packet.key, packet.type, packet.trigger, packet.observed
+
+    def what_came(self, awaited):
+        """What the registers get if what is waited for is there, or nothing."""
+        if awaited.mask is None:
+            return self.take_packet(awaited.koid)
+        signals = self.active(awaited.koid)
+        return (signals,) if signals & awaited.mask else None
+
     def wake(self):
         """Each blocked process whose condition holds becomes ready, in the order in which they blocked."""
         for pid in self.blocked[:]:
             process = self.processes[pid]
-            koid, mask, destinations = process.awaited
-            if mask is not None:
-                signals = self.active(koid)
-                values = (0, signals) if signals & mask else None
-            else:
-                packets = self.objects[koid].packets if koid in self.objects else ()
-                values = (0, *told_of(packets[0])) if packets else None
-                self.change(koid, packets=packets[1:]) if packets else None
-            if values:
+            came = self.what_came(process.awaited)
+            if came is not None:
+                destinations = process.awaited.destinations
                 self.blocked.remove(pid)
                 process.state, process.awaited = "ready", None
-                self.answer(pid, destinations, values)
+                self.answer(pid, destinations, (STATUSES["OK"], *came))
 
     def answer(self, pid, destinations, values):
         """The registers get the values, and the next instruction stands next."""

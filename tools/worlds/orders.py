@@ -134,33 +134,38 @@ class Graph:
             self.found = self.order_to(number)
 
 
-def roots_of(first, part, parts):
-    """Where a part of the search begins, and what it alone has to try of the way there.
+def roots_of(graph, part, parts, bad):
+    """Where a part of the search begins, and the orders that it alone has to try of the way there.
 
     A root is a world with an order to it and the number of orders. All parts take the same first calls, until
     there are some worlds for each, and share these worlds out. An end on the way is the first part's, and so
-    are orders that lead to a world to which another one led before.
+    are orders that lead to a world to which another one led before. What is bad on the way is found by each.
     """
-    roots, others, level = [], [], [(first, (), 1)]
+    ends, others, level = [], [], [(graph.first, (), 1)]
     for _ in range(MOST_SHARED):
         if len(level) >= 4 * parts or not all(may_go(world, pid) for world, _, _ in level for pid in choices(world)):
             break
-        after, numbers = [], Graph(first)
-        for world, order, count in level:
-            pids = choices(world)
-            if not pids:
-                roots.append((world, order, count))
-            for pid in pids:
-                next_world = world.copy()
-                go(next_world, pid)
-                number, new = numbers.number(next_world, None)
-                if new:
-                    after.append((next_world, (*order, pid), count))
-                else:
-                    same, to_it, so_far = after[number]
-                    after[number] = (same, to_it, so_far + count)
-                    others.append((*order, pid))
-        level = after
-    first_part = (roots, others) if part == 1 else ([], [])
-    mine = [*first_part[0], *level[part - 1::parts]]
-    return mine, [*first_part[1], *(order for _, order, _ in mine)]
+        ends += [root for root in level if not choices(root[0])]
+        level, merged = next_level(graph, level, bad)
+        others += merged
+    mine = [*(ends if part == 1 else []), *level[part - 1::parts]]
+    return mine, [*(others if part == 1 else []), *(order for _, order, _ in mine)]
+
+
+def next_level(graph, level, bad):
+    """The worlds one call further, and the orders that led to one to which another order led before."""
+    after, merged, numbers = [], [], Graph(graph.first)
+    for world, order, count in level:
+        for pid in choices(world):
+            next_world, longer = world.copy(), (*order, pid)
+            said = go(next_world, pid)
+            if graph.found is None and bad.has_answer(said):
+                graph.found = longer
+            number, new = numbers.number(next_world, None)
+            if new:
+                after.append((next_world, longer, count))
+            else:
+                same, to_it, so_far = after[number]
+                after[number] = (same, to_it, so_far + count)
+                merged.append(longer)
+    return after, merged

@@ -1,4 +1,4 @@
-"""Turns taken in a world: what the trace has of them, and what each order of calls is as a schedule."""
+"""Turns taken in a world: what the trace has of them, and schedules as the lab reads them."""
 from .calls import do_call
 from .cpu import AT_CALL, AT_STUCK, ROUND
 from .numbers import STUCK
@@ -64,15 +64,6 @@ def played(world, schedule):
 def last_lines(world):
     """The lines of the processes at the end of a trace, by koid."""
     return [f"process {pid} {process.state_text()}" for pid, process in sorted(world.processes.items())]
-
-
-def schedule_of(world, order):
-    """The schedule that takes the processes of the order through their calls, from this world on."""
-    schedule = []
-    for pid in order:
-        schedule.append((pid, turns_to_call(world, pid)))
-        go(world, pid)
-    return joined(schedule)
 
 
 def joined(schedule):

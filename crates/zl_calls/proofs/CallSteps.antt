@@ -4,9 +4,12 @@ use Rattle.zl_code.specs.Sound.{IsSound as IsSoundWorld}
 use Rattle.zl_code.specs.declared.history.CallName.{CallName}
 use Rattle.zl_code.specs.declared.history.Outcome.{Outcome}
 use Rattle.zl_code.specs.declared.history.TraceItem.TheVariants as item
+use Rattle.zl_calls.specs.Acting.{StaysAwake}
+use Rattle.zl_calls.specs.Registered.{world_left}
 use Rattle.zl_calls.specs.Reaching.{CallActs, CalledAmong, acts, policed, reaches}
 use Rattle.zl_calls.specs.calls.Task.{Lab, lab}
 use Rattle.zl_calls.specs.declared.process.Process.{Process}
+use Rattle.zl_calls.proofs.LocalMoves.{moved_stays}
 use Rattle.zl_calls.proofs.Performing.{HasActed, HasLeft, alone_so, moves_so, stops_so, write_of}
 use Rattle.zl_calls.proofs.Positions.{first_at}
 use Rattle.zl_calls.proofs.ReachSteps.{reaches_so}
@@ -52,6 +55,12 @@ module _ (lib : Library) (ps : List Process) (r : Objects) (whole : IsConsistent
   moves_from p2 next cpu =
       rw (same_list, same_objects, same_blocked)
       (moves_so lib ps r whole blocked are sound pid place p found read is_ready_there p2 (rw same_process at next) (rw same_process at cpu))
+
+  -- nothing ends, fires or wakes behind it
+  pub stays_from : (p2 : Process) → p2 ≡ record p1 { cpu = p2.cpu } → StaysAwake (world_blocked ps r blocked) (world_left (set ps1 place p2) r1 b1) (world_blocked (set ps1 place p2) r1 b1)
+  stays_from p2 cpu =
+      rw (same_list, same_objects, same_blocked)
+      (moved_stays lib ps r whole blocked are sound pid place p found read is_ready_there p2 (rw same_process at cpu))
 
   pub stops_from : (p2 : Process) (r2 : Objects) → (call_in (next_for lib (process_value p)) ≡ None) → (call_in (next_for lib (process_value p1)) ≡ None → next_for lib (process_value p1) ≡ IsStuck) → Ends STUCK p1 r1 p2 r2
       → HasLeft lib ps (set ps1 place p2) r r2 blocked b1 pid (item.Stuck pid)

@@ -38,7 +38,7 @@ agreeing {X} p q (x ∷ xs) within all = elim (cases_Bool (q x)) as (λ _. filte
 ]
 
 -- in a sound world each wait's object is there
-watched_there : (w : World) → IsSoundWorld w → All (λ (x : Wait). IsTrue (has_key w.objects x.object)) w.waits
+pub watched_there : (w : World) → IsSoundWorld w → All (λ (x : Wait). IsTrue (has_key w.objects x.object)) w.waits
 unfolding get
 watched_there w sound i d inside = one (slice_index_or w.waits i d) (sound.waits i d inside)
   where

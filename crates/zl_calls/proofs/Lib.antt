@@ -79,9 +79,12 @@ pub mod Idle
 pub mod ReachSteps
 pub mod CreateCalls
 pub mod CreateSteps
+pub mod LocalMoves
+pub mod LocalRuns
 pub mod CallSteps
 pub mod Calling
 pub mod StepItems
+pub mod Advancing
 pub mod BootGiving
 pub mod BootDeclared
 pub mod BootFaults

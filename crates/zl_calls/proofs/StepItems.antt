@@ -1,5 +1,5 @@
 -- What the item of a step tells of the process: which call it did, that it ran, or that it was stuck.
-use Rattle.zl_calls.proofs.Common.{◌≡◌, ℕ, false, List, ap, refl, sym, ◌∙◌, subst, Option, Some, None, IsTrue, IfSome, get, is_ready, is_process, state_passes, call_name, Library, Row, row_of, row_named, call_parts, Program, Site, site_of, name_of, Step, AtCall, IsStuck, Moves, calls_at, next_for, call_in, call_for, is_ready_in, StepsTo, TakesStep, Performs, takes_memory, map, wakes, Objects, IfNone, process_entry, world_blocked, DoesNext}
+use Rattle.zl_calls.proofs.Common.{◌≡◌, ℕ, true, false, false≢true, List, ap, refl, sym, ◌∙◌, subst, Option, Some, None, IsTrue, IfSome, get, is_ready, is_process, state_passes, call_name, Library, Row, row_of, row_named, call_parts, Program, Site, site_of, name_of, Step, AtCall, IsStuck, Moves, calls_at, next_for, call_in, call_for, is_ready_in, StepsTo, TakesStep, Performs, takes_memory, map, wakes, Objects, IfNone, process_entry, world_blocked, DoesNext}
 use Rattle.zl_code.proofs.Common.{Acts, Next, Cpu, World as WorldValue, Process as ProcessValue, next_at}
 use Rattle.zl_rights.specs.declared.status.Status.TheVariants as status
 use Rattle.zl_code.specs.declared.history.CallName.{CallName}
@@ -20,7 +20,12 @@ use Rattle.zl_code.proofs.Stepping.{wanting_step}
 use Rattle.std.specs.Prelude.{slice_get}
 use Rattle.zl_calls.specs.declared.process.Process.{Process}
 use Rattle.zl_code.proofs.Common.{pid_of}
+use Rattle.zl_code.proofs.AwakeRuns.{step_awake}
+use Rattle.zl_code.proofs.ProgramsKept.{step_programs}
 use Rattle.zl_code.proofs.SoundRuns.{step_sound}
+use Rattle.zl_code.specs.Programs.{HavePrograms}
+use Rattle.zl_calls.specs.Acting.{is_local}
+use Rattle.zl_calls.specs.Blocking.{then_blocked}
 use Rattle.zl_code.specs.Sound.{IsSound}
 use Rattle.zl_calls.specs.Registered.{EndsUnheld, FiresWaits, world_left}
 use Rattle.zl_calls.specs.World.{World, call_of}
@@ -150,6 +155,12 @@ module _ (l l2 : World) (pid at : ℕ) where
 
 -- ---- a step, once processes woke
 
+-- nobody blocks by a local instruction
+pub local_list : (pid : ℕ) (x : TraceItem) (blocked : List ℕ) → is_local x ≡ true → then_blocked pid x blocked ≡ blocked
+local_list pid (item.Run at count) blocked local = refl
+local_list pid (item.Call at call o) blocked local = absurd (false≢true local)
+local_list pid (item.Stuck at) blocked local = absurd (false≢true local)
+
 abbrev pub lab_value : Library → List Process → Objects → List ℕ → World
 lab_value lib ps r blocked = record { programs = lib; world = world_blocked ps r blocked }
 
@@ -180,6 +191,38 @@ module _ (lib : Library) (ps : List Process) (r : Objects) (blocked : List ℕ) 
       });
     };
   }
+
+  -- the same of a local instruction, behind which nothing is due
+  pub takes_local : (ps2 : List Process) (r2 : Objects) (blocked2 : List ℕ) (x : TraceItem) → is_local x ≡ true → DoesNext lib (world_blocked ps r blocked) pid x (world_left ps2 r2 (then_blocked pid x blocked2))
+      → wakes (world_left ps2 r2 blocked2) ≡ world_blocked ps2 r2 blocked2 → TakesStep (lab_value lib ps r blocked) pid (lab_value lib ps2 r2 blocked2) x
+  unfolding is_process
+  takes_local ps2 r2 blocked2 x local does quiet = record {
+    pid_is = does.pid_is;
+    ready = rw (does.acted.is_there, does.acted.is_ready) refl;
+    steps = record {
+      programs = refl;
+      step = subst (λ (k : ℕ). Step lib (world_blocked ps r blocked) k x (world_blocked ps2 r2 blocked2)) (sym does.pid_is) (record {
+        process = does.acted.process;
+        is_there = does.acted.is_there;
+        is_ready = does.acted.is_ready;
+        acted = does.acted.acted;
+        acts = does.acted.acts;
+        settled = world_left ps2 r2 (then_blocked pid x blocked2);
+        settles = does.acted.settles;
+        ends_awake = sym quiet ∙ ap (λ (b : List ℕ). wakes (world_left ps2 r2 b)) (sym (local_list pid x blocked2 local));
+      });
+    };
+  }
+
+-- behind such a step nothing is due
+pub stepped_awake : (lib : Library) (ps ps2 : List Process) (r r2 : Objects) (blocked blocked2 : List ℕ) (pid : ℕ) (x : TraceItem) → TakesStep (lab_value lib ps r blocked) pid (lab_value lib ps2 r2 blocked2) x
+    → wakes (world_blocked ps2 r2 blocked2) ≡ world_blocked ps2 r2 blocked2
+stepped_awake lib ps ps2 r r2 blocked blocked2 pid x takes = step_awake lib (world_blocked ps r blocked) (pid_of x) x (world_blocked ps2 r2 blocked2) takes.steps.step
+
+-- it leaves each process a program of the library
+pub stepped_programs : (lib : Library) (ps ps2 : List Process) (r r2 : Objects) (blocked blocked2 : List ℕ) (pid : ℕ) (x : TraceItem) → TakesStep (lab_value lib ps r blocked) pid (lab_value lib ps2 r2 blocked2) x
+    → HavePrograms lib (world_blocked ps r blocked) → HavePrograms lib (world_blocked ps2 r2 blocked2)
+stepped_programs lib ps ps2 r r2 blocked blocked2 pid x takes all = step_programs lib (world_blocked ps r blocked) (pid_of x) x (world_blocked ps2 r2 blocked2) all takes.steps.step
 
 -- such a step leads from a sound world to a sound one
 pub stepped_sound : (lib : Library) (ps ps2 : List Process) (r r2 : Objects) (blocked blocked2 : List ℕ) (pid : ℕ) (x : TraceItem) → TakesStep (lab_value lib ps r blocked) pid (lab_value lib ps2 r2 blocked2) x

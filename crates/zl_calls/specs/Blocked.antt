@@ -1,7 +1,8 @@
 -- What is true of the list of blocked processes. No public clause cites this module.
 use Rattle.std.specs.Prelude.{ℕ, ◌≡◌, ◌<◌, ◌≤◌, ◌^◌, ◌==◌, List, map, length, Some, IsTrue, if◌then◌else◌}
 use Rattle.std.specs.List.{filter}
-use Rattle.zl_code.specs.Common.{get, Process as ProcessValue}
+use Rattle.zl_code.specs.Common.{get, wakes, Process as ProcessValue, Library}
+use Rattle.zl_code.specs.Programs.{HavePrograms}
 use Rattle.zl_code.specs.Sound.{IsSound, is_blocked}
 use Rattle.zl_rights.specs.Signals.{state_passes}
 use Rattle.zl_objects.specs.Objects.{Objects}
@@ -15,9 +16,13 @@ pub record AreBlocked (processes : List Process) (blocked : List ℕ) : Type 0 w
   pub once : (k : ℕ) → length (filter (λ q. q == k) blocked) ≡ (if state_passes is_blocked (get (map process_entry processes) k) then 1 else 0)
   pub counters : (k : ℕ) (p : ProcessValue) → get (map process_entry processes) k ≡ Some p → IsTrue (is_blocked p.state) → p.cpu.counter < 2 ^ 32
 
--- the invariant of the processes and objects, and of the list of those that are blocked, which has room for all; their world is sound
-pub record IsWhole (processes : List Process) (r : Objects) (blocked : List ℕ) (capacity : ℕ) : Type 0 where
+-- the invariant of the programs, the processes and objects, and of the list of those that are blocked, which has room for all
+pub record IsWhole (lib : Library) (processes : List Process) (r : Objects) (blocked : List ℕ) (capacity : ℕ) : Type 0 where
   pub lab : IsConsistent processes r
+  -- their world is sound
   pub sound : IsSound (world_blocked processes r blocked)
   pub are_blocked : AreBlocked processes blocked
   pub room : length processes ≤ capacity
+  -- nothing is due: no wait holds, and no process that is blocked can wake
+  pub awake : wakes (world_blocked processes r blocked) ≡ world_blocked processes r blocked
+  pub programs : HavePrograms lib (world_blocked processes r blocked)

@@ -14,3 +14,4 @@ pub mod Registered
 pub mod Leaving
 pub mod Policed
 pub mod Reaching
+pub mod Turns

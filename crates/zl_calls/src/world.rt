@@ -1,4 +1,4 @@
-ghost use Rattle.std.specs.Prelude.{length, ◌≡◌, ◌≢◌, ◌≤◌, false, IsSome, IsTrue, IfSome, IfNone, IfOk, OnOk, IfErr, None, slice_get, map};
+ghost use Rattle.std.specs.Prelude.{length, ◌≡◌, ◌≢◌, ◌≤◌, ◌↔◌, false, IsSome, IsTrue, IfSome, IfNone, IfOk, OnOk, IfErr, None, slice_get, map};
 ghost use Rattle.std.specs.Ordering.{nat_cmp};
 ghost use Rattle.std.specs.FinMap.Entries.{is_sorted};
 ghost use Rattle.std.specs.Option.{option_map};
@@ -7,20 +7,22 @@ ghost use Rattle.zl_code.specs.declared.boot.BootCause.TheVariants.{NoMemory};
 ghost use Rattle.zl_code.specs.Boot.{IsBoot, FirstFault, MOST_ITEMS};
 ghost use Rattle.zl_code.specs.Headline.{IsSizedBoot};
 ghost use Rattle.zl_code.specs.Starting.{program_of};
+ghost use Rattle.zl_code.specs.Steps.{Runs};
 ghost use Rattle.zl_calls.specs.World.{call_for, state_in, is_ready_in};
 ghost use Rattle.zl_calls.specs.Makes.{IsReached};
 ghost use Rattle.zl_calls.specs.Steps.{Performs, StepsTo, TakesStep, local_item, takes_memory};
+ghost use Rattle.zl_calls.specs.Turns.{Fits, IsTurn, advanced, steps_done};
 
 use crate::blocking::add_blocked;
 use crate::booting::{Made, booted};
 use crate::process::Process;
-use crate::stepping::{act_for, next_name, place_of};
+use crate::stepping::{act_for, is_local, next_name, place_of};
 use crate::waits::{end_unheld, fire_waits};
 use crate::waking::wake;
-use std::alloc::Global;
+use std::alloc::{AllocError, Global};
 use std::marker::Model;
 use zl_code::{Boot, BootCause, BootFault, CallName, Image, Outcome, ProcState, TraceItem};
-use zl_interp::{Cpu, Library};
+use zl_interp::{Cpu, Done, Library, Turn};
 use zl_objects::Objects;
 use zl_rights::{Pid, Status};
 
@@ -54,7 +56,7 @@ impl Model for World {
     } };
 
     ghost invariant = { λ w.
-        IsWhole w.processes.items w.objects w.blocked.items (vec_capacity w.blocked) };
+        IsWhole w.library w.processes.items w.objects w.blocked.items (vec_capacity w.blocked) };
 }
 
 /// What a process did that wasn't at a call.
@@ -186,9 +188,10 @@ impl World {
     }
 
     /// Does the next instruction of the process, if the process is ready: the system call at which it
-    /// is, as `perform` does, or a local one, as `local` does. Behind it registered waits end with their
-    /// handles, those that hold fire in the order of registration, and blocked processes wake in the
-    /// order in which they blocked. It looks the process up once.
+    /// is, as `perform` does, or a local one, as `local` does. Behind a call registered waits end with
+    /// their handles, those that hold fire in the order of registration, and blocked processes wake in
+    /// the order in which they blocked; behind a local instruction there are none. It looks the process
+    /// up once.
     ///
     /// Nothing where the process isn't ready, or there is none of this koid.
     /// Source: that of `perform` and `local`.
@@ -207,6 +210,9 @@ impl World {
             &mut self.blocked,
             pid,
         )?;
+        if is_local(&item) {
+            return Some(item);
+        }
         add_blocked(&mut self.blocked, pid, &item);
         end_unheld(&self.processes, &mut self.objects);
         fire_waits(&self.processes, &mut self.objects);
@@ -256,5 +262,59 @@ impl World {
             TraceItem::Stuck { .. } => Local::Stuck,
             TraceItem::Call { .. } => unreachable!(),
         }
+    }
+
+    /// What the process goes on with by itself: its program, and its Cpu as it stands.
+    ///
+    /// The process has to be ready. Only memory can be refused.
+    pub fn turn(&self, pid: Pid) -> Result<Turn, AllocError>
+        requires { IsTrue (is_ready_in self.now pid) }
+        ensures { IfOk result (IsTurn self.now pid) }
+    {
+        let Some(place) = place_of(&self.processes, pid) else {
+            unreachable!()
+        };
+        let process = &self.processes[place];
+        let Some(program) = self.library.shared(process.program) else {
+            unreachable!()
+        };
+        Turn::new(self.alloc, pid, program, &process.cpu)
+    }
+
+    /// Whether its process stands here with the program and the Cpu with which it began: the same image
+    /// and mark, and the same Cpu, field by field. It takes no memory.
+    pub fn fits(&self, done: &Done) -> bool
+        ensures { IsTrue result ↔ Fits self.now done.now }
+    {
+        let Some(place) = place_of(&self.processes, done.pid()) else {
+            return false;
+        };
+        let process = &self.processes[place];
+        let Some(program) = self.library.get(process.program) else {
+            return false;
+        };
+        if !process.cpu.is_same(done.from()) {
+            return false;
+        }
+        program.is_same(done.program())
+    }
+
+    /// The local instructions that were done become steps of the world, one after another: the process
+    /// gets the Cpu with which they ended.
+    ///
+    /// What was done has to fit, and its process has to be ready. It takes no memory.
+    pub fn advance(&mut self, done: Done)
+        requires ready { IsTrue (is_ready_in self.old done.pid) }
+        requires fits { Fits self.old done }
+        ensures cpu { self.new ≡ advanced self.old done }
+        ensures steps { Runs self.old.programs self.old.world (steps_done done) self.new.world }
+    {
+        // Its clause has that these instructions follow one another.
+        done.ran();
+        let Some(place) = place_of(&self.processes, done.pid()) else {
+            unreachable!()
+        };
+        let process = &mut self.processes[place];
+        process.cpu = done.into_cpu();
     }
 }

@@ -1,7 +1,7 @@
 use Rattle.zl_calls.proofs.Common.{set, sym, ◌∙◌}
 use Rattle.zl_calls.specs.calls.Task.{lab}
 use Rattle.zl_calls.proofs.BlockedLists.{no_more}
-use Rattle.zl_calls.proofs.CallSteps.{called_so, moves_from, stops_from, caller_ready, within}
+use Rattle.zl_calls.proofs.CallSteps.{called_so, moves_from, stays_from, stops_from, caller_ready, within}
 use Rattle.zl_calls.proofs.Calling.{is_there}
 use Rattle.zl_calls.proofs.Idle.{are_bare}
 use Rattle.zl_calls.proofs.Performing.{HasActed}
@@ -67,3 +67,10 @@ returns-in-Some-run_next-clause-lab c = (moved c).lab
 
 pub returns-in-None-clause-lab : goal.returns-in-None-clause-lab
 returns-in-None-clause-lab c = (stopped c).lab
+
+pub returns-in-Some-run_next-clause-quiet : goal.returns-in-Some-run_next-clause-quiet
+returns-in-Some-run_next-clause-quiet c local =
+    stays_from c.args.library.now c.args.processes.now.items c.args.objects.now c.requires.lab c.args.blocked.now.items c.requires.list c.requires.sound c.args.pid c.in_ok-place.place c.index.result.now
+    (rw c.deref.ensures.value at c.in_ok-place.ensures.first) c.index.ensures (sym c.is_ready.ensures ∙ c.if-not-is_ready.false)
+    c.call_next.new.processes.items c.call_next.new.objects c.call_next.new.blocked.items (c.in_default.ensures {u = tt}).same_processes (c.in_default.ensures {u = tt}).same_objects (c.in_default.ensures {u = tt}).same_blocked c.index_mut-process.result.now c.index_mut-process.ensures.value
+    c.run_next.new.process (c.in-Some-run_next.ensures {u = tt}).cpu

@@ -1,6 +1,13 @@
-use Rattle.zl_calls.proofs.Common.{arith}
-use Rattle.zl_calls.proofs.BootBlocked.{booted_sound, none_blocked}
+use Rattle.zl_code.proofs.AwakeRuns.{boot_awake}
+use Rattle.zl_code.proofs.ProgramsKept.{boot_programs}
+use Rattle.zl_code.specs.Boot.{IsBoot}
+use Rattle.zl_calls.proofs.Common.{arith, world_blocked}
+use Rattle.zl_calls.proofs.BootBlocked.{booted_boots, booted_sound, none_blocked}
 use Rattle.zl_calls.proofs.world.World.boot.Goals as goal
+
+boots : (c : goal.After-len-2) → IsBoot c.args.library c.args.boot.now.statements.items (world_blocked c.in_ok-processes.field-0.processes.items c.in_ok-processes.field-0.objects c.in-Ok.blocked.items)
+boots c = booted_boots c.args.library c.args.boot.now.statements.items c.in_ok-processes.field-0.processes.items c.in_ok-processes.field-0.objects c.in-Ok.blocked.items
+    c.in_ok-processes.ensures.ok c.in_ok-processes.ensures.unwatched ((c.in-Ok.ensures {u = tt}).items)
 
 pub invariant_of-result : goal.invariant_of-result
 invariant_of-result c = record {
@@ -9,5 +16,7 @@ invariant_of-result c = record {
       c.in_ok-processes.ensures.ok c.in_ok-processes.ensures.unwatched ((c.in-Ok.ensures {u = tt}).items);
   are_blocked = none_blocked c.args.library c.args.boot.now.statements.items c.in_ok-processes.field-0.processes.items c.in_ok-processes.field-0.objects c.in-Ok.blocked.items
       c.in_ok-processes.ensures.ok ((c.in-Ok.ensures {u = tt}).items);
+  awake = boot_awake c.args.library c.args.boot.now.statements.items _ (boots c);
+  programs = boot_programs c.args.library c.args.boot.now.statements.items _ (boots c);
   room = omega (arith, (c.in-Ok.ensures {u = tt}).exact, c.len.ensures, c.in_ok-processes.field-0.processes.ok.0);
 }

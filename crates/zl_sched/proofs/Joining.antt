@@ -34,24 +34,24 @@ last_fits xs ys p places room =
 
 -- ---- the list after a step, of which some were kept and others joined them
 
-module _ (w : World) (p : ℕ) (list kept joined : List ℕ) (is_kept : kept ≡ still_ready w p list) (is_joined : joined ≡ kept ++ joining w p kept) where
-  joined_is : joined ≡ still_ready w p list ++ joining w p (still_ready w p list)
-  joined_is = is_joined ∙ ap (λ (ys : List ℕ). ys ++ joining w p ys) is_kept
+module _ (w : World) (p : ℕ) (out list kept joined : List ℕ) (is_kept : kept ≡ still_ready w p list) (is_joined : joined ≡ kept ++ joining w p out kept) where
+  joined_is : joined ≡ still_ready w p list ++ joining w p out (still_ready w p list)
+  joined_is = is_joined ∙ ap (λ (ys : List ℕ). ys ++ joining w p out ys) is_kept
 
-  pub join_fits : (places : ℕ) → length (requeued w p list) ≤ places → length (kept ++ joining w p kept) ≤ places
+  pub join_fits : (places : ℕ) → length (requeued w p out list) ≤ places → length (kept ++ joining w p out kept) ≤ places
   join_fits places room =
-      subst (λ (ys : List ℕ). length ys ≤ places) (sym joined_is ∙ is_joined) (front_fits (still_ready w p list) (joining w p (still_ready w p list)) (itself_ready w p) places room)
+      subst (λ (ys : List ℕ). length ys ≤ places) (sym joined_is ∙ is_joined) (front_fits (still_ready w p list) (joining w p out (still_ready w p list)) (itself_ready w p) places room)
 
-  pub push_fits : (places : ℕ) → length (requeued w p list) ≤ places → is_process w is_ready p ≡ true → length joined < places
+  pub push_fits : (places : ℕ) → length (requeued w p out list) ≤ places → is_process w is_ready p ≡ true → length joined < places
   push_fits places room ready =
-      subst (λ (ys : List ℕ). length ys < places) (sym joined_is) (last_fits (still_ready w p list) (joining w p (still_ready w p list)) p places
-      (subst (λ (ys : List ℕ). length (still_ready w p list ++ (joining w p (still_ready w p list) ++ ys)) ≤ places) itself room))
+      subst (λ (ys : List ℕ). length ys < places) (sym joined_is) (last_fits (still_ready w p list) (joining w p out (still_ready w p list)) p places
+      (subst (λ (ys : List ℕ). length (still_ready w p list ++ (joining w p out (still_ready w p list) ++ ys)) ≤ places) itself room))
     where
       itself : itself_ready w p ≡ p ∷ []
       itself = rw ready refl
 
-  pub requeued_with : is_process w is_ready p ≡ true → joined ++ (p ∷ []) ≡ requeued w p list
-  requeued_with ready = rw (joined_is, ready) (append_assoc (still_ready w p list) (joining w p (still_ready w p list)) (p ∷ []))
+  pub requeued_with : is_process w is_ready p ≡ true → joined ++ (p ∷ []) ≡ requeued w p out list
+  requeued_with ready = rw (joined_is, ready) (append_assoc (still_ready w p list) (joining w p out (still_ready w p list)) (p ∷ []))
 
-  pub requeued_without : is_process w is_ready p ≡ false → joined ≡ requeued w p list
-  requeued_without busy = rw (joined_is, busy) (ap (λ (ys : List ℕ). still_ready w p list ++ ys) (sym (append-nil (joining w p (still_ready w p list)))))
+  pub requeued_without : is_process w is_ready p ≡ false → joined ≡ requeued w p out list
+  requeued_without busy = rw (joined_is, busy) (ap (λ (ys : List ℕ). still_ready w p list ++ ys) (sym (append-nil (joining w p out (still_ready w p list)))))

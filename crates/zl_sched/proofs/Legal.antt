@@ -1,6 +1,7 @@
 -- What follows a schedule is a legal history, and a legal history with one step more is one.
-use Rattle.zl_sched.proofs.Common.{arith, length-append, ◌++◌, ◌∙◌, ap, append-nil, IsLegal, System, Runs, ◌≡◌, ℕ, List, [], ◌∷◌, refl, sym, subst, IsTrue, Library, Step, Acts, Next, Moves, AtCall, IsStuck, next_for, pid_of, single, IsLegalHistory, Follows, ends, skips, goes, EndsBy}
-use Rattle.zl_code.proofs.Common.{World}
+use Rattle.zl_sched.proofs.Common.{Bool, true, false, zero, suc, replicate, if◌then◌else◌, arith, length-append, ◌++◌, ◌∙◌, ap, append-nil, IsLegal, System, Runs, ◌≡◌, ℕ, List, [], ◌∷◌, refl, sym, subst, IsTrue, Library, Step, Acts, Next, Moves, AtCall, IsStuck, next_for, pid_of, single, IsLegalHistory, Follows, ends, skips, goes, EndsBy}
+use Rattle.zl_code.proofs.Common.{World, nat_lt, nat_tests}
+use Rattle.std.specs.Prelude.{◌==◌}
 use Rattle.std.proofs.lemmas.List.Folds.{list_all-append}
 use Rattle.std.specs.List.{flat_map, list_all}
 use Rattle.std.proofs.lemmas.List.Concat.{flat_map-append}
@@ -8,6 +9,7 @@ use Rattle.zl_code.specs.declared.history.CallName.{CallName}
 use Rattle.zl_code.specs.declared.history.TraceItem.{TraceItem}
 use Rattle.zl_code.specs.declared.history.TraceItem.TheVariants as item
 use Rattle.zl_code.specs.Steps.{has_count, Runs as RunsBy}
+use Rattle.zl_sched.specs.HandIn.{run_items}
 use Rattle.zl_sched.specs.declared.system.End.{End}
 use Rattle.zl_sched.specs.declared.system.End.TheVariants as end
 
@@ -68,6 +70,33 @@ history_more lib boot w mid items p x legal step =
       counts = counts_more items x legal.counts one.count;
       run = subst (λ (run : List TraceItem). RunsBy lib boot run mid) steps (one_more lib boot (flat_map single items) w x mid legal.run (rw one.of step));
     }
+
+-- ---- one history after another
+
+both_run : (lib : Library) (w : World) (xs : List TraceItem) (mid : World) (ys : List TraceItem) (w2 : World) → RunsBy lib w xs mid → RunsBy lib mid ys w2 → RunsBy lib w (xs ++ ys) w2
+both_run lib w [] mid ys w2 e rest = subst (λ v. RunsBy lib v ys w2) e rest
+both_run lib w (x ∷ xs) mid ys w2 (first, step, runs) rest = (first, step, both_run lib first xs mid ys w2 runs rest)
+
+pub history_then : (lib : Library) (boot w w2 : World) (items more : List TraceItem) → IsLegalHistory lib boot items w → IsLegalHistory lib w more w2 → IsLegalHistory lib boot (items ++ more) w2
+history_then lib boot w w2 items more one two = record {
+  counts = rw (list_all-append has_count items more, one.counts, two.counts) refl;
+  run = subst (λ (steps : List TraceItem). RunsBy lib boot steps w2) (sym (flat_map-append single items more)) (both_run lib boot (flat_map single items) w (flat_map single more) w2 one.run two.run);
+}
+
+pub nothing_legal : (lib : Library) (w w2 : World) → w2 ≡ w → IsLegalHistory lib w [] w2
+nothing_legal lib w w2 same = record { counts = refl; run = same }
+
+pub step_legal : (lib : Library) (w : World) (p : ℕ) (x : TraceItem) (w2 : World) → Step lib w p x w2 → IsLegalHistory lib w (x ∷ []) w2
+step_legal lib w p x w2 step = history_more lib w w w2 [] p x (nothing_legal lib w w refl) step
+
+-- local instructions in a row, in one item
+pub run_legal : (lib : Library) (w : World) (p n : ℕ) (w2 : World) → RunsBy lib w (replicate n (item.Run p 1)) w2 → IsLegalHistory lib w (run_items p n) w2
+run_legal lib w p zero w2 runs = nothing_legal lib w w2 runs
+run_legal lib w p (suc n) w2 runs =
+    let some : (suc n == 0) ≡ false = grind (arith, nat_tests) in
+    let counted : nat_lt 0 (suc n) ≡ true = grind (arith, nat_tests) in
+    subst (λ (none : Bool). IsLegalHistory lib w (if none then [] else (item.Run p (suc n) ∷ [])) w2) (sym some)
+    (record { counts = rw counted refl; run = subst (λ (steps : List TraceItem). RunsBy lib w steps w2) (sym (append-nil (replicate (suc n) (item.Run p 1)))) runs })
 
 -- a step of one that is legal
 pub legal_more : (s : System) (p : ℕ) (s2 : System) → IsLegal s → Runs s p s2 → IsLegal s2

@@ -3,10 +3,15 @@ pub mod Common
 pub mod Counted
 pub mod Following
 pub mod Fresh
+pub mod HandedIn
 pub mod Joining
 pub mod Legal
+pub mod Marked
+pub mod MarksKept
+pub mod MarksMoved
 pub mod Queued
 pub mod ReadyProcess
+pub mod RowsHandIn
 pub mod TurnQueued
 pub mod TurnTold
 pub mod Walking

@@ -1,4 +1,4 @@
--- The ready list after a step: the code's is that of the definitions, holds each ready process once, and has room.
+-- The ready list after a step: the code's is that of the definitions, holds each ready process that isn't out once, and has room.
 use Rattle.zl_sched.proofs.Common.{◌-◌, take, drop, take_more, take-append-drop, get_or, ◌≡◌, ◌<◌, ◌≤◌, ◌+◌, ◌∙◌, ℕ, Bool, true, false, List, [], ◌∷◌, ◌++◌, length, refl, sym, ap, subst, arith, inl, inr, cases_Bool, IsTrue, Option, Some, None, if◌then◌else◌, get, is_process, is_ready, state_passes, append-nil, length-append}
 use Rattle.std.specs.Prelude.{◌&&◌, not, ◌==◌, nat_lt}
 use Rattle.std.specs.List.{filter, list_any}
@@ -7,14 +7,14 @@ use Rattle.std.proofs.lemmas.List.{take_all}
 use Rattle.std.proofs.lemmas.List.Filters.{length-filter_both}
 use Rattle.zl_rights.proofs.Common.{nat_tests, false≢true}
 use Rattle.std.proofs.lemmas.Map.Views.{any-filter_same}
-use Rattle.zl_code.proofs.Common.{World, Process, is_some, has_key, eq-eqb, eqb-true, ne_eqb, IsSound}
-use Rattle.zl_code.proofs.Changes.{times}
+use Rattle.zl_code.proofs.Common.{World, Process, is_some, has_key, eq-eqb, eqb-true, IsSound}
 use Rattle.zl_calls.proofs.BlockedLists.{none_filtered}
-use Rattle.zl_sched.specs.Ready.{pids_of, ready_by_koid, AreReady, still_ready, became_ready, itself_ready, queued_after}
+use Rattle.zl_sched.specs.Ready.{pids_of, ready_by_koid, times, is_in, still_ready, became_ready, itself_ready, queued_after}
 use Rattle.zl_sched.specs.Queueing.{joins, one_if, requeued}
 use Rattle.std.specs.Prelude.{slice_get}
 use Rattle.std.proofs.lemmas.Option.{slice_get_within, get_or_from_slice_get}
-use Rattle.zl_sched.proofs.Counted.{times-filter, times-append, any_counted, key_once, no_longer, one_at_most}
+use Rattle.zl_sched.proofs.Counted.{times-filter, times-append, any_counted, key_once, no_longer}
+use Rattle.zl_sched.proofs.Marked.{AreBut, no_mark, other_way}
 
 -- who passes is there
 ready_key : (w : World) (k : ℕ) → is_process w is_ready k ≡ true → IsTrue (has_key w.processes k)
@@ -26,47 +26,57 @@ ready_key w k ready = by_process (get w.processes k) ready
     by_process None h = absurd (cc)
 
 -- the ready ones by koid are each ready process once
-pub by_koid_ready : (w : World) → IsSound w → AreReady w (ready_by_koid w)
+pub by_koid_ready : (w : World) → IsSound w → (k : ℕ) → times k (ready_by_koid w) ≡ (if is_process w is_ready k then 1 else 0)
 by_koid_ready w sound k = times-filter (λ q. is_process w is_ready q) k (pids_of w) ∙ by_test (is_process w is_ready k) refl
   where
     by_test : (b : Bool) → is_process w is_ready k ≡ b → (if b then times k (pids_of w) else 0) ≡ (if b then 1 else 0)
     by_test true e = key_once k w.processes sound.handles.processes (ready_key w k e)
     by_test false e = refl
 
-module _ (w after : World) (p : ℕ) (list : List ℕ) (are : AreReady w list) (ready : is_process w is_ready p ≡ true) where
+-- What holds before a step of p from w to after, with the marks out: p is ready and has no mark, each other ready process
+-- without a mark stands in the list once, nothing else does, and who has a mark doesn't become ready.
+pub record Before (w after : World) (p : ℕ) (list out : List ℕ) : Type 0 where
+  pub ready : is_process w is_ready p ≡ true
+  pub unmarked : is_in p out ≡ false
+  pub others : (k : ℕ) → (k == p) ≡ false → times k list ≡ (if is_process w is_ready k && not (is_in k out) then 1 else 0)
+  pub stay : (k : ℕ) → is_in k out ≡ true → is_process after is_ready k ≡ true → is_process w is_ready k ≡ true
+
+module _ (w after : World) (p : ℕ) (list out : List ℕ) (b : Before w after p list out) where
   -- ---- what the code makes is what the definitions have
 
-  listed_is : (q : ℕ) → list_any (λ x. x == q) list ≡ is_process w is_ready q
-  listed_is q = any_counted (λ x. x == q) list ∙ (ap (nat_lt 0) (are q) ∙ by_test (is_process w is_ready q))
+  listed_is : (q : ℕ) → (q == p) ≡ false → list_any (λ x. x == q) list ≡ (is_process w is_ready q && not (is_in q out))
+  listed_is q apart = any_counted (λ x. x == q) list ∙ (ap (nat_lt 0) (b.others q apart) ∙ by_test (is_process w is_ready q && not (is_in q out)))
     where
-      by_test : (b : Bool) → nat_lt 0 (if b then 1 else 0) ≡ b
+      by_test : (c : Bool) → nat_lt 0 (if c then 1 else 0) ≡ c
       by_test true = refl
       by_test false = refl
 
-  joins_is : (q : ℕ) → joins after p (still_ready after p list) q ≡ (is_process after is_ready q && not (is_process w is_ready q))
-  joins_is q = rw (
-    any-filter_same (λ x. x == q) (λ x. is_process after is_ready x && not (x == p)) (is_process after is_ready q && not (q == p))
-        (λ x here. ap (λ y. is_process after is_ready y && not (y == p)) (eqb-true x q here)) list,
-    listed_is q,
-  )
-      (by_tests (is_process after is_ready q) (is_process w is_ready q) (q == p) (λ here. ap (λ y. is_process w is_ready y) (eqb-true q p here) ∙ ready))
+  joins_is : (q : ℕ) → joins after p out (still_ready after p list) q ≡ (is_process after is_ready q && not (is_process w is_ready q))
+  joins_is q = rw (any-filter_same (λ x. x == q) (λ x. is_process after is_ready x && not (x == p)) (is_process after is_ready q && not (q == p))
+      (λ x here. ap (λ y. is_process after is_ready y && not (y == p)) (eqb-true x q here)) list)
+      (by_tests (is_process after is_ready q) (is_process w is_ready q) (q == p) (is_in q out) (list_any (λ x. x == q) list)
+      (λ here. ap (λ y. is_process w is_ready y) (eqb-true q p here) ∙ b.ready) (listed_is q) (b.stay q))
     where
-      by_tests : (now was same : Bool) → (same ≡ true → was ≡ true) → (now && (not ((now && not same) && was) && not same)) ≡ (now && not was)
-      by_tests false was same h = refl
-      by_tests true was true h = rw (h refl) refl
-      by_tests true true false h = refl
-      by_tests true false false h = refl
+      by_tests : (now was same marked listed : Bool) → (same ≡ true → was ≡ true) → (same ≡ false → listed ≡ (was && not marked)) → (marked ≡ true → now ≡ true → was ≡ true)
+          → (now && (not ((now && not same) && listed) && (not marked && not same))) ≡ (now && not was)
+      by_tests false was same marked listed itself others stay = refl
+      by_tests true was true true listed itself others stay = rw (itself refl) refl
+      by_tests true was true false listed itself others stay = rw (itself refl) refl
+      by_tests true true false true listed itself others stay = rw (others refl) refl
+      by_tests true true false false listed itself others stay = rw (others refl) refl
+      by_tests true false false true listed itself others stay = absurd (false≢true (stay refl refl))
+      by_tests true false false false listed itself others stay = rw (others refl) refl
 
-  pub requeued_is : requeued after p list ≡ queued_after w p after list
+  pub requeued_is : requeued after p out list ≡ queued_after w p after list
   requeued_is = λ i. still_ready after p list ++ (filter (λ q. joins_is q i) (pids_of after) ++ itself_ready after p)
 
-  -- ---- each ready process is in it once
+  -- ---- each ready process that isn't out is in it once
 
-  itself_other : (k : ℕ) → (p == k) ≡ false → (b : Bool) → times k (if b then p ∷ [] else []) ≡ 0
+  itself_other : (k : ℕ) → (p == k) ≡ false → (c : Bool) → times k (if c then p ∷ [] else []) ≡ 0
   itself_other k apart true = rw apart refl
   itself_other k apart false = refl
 
-  itself_here : (b : Bool) → times p (if b then p ∷ [] else []) ≡ (if b then 1 else 0)
+  itself_here : (c : Bool) → times p (if c then p ∷ [] else []) ≡ (if c then 1 else 0)
   itself_here true = rw (eq-eqb p p refl) refl
   itself_here false = refl
 
@@ -80,36 +90,58 @@ module _ (w after : World) (p : ℕ) (list : List ℕ) (are : AreReady w list) (
         times-filter (λ q. is_process after is_ready q && not (is_process w is_ready q)) k (pids_of after),
       ) refl
 
-  at_itself : (b : Bool) → (if b && not true then times p list else 0) + ((if b && not true then times p (pids_of after) else 0) + (if b then 1 else 0)) ≡ (if b then 1 else 0)
+  at_itself : (now : Bool) → (if now && not true then times p list else 0) + ((if now && not true then times p (pids_of after) else 0) + (if now then 1 else 0)) ≡ (if now && not false then 1 else 0)
   at_itself true = refl
   at_itself false = refl
 
-  at_other : (now was : Bool) (n m : ℕ) → n ≡ (if was then 1 else 0) → (now ≡ true → m ≡ 1) → (if now && not false then n else 0) + ((if now && not was then m else 0) + 0) ≡ (if now then 1 else 0)
-  at_other false was n m counted once = refl
-  at_other true true n m counted once = omega (arith, counted)
-  at_other true false n m counted once = omega (arith, counted, once refl)
+  at_other : (now was marked : Bool) (n m : ℕ) → n ≡ (if was && not marked then 1 else 0) → (now ≡ true → m ≡ 1) → (marked ≡ true → now ≡ true → was ≡ true)
+      → (if now && not false then n else 0) + ((if now && not was then m else 0) + 0) ≡ (if now && not marked then 1 else 0)
+  at_other false was marked n m counted once stay = refl
+  at_other true true true n m counted once stay = omega (arith, counted)
+  at_other true true false n m counted once stay = omega (arith, counted)
+  at_other true false true n m counted once stay = absurd (false≢true (stay refl refl))
+  at_other true false false n m counted once stay = omega (arith, counted, once refl)
 
-  pub queued_ready : IsSound after → AreReady after (queued_after w p after list)
-  queued_ready sound k = elim (cases_Bool (k == p)) as (λ _. times k (queued_after w p after list) ≡ (if is_process after is_ready k then 1 else 0)) [
-    | inl here ↦ subst (λ (j : ℕ). times j (queued_after w p after list) ≡ (if is_process after is_ready j then 1 else 0)) (sym (eqb-true k p here))
-        (parts p ∙ rw (eq-eqb p p refl, ready, itself_here (is_process after is_ready p)) (at_itself (is_process after is_ready p)))
-    | inr apart ↦ parts k ∙ rw (apart, itself_other k (other_way apart) (is_process after is_ready p))
-        (at_other (is_process after is_ready k) (is_process w is_ready k) (times k list) (times k (pids_of after)) (are k) (λ now. key_once k after.processes sound.handles.processes (ready_key after k now)))
+  pub queued_ready : IsSound after → AreBut after out (queued_after w p after list)
+  queued_ready sound k = elim (cases_Bool (k == p)) as (λ _. times k (queued_after w p after list) ≡ (if is_process after is_ready k && not (is_in k out) then 1 else 0)) [
+    | inl here ↦ subst (λ (j : ℕ). times j (queued_after w p after list) ≡ (if is_process after is_ready j && not (is_in j out) then 1 else 0)) (sym (eqb-true k p here))
+        (parts p ∙ rw (eq-eqb p p refl, b.ready, b.unmarked, itself_here (is_process after is_ready p)) (at_itself (is_process after is_ready p)))
+    | inr apart ↦ parts k ∙ rw (apart, itself_other k (other_way k p apart) (is_process after is_ready p))
+        (at_other (is_process after is_ready k) (is_process w is_ready k) (is_in k out) (times k list) (times k (pids_of after)) (b.others k apart)
+        (λ now. key_once k after.processes sound.handles.processes (ready_key after k now)) (b.stay k))
   ]
-    where
-      other_way : (k == p) ≡ false → (p == k) ≡ false
-      other_way apart = ne_eqb p k (λ same. let no : false ≡ true = sym apart ∙ eq-eqb k p (sym same) in cc)
 
   -- ---- its room
 
-  pub queued_room : IsSound after → ((q : ℕ) → get w.processes q ≡ None → is_process after is_ready q ≡ false) → length (queued_after w p after list) ≤ length w.processes
-  queued_room sound fresh = no_longer w.processes (queued_after w p after list) (λ k. at_most k (get w.processes k) refl)
+  pub queued_room : IsSound after → ((q : ℕ) → get w.processes q ≡ None → is_process after is_ready q ≡ false) → ((q : ℕ) → get w.processes q ≡ None → is_in q out ≡ false)
+      → ((q : ℕ) → times q out ≤ 1) → length (queued_after w p after list) + length out ≤ length w.processes
+  queued_room sound fresh known once =
+      omega (arith, no_longer w.processes (queued_after w p after list ++ out) (λ k. at_most k (get w.processes k) refl), length-append (queued_after w p after list) out)
     where
-      at_most : (k : ℕ) (o : Option Process) → get w.processes k ≡ o → times k (queued_after w p after list) ≤ (if is_some o then 1 else 0)
-      at_most k None e = let none : ◌≡◌ {A = ℕ} (if is_process after is_ready k then 1 else 0) 0 = rw (fresh k e) refl in omega (arith, queued_ready sound k, none)
-      at_most k (Some x) e = omega (arith, queued_ready sound k, one_at_most (is_process after is_ready k))
+      by_mark : (k : ℕ) (now marked : Bool) → is_process after is_ready k ≡ now → is_in k out ≡ marked → times k (queued_after w p after list ++ out) ≤ (if now then 1 else if marked then 1 else 0)
+      by_mark k true true is m =
+          let none : times k (queued_after w p after list) ≡ 0 = queued_ready sound k ∙ rw (is, m) refl in
+          omega (arith, times-append k (queued_after w p after list) out, none, once k)
+      by_mark k true false is m =
+          let one : times k (queued_after w p after list) ≡ 1 = queued_ready sound k ∙ rw (is, m) refl in
+          omega (arith, times-append k (queued_after w p after list) out, one, no_mark k out m)
+      by_mark k false true is m =
+          let none : times k (queued_after w p after list) ≡ 0 = queued_ready sound k ∙ rw is refl in
+          omega (arith, times-append k (queued_after w p after list) out, none, once k)
+      by_mark k false false is m =
+          let none : times k (queued_after w p after list) ≡ 0 = queued_ready sound k ∙ rw is refl in
+          omega (arith, times-append k (queued_after w p after list) out, none, no_mark k out m)
 
-  -- ---- where all others are as ready as before
+      one_each : (now marked : Bool) → (if now then 1 else if marked then 1 else 0) ≤ 1
+      one_each true marked = omega arith
+      one_each false true = omega arith
+      one_each false false = omega arith
+
+      at_most : (k : ℕ) (o : Option Process) → get w.processes k ≡ o → times k (queued_after w p after list ++ out) ≤ (if is_some o then 1 else 0)
+      at_most k None e = by_mark k false false (fresh k e) (known k e)
+      at_most k (Some x) e = omega (arith, by_mark k (is_process after is_ready k) (is_in k out) refl refl, one_each (is_process after is_ready k) (is_in k out))
+
+  -- ---- where all are as ready as before
 
   module _ (same : (k : ℕ) → is_process after is_ready k ≡ is_process w is_ready k) where
     stays : (xs : List ℕ) → ((k : ℕ) → 0 < times k xs → is_process w is_ready k ≡ true) → filter (λ q. is_process w is_ready q && not (q == p)) xs ≡ filter (λ q. not (q == p)) xs
@@ -121,12 +153,12 @@ module _ (w after : World) (p : ℕ) (list : List ℕ) (are : AreReady w list) (
         at_front : (x : ℕ) → 0 < times x (x ∷ xs)
         at_front x = rw (eq-eqb x x refl) (omega arith)
 
-        further : (k : ℕ) → 0 < times k xs → (b : Bool) → (x == k) ≡ b → 0 < times k (x ∷ xs)
+        further : (k : ℕ) → 0 < times k xs → (c : Bool) → (x == k) ≡ c → 0 < times k (x ∷ xs)
         further k some true e = rw e (omega arith)
         further k some false e = rw e some
 
-        by_test : (b : Bool) → filter (λ q. is_process w is_ready q && not (q == p)) xs ≡ filter (λ q. not (q == p)) xs
-            → (if b then x ∷ filter (λ q. is_process w is_ready q && not (q == p)) xs else filter (λ q. is_process w is_ready q && not (q == p)) xs) ≡ (if b then x ∷ filter (λ q. not (q == p)) xs else filter (λ q. not (q == p)) xs)
+        by_test : (c : Bool) → filter (λ q. is_process w is_ready q && not (q == p)) xs ≡ filter (λ q. not (q == p)) xs
+            → (if c then x ∷ filter (λ q. is_process w is_ready q && not (q == p)) xs else filter (λ q. is_process w is_ready q && not (q == p)) xs) ≡ (if c then x ∷ filter (λ q. not (q == p)) xs else filter (λ q. not (q == p)) xs)
         by_test true e = ap (λ (ys : List ℕ). x ∷ ys) e
         by_test false e = e
 
@@ -138,11 +170,14 @@ module _ (w after : World) (p : ℕ) (list : List ℕ) (are : AreReady w list) (
     ]
 
     in_list : (k : ℕ) → 0 < times k list → is_process w is_ready k ≡ true
-    in_list k some = by_test (is_process w is_ready k) (subst (λ (n : ℕ). 0 < n) (are k) some)
+    in_list k some = elim (cases_Bool (k == p)) as (λ _. is_process w is_ready k ≡ true) [
+      | inl here ↦ ap (λ (j : ℕ). is_process w is_ready j) (eqb-true k p here) ∙ b.ready
+      | inr apart ↦ by_test (is_process w is_ready k) (not (is_in k out)) (subst (λ (n : ℕ). 0 < n) (b.others k apart) some)
+    ]
       where
-        by_test : (b : Bool) → 0 < (if b then 1 else 0) → b ≡ true
-        by_test true h = refl
-        by_test false h = absurd (omega (arith, h))
+        by_test : (c d : Bool) → 0 < (if c && d then 1 else 0) → c ≡ true
+        by_test true d h = refl
+        by_test false d h = absurd (omega (arith, h))
 
     pub moved_is : filter (λ q. not (q == p)) list ++ (p ∷ []) ≡ queued_after w p after list
     moved_is = sym (rw (still, joined, itself) refl)
@@ -154,10 +189,7 @@ module _ (w after : World) (p : ℕ) (list : List ℕ) (are : AreReady w list) (
         joined = (λ i. filter (λ q. same q i && not (is_process w is_ready q)) (pids_of after)) ∙ none_joins (pids_of after)
 
         itself : itself_ready after p ≡ p ∷ []
-        itself = rw (same p ∙ ready) refl
-
-    pub once_listed : times p list ≡ 1
-    once_listed = are p ∙ rw ready refl
+        itself = rw (same p ∙ b.ready) refl
 
 -- the last of a list in which it stands once stays where it is
 pub last_stays : (p : ℕ) (xs : List ℕ) → times p (xs ++ (p ∷ [])) ≡ 1 → xs ++ (p ∷ []) ≡ filter (λ q. not (q == p)) (xs ++ (p ∷ [])) ++ (p ∷ [])
@@ -194,8 +226,9 @@ fewer_first f n xs =
     = sym (length-append (filter f (take n xs)) (filter f (drop n xs))) ∙ (sym (ap length (filter-append f (take n xs) (drop n xs))) ∙ ap (λ (ys : List ℕ). length (filter f ys)) (take-append-drop n xs)) in
     omega (arith, both)
 
--- no process is ready where the list is empty, and only there
-pub idle_by : (w : World) (list : List ℕ) → AreReady w list → (is_idle : Bool) → is_idle ≡ (length list == 0) → (IsTrue is_idle → (k : ℕ) → is_process w is_ready k ≡ false) × (((k : ℕ) → is_process w is_ready k ≡ false) → IsTrue is_idle)
+-- with no mark, no process is ready where the list is empty, and only there
+pub idle_by : (w : World) (list : List ℕ) → ((k : ℕ) → times k list ≡ (if is_process w is_ready k then 1 else 0)) → (is_idle : Bool) → is_idle ≡ (length list == 0)
+    → (IsTrue is_idle → (k : ℕ) → is_process w is_ready k ≡ false) × (((k : ℕ) → is_process w is_ready k ≡ false) → IsTrue is_idle)
 idle_by w [] are is_idle is = ((λ _ k. by_test (is_process w is_ready k) (are k)), (λ _. rw is refl))
   where
     by_test : (b : Bool) → ◌≡◌ {A = ℕ} 0 (if b then 1 else 0) → b ≡ false

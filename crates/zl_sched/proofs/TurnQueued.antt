@@ -1,23 +1,24 @@
--- A turn of a ready process: the list that the code makes after it is that of the definitions, has room, and keeps the system whole.
-use Rattle.zl_sched.proofs.Common.{◌≡◌, ◌<◌, ◌≤◌, ◌∙◌, ◌++◌, ◌∷◌, [], ℕ, List, true, length, sym, subst, refl, System, Step}
+-- A turn of a ready process that isn't out: the list that the code makes after it is that of the definitions, has room, and keeps the system whole.
+use Rattle.zl_sched.proofs.Common.{◌≡◌, ◌<◌, ◌≤◌, ◌+◌, ◌∙◌, ◌++◌, ◌∷◌, [], ℕ, List, true, false, length, sym, subst, arith, System, Step}
 use Rattle.std.specs.Prelude.{not, ◌==◌}
 use Rattle.std.specs.List.{filter}
 use Rattle.zl_code.specs.declared.history.TraceItem.{TraceItem}
 use Rattle.zl_code.proofs.Common.{IsSound}
-use Rattle.zl_code.proofs.Changes.{times}
 use Rattle.zl_code.proofs.SoundRuns.{run_sound, step_sound}
 use Rattle.zl_calls.specs.World.{World}
 use Rattle.zl_calls.specs.Steps.{TakesStep}
 use Rattle.zl_sched.specs.Queueing.{leaves_ready, requeued}
-use Rattle.zl_sched.specs.Ready.{queued_after}
+use Rattle.zl_sched.specs.Ready.{times, is_in, queued_after}
 use Rattle.zl_sched.specs.System.{IsWhole}
 use Rattle.zl_sched.proofs.StillReady.{ready_as_before}
 use Rattle.zl_sched.proofs.Fresh.{made_not_ready}
 use Rattle.zl_sched.proofs.Legal.{legal_more}
-use Rattle.zl_sched.proofs.Queued.{moved_is, queued_ready, queued_room, requeued_is}
+use Rattle.zl_sched.proofs.Marked.{no_mark}
+use Rattle.zl_sched.proofs.MarksMoved.{OthersStay, all_left, step_stays, before, after_listed, after_room}
+use Rattle.zl_sched.proofs.Queued.{Before, moved_is, requeued_is}
 use Rattle.zl_sched.proofs.TurnTold.{step_told}
 
-module _ (s : System) (whole : IsWhole s) (pid : ℕ) (l2 : World) (x : TraceItem) (taken : TakesStep s.lab pid l2 x) where
+module _ (s : System) (whole : IsWhole s) (pid : ℕ) (unmarked : is_in pid s.out ≡ false) (l2 : World) (x : TraceItem) (taken : TakesStep s.lab pid l2 x) where
   sound : IsSound s.lab.world
   sound = run_sound s.lab.programs s.statements whole.legal.boot s.lab.world _ whole.legal.boots.boots whole.legal.history.run
 
@@ -27,23 +28,32 @@ module _ (s : System) (whole : IsWhole s) (pid : ℕ) (l2 : World) (x : TraceIte
   after_sound : IsSound l2.world
   after_sound = step_sound s.lab.programs s.lab.world pid x l2.world sound step
 
+  others : OthersStay s.lab.world pid l2.world
+  others = step_stays s.lab.programs s.lab.world pid x l2.world sound step
+
+  so : Before s.lab.world l2.world pid s.ready s.out
+  so = before s.lab.world l2.world pid s.ready s.out s.out whole.listed taken.ready (all_left pid s.out unmarked) others
+
   pub once : times pid s.ready ≡ 1
-  once = whole.are_ready pid ∙ rw taken.ready refl
+  once = omega (arith, whole.listed.once pid taken.ready, no_mark pid s.out unmarked)
 
-  pub places : length (requeued l2.world pid s.ready) ≤ length s.lab.world.processes
-  places = subst (λ (ys : List ℕ). length ys ≤ length s.lab.world.processes) (sym (requeued_is s.lab.world l2.world pid s.ready whole.are_ready taken.ready))
-      (queued_room s.lab.world l2.world pid s.ready whole.are_ready taken.ready after_sound (λ q free. made_not_ready s.lab.programs s.lab.world pid x l2.world step q free))
+  pub queue_room : length (queued_after s.lab.world pid l2.world s.ready) + length s.out ≤ length s.lab.world.processes
+  queue_room = after_room s.lab.world l2.world pid s.ready s.out s.out whole.listed taken.ready (all_left pid s.out unmarked) others after_sound
+      (λ q free. made_not_ready s.lab.programs s.lab.world pid x l2.world step q free)
 
-  pub by_requeue : (ready2 : List ℕ) → ready2 ≡ requeued l2.world pid s.ready → ready2 ≡ queued_after s.lab.world pid l2.world s.ready
-  by_requeue ready2 is = is ∙ requeued_is s.lab.world l2.world pid s.ready whole.are_ready taken.ready
+  pub places : length (requeued l2.world pid s.out s.ready) ≤ length s.lab.world.processes
+  places = subst (λ (ys : List ℕ). length ys ≤ length s.lab.world.processes) (sym (requeued_is s.lab.world l2.world pid s.ready s.out so)) (omega (arith, queue_room))
+
+  pub by_requeue : (ready2 : List ℕ) → ready2 ≡ requeued l2.world pid s.out s.ready → ready2 ≡ queued_after s.lab.world pid l2.world s.ready
+  by_requeue ready2 is = is ∙ requeued_is s.lab.world l2.world pid s.ready s.out so
 
   pub by_move : leaves_ready x ≡ true → length l2.world.blocked ≡ length s.lab.world.blocked → (ready2 : List ℕ) → ready2 ≡ filter (λ q. not (q == pid)) s.ready ++ (pid ∷ []) → ready2 ≡ queued_after s.lab.world pid l2.world s.ready
   by_move leaves as_long ready2 is =
-      is ∙ moved_is s.lab.world l2.world pid s.ready whole.are_ready taken.ready (ready_as_before s.lab.programs s.lab.world pid x l2.world sound step leaves as_long)
+      is ∙ moved_is s.lab.world l2.world pid s.ready s.out so (ready_as_before s.lab.programs s.lab.world pid x l2.world sound step leaves as_long)
 
   pub still_whole : (items2 : _) (ready2 : List ℕ) → items2 ≡ s.items ++ (x ∷ []) → length s.items < s.limit → ready2 ≡ queued_after s.lab.world pid l2.world s.ready
       → IsWhole (record s { lab = l2; items = items2; ready = ready2 })
   still_whole items2 ready2 added room is = record {
-    legal = legal_more s pid (record s { lab = l2; items = items2; ready = ready2 }) whole.legal (step_told s pid l2 items2 ready2 x taken added room is);
-    are_ready = rw is (queued_ready s.lab.world l2.world pid s.ready whole.are_ready taken.ready after_sound);
+    legal = legal_more s pid (record s { lab = l2; items = items2; ready = ready2 }) whole.legal (step_told s pid unmarked l2 items2 ready2 x taken added room is);
+    listed = rw is (after_listed s.lab.world l2.world pid s.ready s.out s.out whole.listed taken.ready (all_left pid s.out unmarked) others after_sound);
   }

@@ -1,36 +1,43 @@
 -- What a turn does that has a step, and what one is answered for which the trace has no room.
-use Rattle.zl_sched.proofs.Common.{◌≡◌, ◌∷◌, ◌++◌, List, [], ◌<◌, ◌≤◌, ℕ, Bool, inl, inr, refl, length, if◌then◌else◌, cases_Bool, is_ready_in, Runs, System, Turns}
+use Rattle.zl_sched.proofs.Common.{IsTrue, false, ap, ◌≡◌, ◌∷◌, ◌++◌, List, [], ◌<◌, ◌≤◌, ℕ, Bool, inl, inr, refl, length, if◌then◌else◌, cases_Bool, is_ready_in, Runs, System, Turns}
 use Rattle.zl_code.specs.declared.history.TraceItem.{TraceItem}
 use Rattle.zl_calls.specs.World.{World}
-use Rattle.zl_sched.specs.Ready.{queued_after}
+use Rattle.zl_sched.specs.Ready.{is_in, queued_after}
+use Rattle.zl_sched.specs.System.{may_step}
+use Rattle.std.specs.Prelude.{not}
+use Rattle.std.proofs.lemmas.Bool.{and_right}
 use Rattle.zl_calls.specs.Steps.{TakesStep}
 use Rattle.zl_sched.specs.declared.system.Stepped.{Stepped}
 use Rattle.zl_sched.specs.declared.system.Stepped.TheVariants as stepped
 
--- the answer by whether the process is ready
+-- the answer by whether the process may step
 abbrev pub answer_by : Bool → Stepped → Stepped
 answer_by ready answer = if ready then answer else stepped.NotReady
 
 module _ (s : System) (pid : ℕ) where
-  pub limit_told : s.limit ≤ length s.items → Turns s pid (answer_by (is_ready_in s.lab pid) stepped.Limit) s
-  limit_told full = elim (cases_Bool (is_ready_in s.lab pid)) as (λ _. Turns s pid (answer_by (is_ready_in s.lab pid) stepped.Limit) s) [
+  pub limit_told : s.limit ≤ length s.items → Turns s pid (answer_by (may_step s pid) stepped.Limit) s
+  limit_told full = elim (cases_Bool (may_step s pid)) as (λ _. Turns s pid (answer_by (may_step s pid) stepped.Limit) s) [
     | inl ready ↦ rw ready (refl, ready, full)
     | inr other ↦ rw other (refl, other)
   ]
 
-  pub memory_told : length s.items < s.limit → Turns s pid (answer_by (is_ready_in s.lab pid) stepped.NoMemory) s
-  memory_told room = elim (cases_Bool (is_ready_in s.lab pid)) as (λ _. Turns s pid (answer_by (is_ready_in s.lab pid) stepped.NoMemory) s) [
+  pub memory_told : length s.items < s.limit → Turns s pid (answer_by (may_step s pid) stepped.NoMemory) s
+  memory_told room = elim (cases_Bool (may_step s pid)) as (λ _. Turns s pid (answer_by (may_step s pid) stepped.NoMemory) s) [
     | inl ready ↦ rw ready (refl, ready, room)
     | inr other ↦ rw other (refl, other)
   ]
 
-  pub step_told : (l2 : World) (items2 : List TraceItem) (ready2 : List ℕ) (x : TraceItem) → TakesStep s.lab pid l2 x → items2 ≡ s.items ++ (x ∷ []) → length s.items < s.limit
+  -- who is out may not step
+  pub out_told : IsTrue (is_in pid s.out) → Turns s pid stepped.NotReady s
+  out_told out = (refl, and_right (is_ready_in s.lab pid) (not (is_in pid s.out)) (ap not out))
+
+  pub step_told : is_in pid s.out ≡ false → (l2 : World) (items2 : List TraceItem) (ready2 : List ℕ) (x : TraceItem) → TakesStep s.lab pid l2 x → items2 ≡ s.items ++ (x ∷ []) → length s.items < s.limit
       → ready2 ≡ queued_after s.lab.world pid l2.world s.ready → Runs s pid (record s { lab = l2; items = items2; ready = ready2 })
-  step_told l2 items2 ready2 x taken added room queue = record {
+  step_told hand l2 items2 ready2 x taken added room queue = record {
     item = x;
-    adds = record { programs = taken.steps.programs; items = added; statements = refl; limit = refl };
+    adds = record { programs = taken.steps.programs; items = added; statements = refl; limit = refl; out = refl };
     step = rw taken.pid_is at taken.steps.step;
-    ready = taken.ready;
+    ready = rw (taken.ready, hand) refl;
     room = room;
     queue = queue;
   }

@@ -1,6 +1,8 @@
 -- Turns, one after another: what was walked, and what follows it.
-use Rattle.zl_sched.proofs.Common.{◌≡◌, ℕ, ◌+◌, ◌-◌, ◌<◌, ◌≤◌, false, List, [], ◌∷◌, ◌++◌, length, replicate, take, drop, take-append-drop, get_or, refl, sym, ap, ◌∙◌, subst, IsTrue, arith, append_assoc, append-nil, zero, suc, take_more, is_process, is_ready, Library, is_ready_in, Follows, ends, skips, goes, StopsBefore, EndsBy, turns_of, System, Adds, Runs, Walks, room_of, length-append}
-use Rattle.zl_code.proofs.Common.{World}
+use Rattle.zl_sched.proofs.Common.{Bool, true, ◌≡◌, ℕ, ◌+◌, ◌-◌, ◌<◌, ◌≤◌, false, List, [], ◌∷◌, ◌++◌, length, replicate, take, drop, take-append-drop, get_or, refl, sym, ap, ◌∙◌, subst, IsTrue, arith, append_assoc, append-nil, zero, suc, take_more, is_process, is_ready, Library, is_ready_in, Follows, ends, skips, goes, StopsBefore, EndsBy, turns_of, System, Adds, Runs, Walks, room_of, length-append}
+use Rattle.zl_code.proofs.Common.{World, and_parts}
+use Rattle.std.specs.Prelude.{◌&&◌}
+use Rattle.zl_sched.specs.System.{may_step}
 use Rattle.std.proofs.lemmas.List.{replicate_more, replicate-append-replicate}
 use Rattle.std.proofs.lemmas.List.Concat.{flat_map-append}
 use Rattle.zl_code.specs.declared.history.TraceItem.{TraceItem}
@@ -20,8 +22,16 @@ follows_skipping lib w p (suc n) not_ready = skips w w p (replicate n p) [] not_
 
 -- ---- walks
 
+-- where nobody is out, who is ready may step
+pub none_out : (s : System) (p : ℕ) → s.out ≡ [] → may_step s p ≡ is_ready_in s.lab p
+none_out s p none = rw none (by_test (is_ready_in s.lab p))
+  where
+    by_test : (b : Bool) → (b && true) ≡ b
+    by_test true = refl
+    by_test false = refl
+
 adds_nothing : (s : System) → Adds s [] s
-adds_nothing s = record { programs = refl; items = sym (append-nil s.items); statements = refl; limit = refl }
+adds_nothing s = record { programs = refl; items = sym (append-nil s.items); statements = refl; limit = refl; out = refl }
 
 adds_both : (s mid s2 : System) (xs ys : List TraceItem) → Adds s xs mid → Adds mid ys s2 → Adds s (xs ++ ys) s2
 adds_both s mid s2 xs ys first second = record {
@@ -29,6 +39,7 @@ adds_both s mid s2 xs ys first second = record {
   items = second.items ∙ (ap (λ (zs : List TraceItem). zs ++ ys) first.items ∙ append_assoc s.items xs ys);
   statements = second.statements ∙ first.statements;
   limit = second.limit ∙ first.limit;
+  out = second.out ∙ first.out;
 }
 
 pub walks_nowhere : (s : System) → Walks s [] end.Schedule s
@@ -39,7 +50,7 @@ ran_walks s p s2 runs = record {
   more = runs.item ∷ [];
   adds = runs.adds;
   room = omega (arith, runs.room);
-  ends = goes s.lab.world s2.lab.world s2.lab.world p runs.item [] [] runs.ready runs.step (ends s2.lab.world);
+  ends = goes s.lab.world s2.lab.world s2.lab.world p runs.item [] [] (and_parts (is_ready_in s.lab p) _ runs.ready).0 runs.step (ends s2.lab.world);
 }
 
 pub skipped_walks : (s : System) (p n : ℕ) → is_ready_in s.lab p ≡ false → Walks s (replicate n p) end.Schedule s

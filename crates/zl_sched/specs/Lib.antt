@@ -1,4 +1,5 @@
 pub mod Follows
+pub mod HandIn
 pub mod Queueing
 pub mod Ready
 pub mod System

@@ -7,23 +7,23 @@ use Rattle.zl_code.specs.declared.history.CallName.TheVariants as name
 use Rattle.zl_code.specs.declared.history.Outcome.TheVariants as outcome
 use Rattle.zl_code.specs.declared.history.TraceItem.{TraceItem}
 use Rattle.zl_code.specs.declared.history.TraceItem.TheVariants as item
-use Rattle.zl_sched.specs.Ready.{pids_of, still_ready, itself_ready}
+use Rattle.zl_sched.specs.Ready.{pids_of, is_in, still_ready, itself_ready}
 
 -- the process alone, where it is so
 abbrev pub one_if : Bool → ℕ → List ℕ
 one_if is_so p = if is_so then p ∷ [] else []
 
--- q is ready, and neither p nor among those that stayed in the list
-abbrev pub joins : World → ℕ → List ℕ → ℕ → Bool
-joins after p stayed q = is_process after is_ready q && (not (list_any (λ x. x == q) stayed) && not (q == p))
+-- q is ready, and neither p nor marked nor among those that stayed in the list
+abbrev pub joins : World → ℕ → List ℕ → List ℕ → ℕ → Bool
+joins after p out stayed q = is_process after is_ready q && (not (list_any (λ x. x == q) stayed) && (not (is_in q out) && not (q == p)))
 
 -- all of these, by koid
-abbrev pub joining : World → ℕ → List ℕ → List ℕ
-joining after p stayed = filter (λ q. joins after p stayed q) (pids_of after)
+abbrev pub joining : World → ℕ → List ℕ → List ℕ → List ℕ
+joining after p out stayed = filter (λ q. joins after p out stayed q) (pids_of after)
 
 -- the list without p, then those that join it, then p if it is ready
-abbrev pub requeued : World → ℕ → List ℕ → List ℕ
-requeued after p list = still_ready after p list ++ (joining after p (still_ready after p list) ++ itself_ready after p)
+abbrev pub requeued : World → ℕ → List ℕ → List ℕ → List ℕ
+requeued after p out list = still_ready after p list ++ (joining after p out (still_ready after p list) ++ itself_ready after p)
 
 -- the calls that may start a process, or end others
 abbrev pub may_start_or_kill : CallName → Bool

@@ -1,7 +1,7 @@
--- The ready list of a system: which processes stand in it, and in what order.
-use Rattle.std.specs.Prelude.{ℕ, ◌≡◌, false, ◌&&◌, not, ◌==◌, List, [], ◌∷◌, ◌++◌, map, length, if◌then◌else◌}
-use Rattle.std.specs.List.{filter}
-use Rattle.zl_code.specs.Common.{World, is_process, is_ready}
+-- The ready list of a system and the marks of the processes that are out: who stands in them, and in what order.
+use Rattle.std.specs.Prelude.{ℕ, ◌≡◌, ◌≤◌, ◌+◌, true, false, Bool, ◌&&◌, not, ◌==◌, List, [], ◌∷◌, ◌++◌, map, length, IsTrue, if◌then◌else◌}
+use Rattle.std.specs.List.{filter, list_any}
+use Rattle.zl_code.specs.Common.{World, State, Ready, Ended, is_process, is_ready}
 
 -- the processes ever made, by koid
 abbrev pub pids_of : World → List ℕ
@@ -11,13 +11,34 @@ pids_of w = map (λ p. p.0) w.processes
 abbrev pub ready_by_koid : World → List ℕ
 ready_by_koid w = filter (λ q. is_process w is_ready q) (pids_of w)
 
--- each ready process stands in the list once, and nothing else does
-abbrev pub AreReady : World → List ℕ → Type 0
-AreReady w list = (k : ℕ) → length (filter (λ q. q == k) list) ≡ (if is_process w is_ready k then 1 else 0)
+-- how often the process stands in the list
+abbrev pub times : ℕ → List ℕ → ℕ
+times p list = length (filter (λ q. q == p) list)
 
--- no process is ready
-abbrev pub IsIdle : World → Type 0
-IsIdle w = (k : ℕ) → is_process w is_ready k ≡ false
+-- the process stands in the list
+abbrev pub is_in : ℕ → List ℕ → Bool
+is_in p list = list_any (λ q. q == p) list
+
+-- the list without the process p
+abbrev pub others_of : ℕ → List ℕ → List ℕ
+others_of p list = filter (λ q. not (q == p)) list
+
+-- may take its next step, or took its last one
+abbrev pub is_ready_or_over : State → Bool
+is_ready_or_over Ready = true
+is_ready_or_over (Ended code) = true
+is_ready_or_over _ = false
+
+-- the ready list and the marks of a world
+pub record Listed (w : World) (ready out : List ℕ) : Type 0 where
+  -- together they hold each ready process once
+  pub once : (p : ℕ) → is_process w is_ready p ≡ true → times p ready + times p out ≡ 1
+  -- nothing else is in the list
+  pub alone : (p : ℕ) → is_process w is_ready p ≡ false → times p ready ≡ 0
+  -- no process has two marks
+  pub marks : (p : ℕ) → times p out ≤ 1
+  -- what is marked and hasn't ended is ready
+  pub marked : (p : ℕ) → is_in p out ≡ true → IsTrue (is_process w is_ready_or_over p)
 
 -- ---- after a step of p from w
 

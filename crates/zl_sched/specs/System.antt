@@ -1,6 +1,6 @@
--- A lab with its trace, what it was booted from, its ready list, and what turns do to them.
-use Rattle.std.specs.Prelude.{ℕ, ◌≡◌, ◌<◌, ◌≤◌, ◌-◌, false, List, [], ◌∷◌, ◌++◌, length, IsTrue}
-use Rattle.zl_code.specs.Common.{World as WorldValue, Library, Step, IsLegalHistory}
+-- A lab with its trace, what it was booted from, its ready list and its marks, and what turns do to them.
+use Rattle.std.specs.Prelude.{ℕ, ◌≡◌, ◌<◌, ◌≤◌, ◌-◌, Bool, false, ◌&&◌, not, List, [], ◌∷◌, ◌++◌, length, IsTrue}
+use Rattle.zl_code.specs.Common.{World as WorldValue, is_process, is_ready, Library, Step, IsLegalHistory}
 use Rattle.zl_code.specs.Boot.{IsBooted}
 use Rattle.zl_code.specs.Headline.{IsSizedBoot, CoveredGoWell}
 use Rattle.zl_code.specs.declared.boot.Statement.{Statement}
@@ -10,16 +10,26 @@ use Rattle.zl_sched.specs.declared.system.Stepped.{Stepped}
 use Rattle.zl_sched.specs.declared.system.Stepped.TheVariants as stepped
 use Rattle.zl_sched.specs.declared.system.End.{End}
 use Rattle.zl_sched.specs.Follows.{EndsBy}
-use Rattle.zl_sched.specs.Ready.{AreReady, queued_after, ready_by_koid}
+use Rattle.zl_sched.specs.Ready.{Listed, is_in, queued_after, ready_by_koid}
 
 -- a lab, the items of its steps so far, the statements that it was booted from, how many items there may be,
--- and the list of its ready processes
+-- the list of its ready processes, and the marks of those that are out
 pub record System : Type 0 where
   pub lab : World
   pub items : List TraceItem
   pub statements : List Statement
   pub limit : ℕ
   pub ready : List ℕ
+  pub out : List ℕ
+
+-- the process is ready and isn't out
+abbrev pub may_step : System → ℕ → Bool
+may_step s pid = is_ready_in s.lab pid && not (is_in pid s.out)
+
+-- no process is ready, and none is out
+pub record IsIdle (s : System) : Type 0 where
+  pub none_ready : (k : ℕ) → is_process s.lab.world is_ready k ≡ false
+  pub none_out : s.out ≡ []
 
 -- ---- where it comes from
 
@@ -40,11 +50,12 @@ pub record HasBooted (lib : Library) (statements : List Statement) (limit : ℕ)
   pub statements_are : s.statements ≡ statements
   pub limit_is : s.limit ≡ limit
   pub ready : s.ready ≡ ready_by_koid s.lab.world
+  pub out : s.out ≡ []
 
--- what is true of every system: its trace is legal, and its list is that of the ready processes
+-- what is true of every system: its trace is legal, and its list and its marks are those of the ready processes
 pub record IsWhole (s : System) : Type 0 where
   pub legal : IsLegal s
-  pub are_ready : AreReady s.lab.world s.ready
+  pub listed : Listed s.lab.world s.ready s.out
 
 -- its items are a legal history, in which each covered process goes well
 pub record AreSafe (s : System) : Type 0 where
@@ -53,30 +64,31 @@ pub record AreSafe (s : System) : Type 0 where
 
 -- ---- what comes to it
 
--- the items came to the trace
+-- the items came to the trace, and nobody is out who wasn't
 pub record Adds (s : System) (more : List TraceItem) (s2 : System) : Type 0 where
   pub programs : s2.lab.programs ≡ s.lab.programs
   pub items : s2.items ≡ s.items ++ more
   pub statements : s2.statements ≡ s.statements
   pub limit : s2.limit ≡ s.limit
+  pub out : s2.out ≡ s.out
 
 -- ---- one turn
 
--- a turn of a ready process, with room in the trace, is its one step
+-- a turn of a process that may step, with room in the trace, is its one step
 pub record Runs (s : System) (pid : ℕ) (s2 : System) : Type 0 where
   pub item : TraceItem
   pub adds : Adds s (item ∷ []) s2
   pub step : Step s.lab.programs s.lab.world pid item s2.lab.world
-  pub ready : IsTrue (is_ready_in s.lab pid)
+  pub ready : IsTrue (may_step s pid)
   pub room : length s.items < s.limit
   pub queue : s2.ready ≡ queued_after s.lab.world pid s2.lab.world s.ready
 
 -- what a turn does, by its answer: all but a step changes nothing
 abbrev pub Turns : System → ℕ → Stepped → System → Type 0
 Turns s pid stepped.Ran s2 = Runs s pid s2
-Turns s pid stepped.NotReady s2 = (s2 ≡ s) × (is_ready_in s.lab pid ≡ false)
-Turns s pid stepped.Limit s2 = (s2 ≡ s) × IsTrue (is_ready_in s.lab pid) × (s.limit ≤ length s.items)
-Turns s pid stepped.NoMemory s2 = (s2 ≡ s) × IsTrue (is_ready_in s.lab pid) × (length s.items < s.limit)
+Turns s pid stepped.NotReady s2 = (s2 ≡ s) × (may_step s pid ≡ false)
+Turns s pid stepped.Limit s2 = (s2 ≡ s) × IsTrue (may_step s pid) × (s.limit ≤ length s.items)
+Turns s pid stepped.NoMemory s2 = (s2 ≡ s) × IsTrue (may_step s pid) × (length s.items < s.limit)
 
 -- ---- many turns
 

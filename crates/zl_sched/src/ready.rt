@@ -1,10 +1,11 @@
-//! The list of the processes that are ready, by their last step or when they became ready.
+//! The list of the processes that are ready, by their last step or when they became ready, and the marks
+//! of those that are out.
 
-ghost use Rattle.std.specs.Prelude.{IfOk, ◌≡◌, ◌==◌, ◌≤◌, ◌+◌, ◌++◌, ◌∷◌, [], not, length, vec_capacity};
+ghost use Rattle.std.specs.Prelude.{IfOk, ◌≡◌, ◌==◌, ◌≤◌, ◌+◌, ◌++◌, ◌∷◌, [], true, not, length, vec_capacity};
 ghost use Rattle.std.specs.List.{filter};
 ghost use Rattle.zl_calls.specs.World.{is_ready_in};
 ghost use Rattle.zl_sched.specs.Queueing.{joining, joins, one_if, requeued};
-ghost use Rattle.zl_sched.specs.Ready.{ready_by_koid as are_ready_by_koid};
+ghost use Rattle.zl_sched.specs.Ready.{is_in, others_of, ready_by_koid as are_ready_by_koid};
 
 use std::alloc::{AllocError, Global};
 use zl_calls::World;
@@ -18,9 +19,25 @@ pub fn is_ready(world: &World, pid: Pid) -> bool
     matches!(world.state_of(pid), ProcState::Ready)
 }
 
+/// Whether the process has a mark.
+#[inline(always)]
+pub fn is_out(out: &[Pid], pid: Pid) -> bool
+    ensures { result ≡ is_in pid out.now }
+{
+    out.contains(&pid)
+}
+
+/// The process has no mark any more.
+pub fn unmark(out: &mut Vec<Pid>, pid: Pid)
+    ensures items { out.new.items ≡ others_of pid out.old.items }
+{
+    out.retain(|other| *other != pid);
+}
+
 /// The ready processes, by koid.
 pub fn ready_by_koid(alloc: Global, world: &World) -> Result<Vec<Pid>, AllocError>
-    ensures { IfOk result (λ ready. ready.items ≡ are_ready_by_koid world.now.world) }
+    ensures items { IfOk result (λ ready. ready.items ≡ are_ready_by_koid world.now.world) }
+    ensures room { IfOk result (λ ready. length ready.items ≤ vec_capacity ready) }
 {
     let mut ready = Vec::new(alloc);
     ready.reserve(world.process_count())?;
@@ -39,6 +56,7 @@ pub fn move_last(ready: &mut Vec<Pid>, pid: Pid)
     requires room { length ready.old.items ≤ vec_capacity ready.old }
     ensures items { ready.new.items
         ≡ filter (λ q. not (q == pid)) ready.old.items ++ pid ∷ [] }
+    ensures capacity { vec_capacity ready.new ≡ vec_capacity ready.old }
 {
     let len = ready.len();
     if len > 0 && ready[len - 1] == pid {
@@ -52,24 +70,41 @@ pub fn move_last(ready: &mut Vec<Pid>, pid: Pid)
 /// place; those that are new in it go last by koid, and then the process, if it is ready.
 // Apart from the steps that leave the same ready, which are nearly all.
 #[inline(never)]
-pub fn requeue(ready: &mut Vec<Pid>, world: &World, pid: Pid)
-    requires room { length (requeued world.now.world pid ready.old.items)
+pub fn requeue(ready: &mut Vec<Pid>, out: &[Pid], world: &World, pid: Pid)
+    requires room { length (requeued world.now.world pid out.now ready.old.items)
         ≤ vec_capacity ready.old }
-    ensures items { ready.new.items ≡ requeued world.now.world pid ready.old.items }
+    ensures items { ready.new.items ≡ requeued world.now.world pid out.now ready.old.items }
+    ensures capacity { vec_capacity ready.new ≡ vec_capacity ready.old }
 {
     ready.retain(|other| is_ready(world, *other) && *other != pid);
-    join(ready, world, pid);
+    join(ready, out, world, pid);
     if is_ready(world, pid) {
         ready.push_reserved(pid);
     }
 }
 
-/// The ready processes that aren't in the list come to it by koid, but for this one.
-fn join(ready: &mut Vec<Pid>, world: &World, pid: Pid)
-    requires room { length (ready.old.items ++ joining world.now.world pid ready.old.items)
+/// The same for a process that isn't in the list; where all are as ready as before, it goes last.
+pub fn queue(ready: &mut Vec<Pid>, out: &[Pid], world: &World, pid: Pid, is_same: bool)
+    requires same { is_same ≡ true
+        → requeued world.now.world pid out.now ready.old.items ≡ ready.old.items ++ pid ∷ [] }
+    requires room { length (requeued world.now.world pid out.now ready.old.items)
         ≤ vec_capacity ready.old }
+    ensures items { ready.new.items ≡ requeued world.now.world pid out.now ready.old.items }
+    ensures capacity { vec_capacity ready.new ≡ vec_capacity ready.old }
+{
+    if is_same {
+        ready.push_reserved(pid);
+    } else {
+        requeue(ready, out, world, pid);
+    }
+}
+
+/// The ready processes that are neither in the list nor out come to it by koid, but for this one.
+fn join(ready: &mut Vec<Pid>, out: &[Pid], world: &World, pid: Pid)
+    requires room { length (ready.old.items
+        ++ joining world.now.world pid out.now ready.old.items) ≤ vec_capacity ready.old }
     ensures items { ready.new.items
-        ≡ ready.old.items ++ joining world.now.world pid ready.old.items }
+        ≡ ready.old.items ++ joining world.now.world pid out.now ready.old.items }
     ensures capacity { vec_capacity ready.new ≡ vec_capacity ready.old }
 {
     let stayed = ready.len();
@@ -77,7 +112,7 @@ fn join(ready: &mut Vec<Pid>, world: &World, pid: Pid)
         let Some(other) = world.process_at(n) else {
             unreachable!()
         };
-        let joins = is_new(&ready[..stayed], world, pid, other);
+        let joins = is_new(&ready[..stayed], out, world, pid, other);
         push_if(ready, joins, other);
     }
 }
@@ -93,9 +128,10 @@ fn push_if(ready: &mut Vec<Pid>, is_so: bool, pid: Pid)
     }
 }
 
-/// Whether the other process is ready, and neither this one nor among those that stayed in the list.
-fn is_new(stayed: &[Pid], world: &World, pid: Pid, other: Pid) -> bool
-    ensures { result ≡ joins world.now.world pid stayed.now other }
+/// Whether the other process is ready, and neither this one nor out nor among those that stayed in the
+/// list.
+fn is_new(stayed: &[Pid], out: &[Pid], world: &World, pid: Pid, other: Pid) -> bool
+    ensures { result ≡ joins world.now.world pid out.now stayed.now other }
 {
-    is_ready(world, other) && !stayed.contains(&other) && other != pid
+    is_ready(world, other) && !stayed.contains(&other) && !is_out(out, other) && other != pid
 }

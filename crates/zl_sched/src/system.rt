@@ -1,15 +1,14 @@
 //! A world with its trace, booted from statements and stepped along a schedule.
-ghost use Rattle.std.specs.Prelude.{◌≡◌, ◌≢◌, ◌≤◌, ◌↔◌, IfOk, IfErr, OnOk, IsTrue, length, replicate, vec_capacity, if◌then◌else◌};
+ghost use Rattle.std.specs.Prelude.{◌≡◌, ◌≢◌, ◌≤◌, ◌↔◌, [], false, IfOk, IfErr, OnOk, IsTrue, length, replicate, vec_capacity, if◌then◌else◌};
 ghost use Rattle.zl_code.specs.declared.boot.BootCause.TheVariants.{NoMemory};
 ghost use Rattle.zl_code.specs.Boot.{FirstFault};
 ghost use Rattle.zl_calls.specs.Makes.{IsReached};
-ghost use Rattle.zl_calls.specs.World.{is_ready_in};
 ghost use Rattle.zl_sched.specs.Follows.{turns_of};
 ghost use Rattle.zl_sched.specs.Queueing.{leaves_ready as item_leaves_ready};
-ghost use Rattle.zl_sched.specs.Ready.{AreReady, IsIdle};
-ghost use Rattle.zl_sched.specs.System.{AreSafe, HasBooted, IsLegal, Turns, Walks};
+ghost use Rattle.zl_sched.specs.Ready.{Listed, is_in};
+ghost use Rattle.zl_sched.specs.System.{AreSafe, HasBooted, IsIdle, IsLegal, Turns, Walks, may_step, room_of};
 
-use crate::ready::{is_ready, move_last, ready_by_koid, requeue};
+use crate::ready::{is_out, is_ready, move_last, ready_by_koid, requeue};
 use std::alloc::{AllocError, Global};
 use std::marker::Model;
 use zl_calls::World;
@@ -24,7 +23,7 @@ use zl_rights::Pid;
 pub enum Stepped {
     /// One instruction is done, and its item is added.
     Ran,
-    /// The process isn't ready, or there is none of this koid.
+    /// The process isn't ready or is out, or there is none of this koid.
     NotReady,
     /// The trace is at its limit.
     Limit,
@@ -45,20 +44,25 @@ pub enum End {
     Memory,
 }
 
-/// A world, and the trace of the steps that led to it from the world that its statements boot.
+/// A world, the trace of the steps that led to it from the world that its statements boot, and the
+/// processes that are ready or are out to go on by themselves.
 ///
 /// Source: own profile; what a step is follows `World`.
 #[derive(Drop)]
 pub struct System {
-    world: World,
-    items: Vec<TraceItem>,
-    boot: Boot,
-    // The ready processes, by their last step or when they became ready. Each step makes room for all
-    // processes that there are.
-    ready: Vec<Pid>,
+    pub(crate) alloc: Global,
+    pub(crate) world: World,
+    pub(crate) items: Vec<TraceItem>,
+    pub(crate) boot: Boot,
+    // The ready processes that aren't out, by their last step or when they became ready. Each step makes
+    // room for all processes that there are, so that one that comes back has its place.
+    pub(crate) ready: Vec<Pid>,
+    // The marks of those that are out.
+    pub(crate) out: Vec<Pid>,
 }
 
 impl Model for System {
+    ghost use Rattle.std.specs.Prelude.{◌≤◌, ◌+◌, length, vec_capacity};
     ghost use Rattle.zl_sched.specs.System.{System as SystemValue, IsWhole};
 
     ghost Value = { SystemValue };
@@ -69,6 +73,7 @@ impl Model for System {
       statements = s.boot.statements.items;
       limit = s.boot.limit;
       ready = s.ready.items;
+      out = s.out.items;
     } };
 
     ghost invariant = { λ s. IsWhole (record {
@@ -77,7 +82,8 @@ impl Model for System {
       statements = s.boot.statements.items;
       limit = s.boot.limit;
       ready = s.ready.items;
-    }) };
+      out = s.out.items;
+    }) × (length s.ready.items + length s.out.items ≤ vec_capacity s.ready) };
 }
 
 impl System {
@@ -106,10 +112,12 @@ impl System {
             });
         };
         Ok(System {
+            alloc,
             world,
             items,
             boot,
             ready,
+            out: Vec::new(alloc),
         })
     }
 
@@ -120,11 +128,20 @@ impl System {
         &self.world
     }
 
-    /// Whether no process is ready.
+    /// Whether no process is ready, and none is out.
     pub fn idle(&self) -> bool
-        ensures { IsTrue result ↔ IsIdle self.now.lab.world }
+        ensures idle { IsTrue result ↔ IsIdle self.now }
+        // What is public of the list and the marks: callers learn it here of any system.
+        ensures listed { Listed self.now.lab.world self.now.ready self.now.out }
     {
-        self.ready.is_empty()
+        self.ready.is_empty() && self.out.is_empty()
+    }
+
+    /// How many items there may still be.
+    pub fn free(&self) -> u64
+        ensures { result ≡ room_of self.now }
+    {
+        self.boot.limit - self.items.len() as u64
     }
 
     /// The world alone; the trace is gone.
@@ -150,7 +167,7 @@ impl System {
 
     /// Lets the process do one instruction, and adds its item to the trace.
     ///
-    /// `NotReady` comes for a process that isn't ready, whatever else is so; else `Limit` where the
+    /// `NotReady` comes for a process that isn't ready or is out, whatever else is so; else `Limit` where the
     /// trace is full, and `NoMemory` where room for the item or in the list of ready processes is
     /// refused. That it was refused no clause says.
     // A run along a schedule calls it for each turn.
@@ -158,6 +175,9 @@ impl System {
     pub fn step(&mut self, pid: Pid) -> Stepped
         ensures { Turns self.old pid result self.new }
     {
+        if is_out(&self.out, pid) {
+            return Stepped::NotReady;
+        }
         if self.items.len() as u64 >= self.boot.limit {
             return self.refused(pid, Stepped::Limit);
         }
@@ -175,17 +195,18 @@ impl System {
         if leaves_ready(&item) && self.world.blocked_count() == blocked {
             move_last(&mut self.ready, pid);
         } else {
-            requeue(&mut self.ready, &self.world, pid);
+            requeue(&mut self.ready, &self.out, &self.world, pid);
         }
         Stepped::Ran
     }
 
     /// The answer to a turn that the trace has no room for, which a process that isn't ready doesn't
-    /// need.
+    /// need. The process isn't out.
     #[cold]
     #[inline(never)]
     fn refused(&self, pid: Pid, answer: Stepped) -> Stepped
-        ensures { result ≡ (if is_ready_in self.now.lab pid then answer else Stepped.NotReady) }
+        requires { is_in pid self.now.out ≡ false }
+        ensures { result ≡ (if may_step self.now pid then answer else Stepped.NotReady) }
     {
         if is_ready(&self.world, pid) {
             answer
@@ -197,7 +218,7 @@ impl System {
     /// So many turns of the process; those that find it not ready are skipped. The first of these may
     /// end it, as a process that isn't ready stays so while no other takes a turn.
     fn step_turns(&mut self, pid: Pid, count: u32) -> End
-        ensures { Walks self.old (replicate count pid) result self.new }
+        ensures { self.old.out ≡ [] → Walks self.old (replicate count pid) result self.new }
     {
         for turn in 0..count {
             match self.step(pid) {
@@ -212,9 +233,10 @@ impl System {
 
     /// The turns of the schedule, one pair after another, up to the end that comes first: `Schedule`
     /// after the last, else `Limit` or `Memory` before a turn of a ready process that has no room. A
-    /// turn of a process that isn't ready is skipped.
+    /// turn of a process that isn't ready is skipped, and so is one of a process that is out: what is said
+    /// of the end is said where none is.
     pub fn step_all(&mut self, schedule: &[(Pid, u32)]) -> End
-        ensures { Walks self.old (turns_of schedule.now) result self.new }
+        ensures { self.old.out ≡ [] → Walks self.old (turns_of schedule.now) result self.new }
     {
         for pair in schedule {
             match self.step_turns(pair.0, pair.1) {
@@ -227,15 +249,16 @@ impl System {
 }
 
 /// Room in the list for each process that there is.
-fn make_room(ready: &mut Vec<Pid>, world: &World) -> Result<(), AllocError>
+pub(crate) fn make_room(ready: &mut Vec<Pid>, world: &World) -> Result<(), AllocError>
     ensures room { OnOk result (length world.now.world.processes ≤ vec_capacity ready.new) }
     ensures items { ready.new.items ≡ ready.old.items }
+    ensures capacity { vec_capacity ready.old ≤ vec_capacity ready.new }
 {
     ready.reserve(world.process_count())
 }
 
 /// Whether the step that the item tells of started and ended no process, and blocked none.
-fn leaves_ready(item: &TraceItem) -> bool
+pub(crate) fn leaves_ready(item: &TraceItem) -> bool
     ensures { result ≡ item_leaves_ready item.now }
 {
     match item {

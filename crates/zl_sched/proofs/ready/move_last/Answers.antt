@@ -1,4 +1,4 @@
-use Rattle.zl_sched.proofs.Common.{◌-◌, get_or, subst, sym, ◌≡◌, ◌++◌, ◌∷◌, [], List, ℕ, ap, arith, length, rules}
+use Rattle.zl_sched.proofs.Common.{◌-◌, ◌∙◌, refl, get_or, subst, sym, ◌≡◌, ◌++◌, ◌∷◌, [], List, ℕ, ap, arith, length, rules}
 use Rattle.std.specs.Prelude.{not, ◌==◌}
 use Rattle.std.specs.List.{filter}
 use Rattle.std.proofs.lemmas.Fn.{filter_same}
@@ -10,7 +10,7 @@ returns-then-index-pid c =
     let last : get_or c.args.ready.now.items (c.len-len.result - 1) c.args.pid ≡ c.args.pid
     = subst (λ (q : ℕ). get_or c.args.ready.now.items (c.len-len.result - 1) q ≡ q) c.if-index-pid.true (sym c.index.ensures) in
     let long : c.len-len.result ≡ length c.args.ready.now.items = omega (arith, c.len-len.ensures, c.args.ready.now.ok.0) in
-    record { items = last_stays_at c.args.pid c.args.ready.now.items (omega (arith, c.if-len-gt0.true, long)) (subst (λ (n : ℕ). get_or c.args.ready.now.items (n - 1) c.args.pid ≡ c.args.pid) long last) c.requires.once }
+    record { capacity = refl; items = last_stays_at c.args.pid c.args.ready.now.items (omega (arith, c.if-len-gt0.true, long)) (subst (λ (n : ℕ). get_or c.args.ready.now.items (n - 1) c.args.pid ≡ c.args.pid) long last) c.requires.once }
 
 pub push_reserved-requires : goal.push_reserved-requires
 push_reserved-requires c =
@@ -20,4 +20,4 @@ push_reserved-requires c =
 pub returns : goal.returns
 returns c =
     let left : c.retain.new.self.items ≡ filter (λ q. not (q == c.args.pid)) c.args.ready.now.items = filter_same _ _ _ (λ x b f' k. search rules) _ _ c.retain.ensures.filtered in
-    record { items = rw (c.push_reserved.ensures.items) (ap (λ (xs : List ℕ). xs ++ (c.args.pid ∷ [])) left) }
+    record { items = rw (c.push_reserved.ensures.items) (ap (λ (xs : List ℕ). xs ++ (c.args.pid ∷ [])) left); capacity = c.push_reserved.ensures.capacity ∙ c.retain.ensures.capacity }

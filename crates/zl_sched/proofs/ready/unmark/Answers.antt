@@ -1,0 +1,6 @@
+use Rattle.zl_sched.proofs.Common.{rules}
+use Rattle.std.proofs.lemmas.Fn.{filter_same}
+use Rattle.zl_sched.proofs.ready.unmark.Goals as goal
+
+pub returns : goal.returns
+returns c = record { items = filter_same _ _ _ (λ x b f' k. search rules) _ _ c.retain.ensures.filtered }

@@ -1,0 +1,139 @@
+-- A process that is taken out to go on by itself, and what it did handed in.
+use Rattle.std.specs.Prelude.{ℕ, ◌≡◌, ◌≢◌, ◌<◌, ◌≤◌, ◌+◌, ◌==◌, ◌⊎◌, Bool, true, false, List, [], ◌∷◌, ◌++◌, length, IsTrue, if◌then◌else◌}
+use Rattle.std.specs.List.{list_all}
+use Rattle.zl_code.specs.Common.{is_process, lives}
+use Rattle.zl_code.specs.Steps.{Runs}
+use Rattle.zl_code.specs.declared.history.TraceItem.{TraceItem}
+use Rattle.zl_code.specs.declared.history.TraceItem.TheVariants as item
+use Rattle.zl_interp.specs.Bursts.{Turn, Done}
+use Rattle.zl_interp.specs.declared.bursts.Stop.{Stop}
+use Rattle.zl_interp.specs.declared.bursts.Stop.TheVariants as stop
+use Rattle.zl_calls.specs.World.{World, is_ready_in}
+use Rattle.zl_calls.specs.Steps.{TakesStep}
+use Rattle.zl_calls.specs.Turns.{IsTurn, Fits, advanced, steps_done}
+use Rattle.zl_sched.specs.declared.hand_in.HandIn.{HandIn}
+use Rattle.zl_sched.specs.declared.hand_in.HandIn.TheVariants as hand
+use Rattle.zl_sched.specs.declared.hand_in.Judged.{Judged}
+use Rattle.zl_sched.specs.declared.hand_in.Judged.TheVariants as judged
+use Rattle.zl_sched.specs.Ready.{is_in, others_of, queued_after}
+use Rattle.zl_sched.specs.Queueing.{leaves_ready}
+use Rattle.zl_sched.specs.System.{System}
+
+-- ---- taken out
+
+-- the first of the list is out, with its program and its Cpu as they stand; nothing else changes
+pub record TakesOne (s : System) (t : Turn) (s2 : System) : Type 0 where
+  pub rest : List ℕ
+  pub first : s.ready ≡ t.pid ∷ rest
+  pub turn : IsTurn s.lab t.pid t
+  pub after : s2 ≡ record s { ready = rest; out = s.out ++ (t.pid ∷ []) }
+
+-- the list is empty
+abbrev pub TakesNone : System → System → Type 0
+TakesNone s s2 = (s.ready ≡ []) × (s2 ≡ s)
+
+-- memory for a turn was refused
+abbrev pub LacksTurn : System → System → Type 0
+LacksTurn s s2 = (s.ready ≢ []) × (s2 ≡ s)
+
+-- ---- what was done, with its items
+
+abbrev pub is_more : Stop → Bool
+is_more stop.More = true
+is_more stop.AtCall = false
+is_more stop.Stuck = false
+
+-- how many items tell of it
+abbrev pub items_of : Done → ℕ
+items_of d = (if d.ran == 0 then 0 else 1) + (if is_more d.stop then 0 else 1)
+
+-- the item of so many local instructions, if there were any
+abbrev pub run_items : ℕ → ℕ → List TraceItem
+run_items p n = if n == 0 then [] else (item.Run p n ∷ [])
+
+-- what comes behind them: nothing, or one step of the process, with its item
+abbrev pub Ends : Bool → World → ℕ → List TraceItem → World → Type 0
+Ends true l p last l2 = (last ≡ []) × (l2 ≡ l)
+Ends false l p last l2 = (x : TraceItem) × (last ≡ x ∷ []) × TakesStep l p l2 x
+
+-- ---- handed in
+
+-- out and ready, and it stands here with the program and the Cpu with which it began
+pub record IsAwaited (s : System) (d : Done) : Type 0 where
+  pub out : is_in d.pid s.out ≡ true
+  pub ready : IsTrue (is_ready_in s.lab d.pid)
+  pub fits : Fits s.lab d
+
+abbrev pub HasRoom : System → Done → Type 0
+HasRoom s d = length s.items + items_of d ≤ s.limit
+
+abbrev pub LacksRoom : System → Done → Type 0
+LacksRoom s d = s.limit < length s.items + items_of d
+
+-- out, and it lives no more
+abbrev pub IsGone : System → Done → Type 0
+IsGone s d = (is_in d.pid s.out ≡ true) × (is_process s.lab.world lives d.pid ≡ false)
+
+-- out and ready, and it stands here with another program or Cpu
+abbrev pub IsOther : System → Done → Type 0
+IsOther s d = (is_in d.pid s.out ≡ true) × IsTrue (is_ready_in s.lab d.pid) × (Fits s.lab d → ⊥)
+
+-- the process isn't out any more
+abbrev pub unmarked : System → ℕ → System
+unmarked s p = record s { out = others_of p s.out }
+
+-- nor is this one, which is last in the list
+abbrev pub put_back : System → ℕ → System
+put_back s p = record s { ready = s.ready ++ (p ∷ []); out = others_of p s.out }
+
+-- the local instructions are steps of the world, what comes behind them is one more, both are in the trace, and the
+-- process isn't out any more
+pub record Accepts (s : System) (d : Done) (s2 : System) : Type 0 where
+  pub awaited : IsAwaited s d
+  pub room : HasRoom s d
+  pub steps : Runs s.lab.programs s.lab.world (steps_done d) (advanced s.lab d).world
+  pub last : List TraceItem
+  pub ends : Ends (is_more d.stop) (advanced s.lab d) d.pid last s2.lab
+  pub after : s2 ≡ record s {
+    lab = s2.lab;
+    items = s.items ++ (run_items d.pid d.ran ++ last);
+    ready = queued_after s.lab.world d.pid s2.lab.world s.ready;
+    out = others_of d.pid s.out;
+  }
+
+-- Each answer with all that it says. Their conditions exclude one another, so that each comes just where it is said.
+abbrev pub HandsIn : System → Done → HandIn → System → Type 0
+HandsIn s d hand.Taken s2 = Accepts s d s2
+HandsIn s d hand.Stranger s2 = ((is_in d.pid s.out ≡ false) × (s2 ≡ s)) ⊎ (IsOther s d × (s2 ≡ put_back s d.pid))
+HandsIn s d hand.Gone s2 = IsGone s d × (s2 ≡ unmarked s d.pid)
+HandsIn s d hand.Limit s2 = IsAwaited s d × LacksRoom s d × (s2 ≡ put_back s d.pid)
+HandsIn s d hand.NoMemory s2 = IsAwaited s d × HasRoom s d × (s2 ≡ put_back s d.pid)
+
+-- ---- how the code gets there; no public clause cites what follows
+
+-- what is found before anything changes
+abbrev pub Judges : System → Done → Judged → Type 0
+Judges s d judged.NotOut = is_in d.pid s.out ≡ false
+Judges s d judged.Gone = IsGone s d
+Judges s d judged.Other = IsOther s d
+Judges s d judged.Full = IsAwaited s d × LacksRoom s d
+Judges s d judged.Fits = IsAwaited s d × HasRoom s d
+
+-- by these items, and with as many blocked, all are as ready as before
+abbrev pub LeavesAll : World → List TraceItem → World → Type 0
+LeavesAll l last l2 = IsTrue (list_all leaves_ready last) × (length l2.world.blocked ≡ length l.world.blocked)
+
+-- what comes behind the local instructions, with the trace, and whether all are as ready as before
+pub record EndsFrom (more : Bool) (l : World) (items : List TraceItem) (p : ℕ) (same : Bool) (l2 : World) (items2 : List TraceItem) : Type 0 where
+  pub last : List TraceItem
+  pub items_are : items2 ≡ items ++ last
+  pub ends : Ends more l p last l2
+  pub leaves : same ≡ true → LeavesAll l last l2
+
+-- the same with the local instructions before it
+pub record GoesFrom (l : World) (items : List TraceItem) (d : Done) (same : Bool) (l2 : World) (items2 : List TraceItem) : Type 0 where
+  pub steps : Runs l.programs l.world (steps_done d) (advanced l d).world
+  pub last : List TraceItem
+  pub items_are : items2 ≡ items ++ (run_items d.pid d.ran ++ last)
+  pub ends : Ends (is_more d.stop) (advanced l d) d.pid last l2
+  pub leaves : same ≡ true → LeavesAll (advanced l d) last l2

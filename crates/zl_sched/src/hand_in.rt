@@ -1,0 +1,245 @@
+//! Processes that are taken out to go on by themselves, and what they did handed in.
+
+ghost use Rattle.std.specs.Prelude.{◌≡◌, ◌≢◌, ◌≤◌, ◌+◌, ◌++◌, [], true, false, IsTrue, MatchBool, MatchOption, MatchResult, length, vec_capacity};
+ghost use Rattle.zl_interp.specs.Bursts.{IsBurst};
+ghost use Rattle.zl_calls.specs.World.{is_ready_in};
+ghost use Rattle.zl_calls.specs.Turns.{Fits};
+ghost use Rattle.zl_code.specs.Common.{is_process, lives};
+ghost use Rattle.zl_sched.specs.Ready.{is_in};
+ghost use Rattle.zl_sched.specs.HandIn.{Accepts, EndsFrom, GoesFrom, HandsIn, HasRoom, IsAwaited, Judges, LacksTurn, TakesNone, TakesOne, is_more as ends_with_more, items_of, put_back, run_items, unmarked};
+
+use crate::ready::{is_out, is_ready, queue, unmark};
+use crate::system::{System, leaves_ready, make_room};
+use std::alloc::AllocError;
+use zl_calls::World;
+use zl_code::TraceItem;
+use zl_interp::{Done, Stop, Turn};
+use zl_rights::Pid;
+
+/// What became of a burst that was handed in.
+///
+/// Source: own profile.
+#[derive(Clone, Copy, PartialEq, Eq, Debug)]
+pub enum HandIn {
+    /// Its items are in the trace.
+    Taken,
+    /// The process isn't out, or it lives with another program or another Cpu.
+    Stranger,
+    /// The process was out, and lives no more.
+    Gone,
+    /// The trace has no room for its items.
+    Limit,
+    /// Memory was refused.
+    NoMemory,
+}
+
+/// What `hand_in` finds before it changes anything.
+#[derive(Clone, Copy, PartialEq, Eq)]
+enum Judged {
+    NotOut,
+    Gone,
+    Other,
+    Full,
+    Fits,
+}
+
+impl System {
+    /// The first of the ready list, with its program and its Cpu as they stand. It is out from then on,
+    /// and stays so if the turn is dropped.
+    ///
+    /// Nothing only where the list is empty. Only memory can be refused; then nothing changes.
+    pub fn take(&mut self) -> Result<Option<Turn>, AllocError>
+        ensures { MatchResult result
+            (λ taken. MatchOption taken (TakesNone self.old self.new)
+            (λ turn. TakesOne self.old turn self.new))
+            (λ refused. LacksTurn self.old self.new) }
+    {
+        if self.ready.is_empty() {
+            return Ok(None);
+        }
+        if self.out.reserve(1).is_err() {
+            return Err(AllocError);
+        }
+        let pid = self.ready[0];
+        let Ok(turn) = self.world.turn(pid) else {
+            return Err(AllocError);
+        };
+        self.ready.remove(0);
+        self.out.push_reserved(pid);
+        Ok(Some(turn))
+    }
+
+    /// What a process did that is out: the local instructions become one item, if there were any, and
+    /// where it is at a call, or stuck, it does that too. It isn't out any more.
+    ///
+    /// `Stranger` comes where the process isn't out, or lives with another program or another Cpu than
+    /// that with which it began; `Gone` where it lives no more; else `Limit` where the trace has no room
+    /// for the items, and `NoMemory` where memory is refused. That it was refused no clause says. After
+    /// these nothing is different but that a living process which was out is last in the ready list.
+    pub fn hand_in(&mut self, done: Done) -> HandIn
+        ensures { HandsIn self.old done result self.new }
+    {
+        self.hand_in_if(done, true)
+    }
+
+    /// The same, where memory may be refused at will.
+    pub(crate) fn hand_in_if(&mut self, done: Done, has_memory: bool) -> HandIn
+        ensures { HandsIn self.old done result self.new }
+    {
+        let pid = done.pid();
+        match self.judge(&done) {
+            Judged::NotOut => HandIn::Stranger,
+            Judged::Gone => {
+                self.forget(pid);
+                HandIn::Gone
+            }
+            Judged::Other => {
+                self.put_back(pid);
+                HandIn::Stranger
+            }
+            Judged::Full => {
+                self.put_back(pid);
+                HandIn::Limit
+            }
+            Judged::Fits => {
+                if !has_memory {
+                    self.put_back(pid);
+                    return HandIn::NoMemory;
+                }
+                if !self.accept(done) {
+                    self.put_back(pid);
+                    return HandIn::NoMemory;
+                }
+                HandIn::Taken
+            }
+        }
+    }
+
+    /// Whether the list has a process.
+    pub(crate) fn has_ready(&self) -> bool
+        ensures { MatchBool result (self.now.ready ≢ []) (self.now.ready ≡ []) }
+    {
+        !self.ready.is_empty()
+    }
+
+    /// What is to become of it. Nothing changes.
+    fn judge(&self, done: &Done) -> Judged
+        ensures { Judges self.now done.now result }
+    {
+        let pid = done.pid();
+        if !is_out(&self.out, pid) {
+            return Judged::NotOut;
+        }
+        if !is_ready(&self.world, pid) {
+            return Judged::Gone;
+        }
+        if !self.world.fits(done) {
+            return Judged::Other;
+        }
+        if self.free() < count_of(done) {
+            return Judged::Full;
+        }
+        Judged::Fits
+    }
+
+    /// A process that lives no more isn't out any more.
+    fn forget(&mut self, pid: Pid)
+        requires { is_process self.old.lab.world lives pid ≡ false }
+        ensures { self.new ≡ unmarked self.old pid }
+    {
+        unmark(&mut self.out, pid);
+    }
+
+    /// A ready process that is out isn't out any more, and is last in the list.
+    fn put_back(&mut self, pid: Pid)
+        requires out { is_in pid self.old.out ≡ true }
+        requires ready { IsTrue (is_ready_in self.old.lab pid) }
+        ensures { self.new ≡ put_back self.old pid }
+    {
+        unmark(&mut self.out, pid);
+        self.ready.push_reserved(pid);
+    }
+
+    /// Takes what was done, where there is memory for its items; else nothing changes.
+    fn accept(&mut self, done: Done) -> bool
+        requires awaited { IsAwaited self.old done }
+        requires room { HasRoom self.old done }
+        ensures { MatchBool result (Accepts self.old done self.new) (self.new ≡ self.old) }
+    {
+        if self.items.reserve(2).is_err() {
+            return false;
+        }
+        if make_room(&mut self.ready, &self.world).is_err() {
+            return false;
+        }
+        let pid = done.pid();
+        let is_same = go(&mut self.world, &mut self.items, done);
+        unmark(&mut self.out, pid);
+        queue(&mut self.ready, &self.out, &self.world, pid, is_same);
+        true
+    }
+}
+
+/// How many items tell of what was done.
+fn count_of(done: &Done) -> u64
+    ensures { result ≡ items_of done.now }
+{
+    let run = if done.ran() == 0 { 0 } else { 1 };
+    let end = if is_more(done.stop()) { 0 } else { 1 };
+    run + end
+}
+
+/// Whether nothing comes behind the local instructions.
+fn is_more(stop: Stop) -> bool
+    ensures { result ≡ ends_with_more stop }
+{
+    match stop {
+        Stop::More => true,
+        Stop::AtCall => false,
+        Stop::Stuck => false,
+    }
+}
+
+/// The local instructions that were done, and the step behind them, with their items. It says whether
+/// all processes are as ready as before.
+fn go(world: &mut World, items: &mut Vec<TraceItem>, done: Done) -> bool
+    requires ready { IsTrue (is_ready_in world.old done.pid) }
+    requires fits { Fits world.old done }
+    requires room { length items.old.items + 2 ≤ vec_capacity items.old }
+    ensures { GoesFrom world.old items.old.items done result world.new items.new.items }
+{
+    let pid = done.pid();
+    let is_last = is_more(done.stop());
+    push_run(items, pid, done.ran());
+    world.advance(done);
+    end(world, items, pid, is_last)
+}
+
+/// The step behind the local instructions, if they don't come last. It says whether all processes are as
+/// ready as before.
+fn end(world: &mut World, items: &mut Vec<TraceItem>, pid: Pid, is_last: bool) -> bool
+    requires ready { IsTrue (is_ready_in world.old pid) }
+    requires room { length items.old.items + 1 ≤ vec_capacity items.old }
+    ensures { EndsFrom is_last world.old items.old.items pid result world.new items.new.items }
+{
+    if is_last {
+        return true;
+    }
+    let blocked = world.blocked_count();
+    let Some(item) = world.step(pid) else {
+        unreachable!()
+    };
+    items.push_reserved(item);
+    leaves_ready(&item) && world.blocked_count() == blocked
+}
+
+/// The item of so many local instructions, if there were any.
+fn push_run(items: &mut Vec<TraceItem>, pid: Pid, ran: u32)
+    requires room { length items.old.items + 1 ≤ vec_capacity items.old }
+    ensures items { items.new.items ≡ items.old.items ++ run_items pid ran }
+    ensures capacity { vec_capacity items.new ≡ vec_capacity items.old }
+{
+    if ran != 0 {
+        items.push_reserved(TraceItem::Run { pid, count: ran });
+    }
+}

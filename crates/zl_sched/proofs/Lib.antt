@@ -1,4 +1,5 @@
 pub mod StillReady
+pub mod Beginnings
 pub mod Common
 pub mod Counted
 pub mod Following

@@ -10,15 +10,22 @@
 //! marks of those that are out: together they have each ready process once. `System::take` marks the
 //! first of the list, which goes on by itself then, and `System::hand_in` takes what it did, just where it
 //! fits, as its local instructions and the one step behind them. `System::idle` says whether no process
-//! is ready and none is out. `laws` proves of the definitions that a trace along a schedule is a legal
-//! history.
+//! is ready and none is out, and `System::goes_on` whether a system goes on from another. `Kernel` is
+//! what workers need of a system. `laws` proves of the definitions that a trace along a schedule is a
+//! legal history.
 #![tactic(auto)]
 
+mod fake;
 mod hand_in;
+mod kernel;
 pub mod laws;
+mod opening;
 mod ready;
 mod system;
 
+pub use fake::Fake;
 pub use hand_in::HandIn;
+pub use kernel::Kernel;
+pub use opening::Opening;
 pub use system::{End, Stepped, System};
 pub use zl_code::{Boot, BootFault, TraceItem};

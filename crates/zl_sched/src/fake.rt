@@ -1,0 +1,54 @@
+//! A kernel in memory whose memory is refused where a test says so.
+
+ghost use Rattle.std.specs.Prelude.{◌≡◌};
+
+use crate::hand_in::HandIn;
+use crate::kernel::Kernel;
+use crate::system::System;
+use std::alloc::AllocError;
+use zl_interp::{Done, Turn};
+
+/// A system that refuses memory once so many calls were made that may want it.
+///
+/// It is for tests. Source: own profile.
+#[derive(Drop)]
+pub struct Fake {
+    pub system: System,
+    pub calls: u32,
+}
+
+impl Fake {
+    /// Whether this call has memory.
+    fn has_memory(&mut self) -> bool
+        ensures { self.new.system ≡ self.old.system }
+    {
+        if self.calls == 0 {
+            return false;
+        }
+        self.calls -= 1;
+        true
+    }
+}
+
+impl Kernel for Fake {
+    ghost meaning = { λ f. f.system };
+
+    fn take(&mut self) -> Result<Option<Turn>, AllocError> {
+        if !self.system.has_ready() {
+            return Ok(None);
+        }
+        if !self.has_memory() {
+            return Err(AllocError);
+        }
+        self.system.take()
+    }
+
+    fn hand_in(&mut self, done: Done) -> HandIn {
+        let has_memory = self.has_memory();
+        self.system.hand_in_if(done, has_memory)
+    }
+
+    fn idle(&self) -> bool {
+        self.system.idle()
+    }
+}

@@ -146,6 +146,7 @@ pub record IsStart (text : List ℕ) (s : System) (pairs : List (ℕ × ℕ)) : 
   pub accepted : AreAccepted s.lab.programs
   pub boots : IsSizedBoot s.lab.programs said.statements s.lab.world
   pub items : s.items ≡ []
+  pub out : s.out ≡ []
   pub limit : s.limit ≡ said.limit
   pub schedule : pairs ≡ said.schedule
 

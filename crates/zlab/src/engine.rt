@@ -1,5 +1,5 @@
 //! The engine: an input is read, and its answer written.
-ghost use Rattle.std.specs.Prelude.{◌≡◌, ◌≢◌, slice_index_or, Some, IfOk, IfErr, OnOk, OnErr};
+ghost use Rattle.std.specs.Prelude.{◌≡◌, ◌≢◌, [], slice_index_or, Some, IfOk, IfErr, OnOk, OnErr};
 ghost use Rattle.std.specs.Io.KnownBytes.{Appends};
 ghost use Rattle.zlab.specs.Engine.{AnswersReader, BeginsReader, AnswersInput, BeginsInput, Answers, BeginsAnswer, Starts, WritesRun, BeginsRun, line_cause};
 ghost use Rattle.zlab.specs.Input.{FitsInput, IsBounded, TakesNoMore};
@@ -194,8 +194,8 @@ fn write_refusal<W: Write>(
     Ok(Verdict::Refused)
 }
 
-/// Runs along the schedule and writes the trace; how the run ended is put into `reached`. The block is
-/// made first, so that a trace that ends for want of memory can still be written.
+/// Runs along the schedule and writes the trace; how the run ended is put into `reached`. No process may
+/// be out. The block is made first, so that a trace that ends for want of memory can still be written.
 fn write_run<W: Write>(
     alloc: Global,
     writer: &mut W,
@@ -203,6 +203,7 @@ fn write_run<W: Write>(
     schedule: &[(Pid, u32)],
     reached: &mut End,
 ) -> Result<Verdict, EngineFault>
+    requires { system.old.out ≡ [] }
     ensures verdict { IfOk result (λ verdict. verdict ≡ Verdict.Done) }
     ensures ok { OnOk result (WritesRun system.old schedule.now (W.contents writer.old)
         (W.contents writer.new)) }

@@ -25,3 +25,8 @@ pub returns-in-Refused-clause-err : goal.returns-in-Refused-clause-err
 returns-in-Refused-clause-err g c =
     let first = rw c.in-Refused.is at (c.in_ok-system.ensures).ok in
     mapped_err c.write_refusal-ended.result _ _ (λ begun. refusal_begins c.args.text.now c.in-Refused.fault first _ _ begun) c.write_refusal-ended.ensures.err
+
+pub write_run-ended-requires : goal.write_run-ended-requires
+write_run-ended-requires g c =
+    let start = rw c.in-Runs.is at (c.in_ok-system.ensures).ok in
+    start.out

@@ -1,0 +1,92 @@
+//! A run on worker threads.
+
+ghost use Rattle.zl_sched.specs.Opening.{opening_of};
+ghost use Rattle.zl_pool.specs.Pool.{EndsRun};
+
+use crate::gate::Gate;
+use crate::worker::{Desk, work};
+use std::sync::Wait;
+use std::thread;
+use std::thread::Threads;
+use zl_sched::{Opening, System};
+
+/// How a run ends.
+///
+/// Source: own profile.
+#[derive(Clone, Copy, PartialEq, Eq, Debug)]
+pub enum RunEnd {
+    /// No process is ready, and none is out.
+    Quiet,
+    /// The trace has less than two free places.
+    Limit,
+    /// Memory was refused.
+    NoMemory,
+    /// The system doesn't go on from the one that was handed in.
+    Mixed,
+}
+
+/// The most local instructions of a burst.
+const BURST: u32 = 256;
+
+/// Runs the system on so many workers, the caller's thread among them; 0 count as 1.
+///
+/// The system that comes back was booted from the same programs, statements and limit, and its trace
+/// begins with the one that was handed in; where that isn't so the end is `Mixed`, and only there. Else
+/// it is `Quiet` where no process is ready and none is out, or `Limit` where the trace has less than two
+/// free places; that it is `NoMemory` only where memory was refused no clause says. A worker whose
+/// thread can't be started is missing.
+///
+/// It may wait, and that it returns no clause says. Where a process is out as it begins and nobody hands
+/// in what it did, all workers wait for ever once the others have come to rest. Source: own profile.
+pub fn run<R: Threads + Wait + Sync, G: Gate>(
+    rt: &R,
+    system: System,
+    workers: u32,
+    gate: &G,
+) -> (System, RunEnd)
+    ensures { EndsRun (opening_of system) result.1 result.0 }
+{
+    let Ok(opening) = system.opening() else {
+        return (system, RunEnd::NoMemory);
+    };
+    let after = run_all(rt, system, workers, gate);
+    let end = end_of(&opening, &after);
+    (after, end)
+}
+
+/// Lets the workers work, and gives back what the lock holds then. Of a value behind a lock nothing is
+/// known but what its type keeps, so no clause says more.
+fn run_all<R: Threads + Wait + Sync, G: Gate>(
+    rt: &R,
+    system: System,
+    workers: u32,
+    gate: &G,
+) -> System {
+    let desk = Desk::new(system);
+    let shared = &desk;
+    thread::scope(thread::scope_env(), rt, |scope| {
+        for _ in 1..workers {
+            if scope.spawn(move || work(rt, shared, gate, BURST)).is_err() {
+                break;
+            }
+        }
+        work(rt, shared, gate, BURST);
+    });
+    desk.kernel.into_inner()
+}
+
+/// How it ended, by what is left.
+fn end_of(opening: &Opening, system: &System) -> RunEnd
+    ensures { EndsRun opening.now result system.now }
+{
+    if !system.goes_on(opening) {
+        return RunEnd::Mixed;
+    }
+    if system.idle() {
+        return RunEnd::Quiet;
+    }
+    if system.free() < 2 {
+        return RunEnd::Limit;
+    }
+    RunEnd::NoMemory
+}

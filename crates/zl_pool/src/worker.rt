@@ -1,0 +1,99 @@
+//! What each worker does.
+
+ghost use Rattle.zl_pool.specs.Pool.{Finds, Gives};
+
+use crate::gate::Gate;
+use std::sync::{Condvar, Mutex, Wait};
+use zl_interp::{Done, Turn};
+use zl_sched::{HandIn, Kernel};
+
+/// The kernel behind its lock, and where workers wait until something was handed in.
+///
+/// Source: own profile.
+#[derive(Drop)]
+pub struct Desk<K: Kernel> {
+    pub kernel: Mutex<K>,
+    pub handed_in: Condvar,
+}
+
+impl<K: Kernel> Desk<K> {
+    /// A desk at which nobody works yet.
+    pub fn new(kernel: K) -> Desk<K> {
+        Desk {
+            kernel: Mutex::new(kernel),
+            handed_in: Condvar::new(),
+        }
+    }
+}
+
+/// What a worker finds.
+enum Found {
+    Turn(Turn),
+    /// Nothing is ready, but something is out.
+    Waits,
+    /// Nothing is ready and nothing is out.
+    Idle,
+    /// Memory for the turn was refused.
+    NoMemory,
+}
+
+/// The next turn, or why there is none.
+fn next<K: Kernel>(kernel: &mut K) -> Found
+    ensures { Finds (K.meaning kernel.old) result (K.meaning kernel.new) }
+{
+    match kernel.take() {
+        Ok(Some(turn)) => Found::Turn(turn),
+        Ok(None) => {
+            if kernel.idle() {
+                Found::Idle
+            } else {
+                Found::Waits
+            }
+        }
+        Err(_) => Found::NoMemory,
+    }
+}
+
+/// Hands in what was done, and says whether to go on.
+fn give<K: Kernel>(kernel: &mut K, done: Done) -> bool
+    ensures { Gives (K.meaning kernel.old) done result (K.meaning kernel.new) }
+{
+    match kernel.hand_in(done) {
+        HandIn::Taken | HandIn::Gone | HandIn::Stranger => true,
+        HandIn::Limit | HandIn::NoMemory => false,
+    }
+}
+
+/// Waits for a turn. There is none where the kernel is idle or memory was refused.
+fn next_turn<R: Wait, K: Kernel>(rt: &R, desk: &Desk<K>) -> Option<Turn> {
+    let mut kernel = desk.kernel.lock(rt);
+    for _ in rt.forever() {
+        match next(&mut *kernel) {
+            Found::Turn(turn) => return Some(turn),
+            Found::Waits => kernel = desk.handed_in.wait(rt, kernel),
+            Found::Idle | Found::NoMemory => return None,
+        }
+    }
+    unreachable!()
+}
+
+/// Takes turns, lets the gate run them for so many local instructions at most while the lock is free, and
+/// hands them in, until the kernel is idle, its trace is full or memory is refused.
+///
+/// While nothing is ready, but something is out, it waits until something was handed in; so it waits for
+/// ever for what nobody hands in. Source: own profile.
+pub fn work<R: Wait, K: Kernel, G: Gate>(rt: &R, desk: &Desk<K>, gate: &G, most: u32) {
+    for _ in rt.forever() {
+        let Some(turn) = next_turn(rt, desk) else {
+            return;
+        };
+        let done = gate.burst(turn, most);
+        let goes_on = give(&mut *desk.kernel.lock(rt), done);
+        // Also before this worker ends: others may wait for what it handed in.
+        desk.handed_in.notify_all();
+        if !goes_on {
+            return;
+        }
+    }
+    unreachable!()
+}

@@ -42,9 +42,11 @@ module _ (s : System) (whole : IsWhole s) (p : ℕ) where
 -- ---- the history
 
 ends_legal : (more : Bool) (l : Lab) (p : ℕ) (last : List TraceItem) (l2 : Lab) → Ends more l p last l2 → IsLegalHistory l.programs l.world last l2.world
-ends_legal true l p last l2 (none, same) = subst (λ (xs : List TraceItem). IsLegalHistory l.programs l.world xs l2.world) (sym none) (nothing_legal l.programs l.world l2.world (ap (λ (m : Lab). m.world) same))
+ends_legal true l p last l2 (none, same) = subst (λ (xs : List TraceItem). IsLegalHistory l.programs l.world xs l2.world) (sym none)
+    (nothing_legal l.programs l.world l2.world (ap (λ (m : Lab). m.world) same))
 ends_legal false l p last l2 (x, is, taken) =
-    subst (λ (xs : List TraceItem). IsLegalHistory l.programs l.world xs l2.world) (sym is) (step_legal l.programs l.world (pid_of x) x l2.world taken.steps.step)
+    subst (λ (xs : List TraceItem). IsLegalHistory l.programs l.world xs l2.world) (sym is)
+    (step_legal l.programs l.world (pid_of x) x l2.world taken.steps.step)
 
 ends_programs : (more : Bool) (l : Lab) (p : ℕ) (last : List TraceItem) (l2 : Lab) → Ends more l p last l2 → l2.programs ≡ l.programs
 ends_programs true l p last l2 (none, same) = ap (λ (m : Lab). m.programs) same
@@ -58,7 +60,8 @@ ends_stay : (more : Bool) (l : Lab) (p : ℕ) (last : List TraceItem) (l2 : Lab)
 ends_stay true l p last l2 sound (none, same) = subst (λ (m : Lab). OthersStay l.world p m.world) (sym same) (λ k apart passes. (passes, λ now. now))
 ends_stay false l p last l2 sound (x, is, taken) = step_stays l.programs l.world p x l2.world sound (rw taken.pid_is at taken.steps.step)
 
-ends_fresh : (more : Bool) (l : Lab) (p : ℕ) (last : List TraceItem) (l2 : Lab) → Ends more l p last l2 → (q : ℕ) → get l.world.processes q ≡ None → is_process l2.world is_ready q ≡ false
+ends_fresh : (more : Bool) (l : Lab) (p : ℕ) (last : List TraceItem) (l2 : Lab) → Ends more l p last l2 → (q : ℕ) → get l.world.processes q ≡ None
+    → is_process l2.world is_ready q ≡ false
 unfolding is_process
 ends_fresh true l p last l2 (none, same) q free = subst (λ (m : Lab). is_process m.world is_ready q ≡ false) (sym same) (rw free refl)
 ends_fresh false l p last l2 (x, is, taken) q free = made_not_ready l.programs l.world (pid_of x) x l2.world taken.steps.step q free
@@ -67,7 +70,8 @@ ends_length : (more : Bool) (l : Lab) (p : ℕ) (last : List TraceItem) (l2 : La
 ends_length true l p last l2 (none, same) = ap length none
 ends_length false l p last l2 (x, is, taken) = ap length is
 
-ends_same : (more : Bool) (l : Lab) (p : ℕ) (last : List TraceItem) (l2 : Lab) → IsSound l.world → Ends more l p last l2 → LeavesAll l last l2 → (k : ℕ) → is_process l2.world is_ready k ≡ is_process l.world is_ready k
+ends_same : (more : Bool) (l : Lab) (p : ℕ) (last : List TraceItem) (l2 : Lab) → IsSound l.world → Ends more l p last l2 → LeavesAll l last l2 → (k : ℕ)
+    → is_process l2.world is_ready k ≡ is_process l.world is_ready k
 ends_same true l p last l2 sound (none, same) leaves k = ap (λ (m : Lab). is_process m.world is_ready k) same
 ends_same false l p last l2 sound (x, is, taken) leaves k =
     ready_as_before l.programs l.world (pid_of x) x l2.world sound taken.steps.step (first_of is leaves.0) leaves.1 k
@@ -89,7 +93,8 @@ run_length p n = by (n == 0)
 -- ---- a process that is out did something
 
 -- it stands here with the first Cpu, and is ready
-module _ (s : System) (whole : IsWhole s) (d : Done) (awaited : IsAwaited s d) (same : Bool) (l2 : Lab) (items2 : List TraceItem) (goes : GoesFrom s.lab s.items d same l2 items2) where
+module _ (s : System) (whole : IsWhole s) (d : Done) (awaited : IsAwaited s d) (same : Bool) (l2 : Lab) (items2 : List TraceItem)
+    (goes : GoesFrom s.lab s.items d same l2 items2) where
   abbrev mid : Lab
   mid = advanced s.lab d
 
@@ -115,7 +120,8 @@ module _ (s : System) (whole : IsWhole s) (d : Done) (awaited : IsAwaited s d) (
   keeps test k = state_kept s.lab.world d.pid (λ p. record p { cpu = d.to }) (λ y. refl) test k
 
   others : OthersStay s.lab.world d.pid l2.world
-  others = stays_then s.lab.world mid.world l2.world d.pid (local_stays s.lab.world d.pid (λ p. record p { cpu = d.to }) (λ y. refl)) (ends_stay (is_more d.stop) mid d.pid goes.last l2 mid_sound goes.ends)
+  others = stays_then s.lab.world mid.world l2.world d.pid (local_stays s.lab.world d.pid (λ p. record p { cpu = d.to }) (λ y. refl))
+      (ends_stay (is_more d.stop) mid d.pid goes.last l2 mid_sound goes.ends)
 
   so : Before s.lab.world l2.world d.pid s.ready left
   so = before s.lab.world l2.world d.pid s.ready s.out left whole.listed awaited.ready (others_left d.pid s.out) others
@@ -136,28 +142,43 @@ module _ (s : System) (whole : IsWhole s) (d : Done) (awaited : IsAwaited s d) (
   -- where all are as ready as before, it goes last
   pub goes_last : same ≡ true → requeued l2.world d.pid left s.ready ≡ s.ready ++ (d.pid ∷ [])
   goes_last is =
-      let as_ready : (k : ℕ) → is_process l2.world is_ready k ≡ is_process s.lab.world is_ready k = λ k. ends_same (is_more d.stop) mid d.pid goes.last l2 mid_sound goes.ends (goes.leaves is) k ∙ keeps is_ready k in
-      let apart : filter (λ q. not (q == d.pid)) s.ready ≡ s.ready = none_filtered d.pid s.ready (not_listed s.lab.world s.ready s.out whole.listed d.pid awaited.out awaited.ready) in
+      let as_ready : (k : ℕ)
+      → is_process l2.world is_ready k ≡ is_process s.lab.world is_ready k = λ k. ends_same (is_more d.stop) mid d.pid goes.last l2 mid_sound goes.ends
+      (goes.leaves is) k ∙ keeps is_ready k in
+      let apart : filter (λ q. not (q == d.pid)) s.ready ≡ s.ready = none_filtered d.pid s.ready
+      (not_listed s.lab.world s.ready s.out whole.listed d.pid awaited.out awaited.ready) in
       requeued_so ∙ (sym (moved_is s.lab.world l2.world d.pid s.ready left so as_ready) ∙ ap (λ (ys : List ℕ). ys ++ (d.pid ∷ [])) apart)
 
-  pub accepted_whole : HasRoom s d → (ready2 : List ℕ) → ready2 ≡ requeued l2.world d.pid left s.ready → IsWhole (record s { lab = l2; items = items2; ready = ready2; out = left })
+  pub accepted_whole : HasRoom s d → (ready2 : List ℕ) → ready2 ≡ requeued l2.world d.pid left s.ready
+      → IsWhole (record s { lab = l2; items = items2; ready = ready2; out = left })
   accepted_whole room ready2 queue =
       let programs : l2.programs ≡ s.lab.programs = ends_programs (is_more d.stop) mid d.pid goes.last l2 goes.ends in
       let all : IsLegalHistory s.lab.programs whole.legal.boot (s.items ++ (run_items d.pid d.ran ++ goes.last)) l2.world
       = history_then s.lab.programs whole.legal.boot s.lab.world l2.world s.items (run_items d.pid d.ran ++ goes.last) whole.legal.history
-      (history_then s.lab.programs s.lab.world mid.world l2.world (run_items d.pid d.ran) goes.last local_history (ends_legal (is_more d.stop) mid d.pid goes.last l2 goes.ends)) in
+      (history_then s.lab.programs s.lab.world mid.world l2.world (run_items d.pid d.ran) goes.last local_history
+      (ends_legal (is_more d.stop) mid d.pid goes.last l2 goes.ends)) in
       record {
         legal = record {
           boot = whole.legal.boot;
           boots = rw programs whole.legal.boots;
           sized = rw programs whole.legal.sized;
           history = rw (programs, goes.items_are) all;
-          room = omega (arith, room, ap length goes.items_are, length-append s.items (run_items d.pid d.ran ++ goes.last), length-append (run_items d.pid d.ran) goes.last, run_length d.pid d.ran, ends_length (is_more d.stop) mid d.pid goes.last l2 goes.ends);
+          room = omega (
+            arith,
+            room,
+            ap length goes.items_are,
+            length-append s.items (run_items d.pid d.ran ++ goes.last),
+            length-append (run_items d.pid d.ran) goes.last,
+            run_length d.pid d.ran,
+            ends_length (is_more d.stop) mid d.pid goes.last l2 goes.ends,
+          );
         };
-        listed = rw (queue ∙ requeued_so) (after_listed s.lab.world l2.world d.pid s.ready s.out left whole.listed awaited.ready (others_left d.pid s.out) others after_sound);
+        listed = rw (queue ∙ requeued_so)
+            (after_listed s.lab.world l2.world d.pid s.ready s.out left whole.listed awaited.ready (others_left d.pid s.out) others after_sound);
       }
 
-  pub accepted_so : HasRoom s d → (ready2 : List ℕ) → ready2 ≡ requeued l2.world d.pid left s.ready → Accepts s d (record s { lab = l2; items = items2; ready = ready2; out = left })
+  pub accepted_so : HasRoom s d → (ready2 : List ℕ) → ready2 ≡ requeued l2.world d.pid left s.ready
+      → Accepts s d (record s { lab = l2; items = items2; ready = ready2; out = left })
   accepted_so room ready2 queue = record {
     awaited = awaited;
     room = room;

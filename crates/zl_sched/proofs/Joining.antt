@@ -13,13 +13,16 @@ pub stays_front : (a rest items : List ℕ) (n : ℕ) → items ≡ a ++ rest �
 stays_front a rest items n is long = rw (is, long) (take-append_seam a rest)
 
 -- the n-th process comes, or doesn't
-module _ (f : ℕ → Bool) (a xs : List ℕ) (n x : ℕ) (items : List ℕ) (so_far : items ≡ a ++ filter f (take n xs)) (at : slice_get xs n ≡ Some x) (passes : Bool) (is : passes ≡ f x) where
+module _ (f : ℕ → Bool) (a xs : List ℕ) (n x : ℕ) (items : List ℕ) (so_far : items ≡ a ++ filter f (take n xs)) (at : slice_get xs n ≡ Some x) (passes : Bool)
+    (is : passes ≡ f x) where
   pub comes : (items2 : List ℕ) → items2 ≡ items ++ one_if passes x → items2 ≡ a ++ filter f (take (n + 1) xs)
-  comes items2 added = added ∙ rw (so_far, is) (append_assoc a (filter f (take n xs)) (one_if (f x) x) ∙ ap (λ (ys : List ℕ). a ++ ys) (sym (filtered_more f n x xs at)))
+  comes items2 added = added
+      ∙ rw (so_far, is) (append_assoc a (filter f (take n xs)) (one_if (f x) x) ∙ ap (λ (ys : List ℕ). a ++ ys) (sym (filtered_more f n x xs at)))
 
   pub has_place : (places : ℕ) → length (a ++ filter f xs) ≤ places → length items + length (one_if passes x) ≤ places
   has_place places room =
-      let long : length items + length (one_if passes x) ≡ length (a ++ filter f (take (n + 1) xs)) = sym (length-append items (one_if passes x)) ∙ ap length (comes (items ++ one_if passes x) refl) in
+      let long : length items + length (one_if passes x) ≡ length (a ++ filter f (take (n + 1) xs)) = sym (length-append items (one_if passes x))
+      ∙ ap length (comes (items ++ one_if passes x) refl) in
       omega (arith, long, room, length-append a (filter f (take (n + 1) xs)), length-append a (filter f xs), fewer_first f (n + 1) xs)
 
 -- ---- the parts of a list that has room as a whole
@@ -40,7 +43,8 @@ module _ (w : World) (p : ℕ) (out list kept joined : List ℕ) (is_kept : kept
 
   pub join_fits : (places : ℕ) → length (requeued w p out list) ≤ places → length (kept ++ joining w p out kept) ≤ places
   join_fits places room =
-      subst (λ (ys : List ℕ). length ys ≤ places) (sym joined_is ∙ is_joined) (front_fits (still_ready w p list) (joining w p out (still_ready w p list)) (itself_ready w p) places room)
+      subst (λ (ys : List ℕ). length ys ≤ places) (sym joined_is ∙ is_joined)
+      (front_fits (still_ready w p list) (joining w p out (still_ready w p list)) (itself_ready w p) places room)
 
   pub push_fits : (places : ℕ) → length (requeued w p out list) ≤ places → is_process w is_ready p ≡ true → length joined < places
   push_fits places room ready =

@@ -36,7 +36,8 @@ single_acts lib w p IsStuck x w2 acts = single_stuck p x acts.0
 single_step : (lib : Library) (w : World) (p : ℕ) (x : TraceItem) (w2 : World) → Step lib w p x w2 → IsSingle p x
 single_step lib w p x w2 step = single_acts lib w p (next_for lib step.process) x step.acted step.acts
 
-pub follows_legal : (lib : Library) (w : World) (turns : List ℕ) (items : List TraceItem) (w2 : World) → Follows lib w turns items w2 → IsLegalHistory lib w items w2
+pub follows_legal : (lib : Library) (w : World) (turns : List ℕ) (items : List TraceItem) (w2 : World) → Follows lib w turns items w2
+    → IsLegalHistory lib w items w2
 follows_legal lib _ _ _ _ (ends w) = record { counts = refl; run = refl }
 follows_legal lib _ _ _ _ (skips w w2 p turns items not_ready rest) = follows_legal lib w turns items w2 rest
 follows_legal lib _ _ _ _ (goes w mid w2 p x turns items ready step rest) =
@@ -47,21 +48,25 @@ follows_legal lib _ _ _ _ (goes w mid w2 p x turns items ready step rest) =
       run = rw (one.one) (mid, rw (one.of) step, later.run);
     }
 
-pub ends_legal : (lib : Library) (w : World) (turns : List ℕ) (limit : ℕ) (items : List TraceItem) (w2 : World) (e : End) → EndsBy lib w turns limit items w2 e → IsLegalHistory lib w items w2
+pub ends_legal : (lib : Library) (w : World) (turns : List ℕ) (limit : ℕ) (items : List TraceItem) (w2 : World) (e : End) → EndsBy lib w turns limit items w2 e
+    → IsLegalHistory lib w items w2
 ends_legal lib w turns limit items w2 end.Schedule follows = follows_legal lib w turns items w2 follows
 ends_legal lib w turns limit items w2 end.Limit stops = follows_legal lib w stops.0.taken items w2 stops.0.follows
 ends_legal lib w turns limit items w2 end.Memory stops = follows_legal lib w stops.0.taken items w2 stops.0.follows
 
 -- ---- one step more
 
-one_more : (lib : Library) (boot : World) (items : List TraceItem) (w : World) (x : TraceItem) (mid : World) → RunsBy lib boot items w → Step lib w (pid_of x) x mid → RunsBy lib boot (items ++ (x ∷ [])) mid
+one_more : (lib : Library) (boot : World) (items : List TraceItem) (w : World) (x : TraceItem) (mid : World) → RunsBy lib boot items w
+    → Step lib w (pid_of x) x mid → RunsBy lib boot (items ++ (x ∷ [])) mid
 one_more lib boot [] w x mid e step = (mid, subst (λ v. Step lib v (pid_of x) x mid) e step, refl)
 one_more lib boot (y ∷ items) w x mid (first, before, rest) step = (first, before, one_more lib first items w x mid rest step)
 
-counts_more : (items : List TraceItem) (x : TraceItem) → IsTrue (list_all has_count items) → IsTrue (has_count x) → IsTrue (list_all has_count (items ++ (x ∷ [])))
+counts_more : (items : List TraceItem) (x : TraceItem) → IsTrue (list_all has_count items) → IsTrue (has_count x)
+    → IsTrue (list_all has_count (items ++ (x ∷ [])))
 counts_more items x all one = rw (list_all-append has_count items (x ∷ []), all, one) refl
 
-history_more : (lib : Library) (boot w mid : World) (items : List TraceItem) (p : ℕ) (x : TraceItem) → IsLegalHistory lib boot items w → Step lib w p x mid → IsLegalHistory lib boot (items ++ (x ∷ [])) mid
+history_more : (lib : Library) (boot w mid : World) (items : List TraceItem) (p : ℕ) (x : TraceItem) → IsLegalHistory lib boot items w → Step lib w p x mid
+    → IsLegalHistory lib boot (items ++ (x ∷ [])) mid
 history_more lib boot w mid items p x legal step =
     let one : IsSingle p x = single_step lib w p x mid step in
     let steps : flat_map single items ++ (x ∷ []) ≡ flat_map single (items ++ (x ∷ []))
@@ -73,14 +78,17 @@ history_more lib boot w mid items p x legal step =
 
 -- ---- one history after another
 
-both_run : (lib : Library) (w : World) (xs : List TraceItem) (mid : World) (ys : List TraceItem) (w2 : World) → RunsBy lib w xs mid → RunsBy lib mid ys w2 → RunsBy lib w (xs ++ ys) w2
+both_run : (lib : Library) (w : World) (xs : List TraceItem) (mid : World) (ys : List TraceItem) (w2 : World) → RunsBy lib w xs mid → RunsBy lib mid ys w2
+    → RunsBy lib w (xs ++ ys) w2
 both_run lib w [] mid ys w2 e rest = subst (λ v. RunsBy lib v ys w2) e rest
 both_run lib w (x ∷ xs) mid ys w2 (first, step, runs) rest = (first, step, both_run lib first xs mid ys w2 runs rest)
 
-pub history_then : (lib : Library) (boot w w2 : World) (items more : List TraceItem) → IsLegalHistory lib boot items w → IsLegalHistory lib w more w2 → IsLegalHistory lib boot (items ++ more) w2
+pub history_then : (lib : Library) (boot w w2 : World) (items more : List TraceItem) → IsLegalHistory lib boot items w → IsLegalHistory lib w more w2
+    → IsLegalHistory lib boot (items ++ more) w2
 history_then lib boot w w2 items more one two = record {
   counts = rw (list_all-append has_count items more, one.counts, two.counts) refl;
-  run = subst (λ (steps : List TraceItem). RunsBy lib boot steps w2) (sym (flat_map-append single items more)) (both_run lib boot (flat_map single items) w (flat_map single more) w2 one.run two.run);
+  run = subst (λ (steps : List TraceItem). RunsBy lib boot steps w2) (sym (flat_map-append single items more))
+      (both_run lib boot (flat_map single items) w (flat_map single more) w2 one.run two.run);
 }
 
 pub nothing_legal : (lib : Library) (w w2 : World) → w2 ≡ w → IsLegalHistory lib w [] w2
@@ -96,7 +104,10 @@ run_legal lib w p (suc n) w2 runs =
     let some : (suc n == 0) ≡ false = grind (arith, nat_tests) in
     let counted : nat_lt 0 (suc n) ≡ true = grind (arith, nat_tests) in
     subst (λ (none : Bool). IsLegalHistory lib w (if none then [] else (item.Run p (suc n) ∷ [])) w2) (sym some)
-    (record { counts = rw counted refl; run = subst (λ (steps : List TraceItem). RunsBy lib w steps w2) (sym (append-nil (replicate (suc n) (item.Run p 1)))) runs })
+    (record {
+      counts = rw counted refl;
+      run = subst (λ (steps : List TraceItem). RunsBy lib w steps w2) (sym (append-nil (replicate (suc n) (item.Run p 1)))) runs;
+    })
 
 -- a step of one that is legal
 pub legal_more : (s : System) (p : ℕ) (s2 : System) → IsLegal s → Runs s p s2 → IsLegal s2

@@ -5,6 +5,7 @@ pub mod Counted
 pub mod Following
 pub mod Fresh
 pub mod HandedIn
+pub mod Held
 pub mod Joining
 pub mod Legal
 pub mod Marked

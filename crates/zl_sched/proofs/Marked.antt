@@ -80,7 +80,8 @@ others_marked p k out apart =
 
 pub fewer_marks : (p k : ℕ) (out : List ℕ) → times k (others_of p out) ≤ times k out
 fewer_marks p k out = elim (cases_Bool (k == p)) as (λ _. times k (others_of p out) ≤ times k out) [
-  | inl here ↦ let none : times k (others_of p out) ≡ 0 = subst (λ (j : ℕ). times j (others_of p out) ≡ 0) (sym (eqb-true k p here)) (times-same p out) in omega (arith, none)
+  | inl here ↦ let none : times k (others_of p out) ≡ 0 = subst (λ (j : ℕ). times j (others_of p out) ≡ 0) (sym (eqb-true k p here))
+      (times-same p out) in omega (arith, none)
   | inr apart ↦ omega (arith, times-other p k (other_way k p apart) out)
 ]
 

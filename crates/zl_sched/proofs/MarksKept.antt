@@ -23,24 +23,28 @@ by_others y is z (was_started e v word created same) = absurd (false≢true (sym
 by_others y is z (was_killed same) = (ap is_ready_or_over (ap (λ (q : Process). q.state) same), λ h. ap is_ready is)
 by_others y is z (dropped created same) = absurd (false≢true (sym (ap is_ready created) ∙ ap is_ready is))
 
-module _ (lib : Library) (w : World) (p : ℕ) (x : TraceItem) (after : World) (sound : IsSound w) (step : Step lib w p x after) (k : ℕ) (apart : (p == k) ≡ false) where
+module _ (lib : Library) (w : World) (p : ℕ) (x : TraceItem) (after : World) (sound : IsSound w) (step : Step lib w p x after) (k : ℕ)
+    (apart : (p == k) ≡ false) where
   by_state : (y : Process) → get w.processes k ≡ Some y → (l : State) → y.state ≡ l → IsTrue (is_ready_or_over l) → Stays y (get after.processes k)
   by_state y at Ready is passes =
       let others = (step_leaves_others lib w p x after sound step).processes k y apart at (ap lives is) in
       rw others.1 (by_others y is others.0 others.2)
   by_state y at (Ended code) is passes =
-      let still : get after.processes k ≡ Some y = ended_still k y (ap has_ended is) lib w p x after step (over_after_act lib w p x after sound step k y apart at (ap has_ended is)) in
+      let still : get after.processes k ≡ Some y = ended_still k y (ap has_ended is) lib w p x after step
+      (over_after_act lib w p x after sound step k y apart at (ap has_ended is)) in
       rw still (ap is_ready_or_over is, λ h. h)
   by_state y at Created is passes = absurd (false≢true passes)
   by_state y at (Blocked awaited ds) is passes = absurd (false≢true passes)
   by_state y at Gone is passes = absurd (false≢true passes)
 
-  pub marked_stays : IsTrue (is_process w is_ready_or_over k) → IsTrue (is_process after is_ready_or_over k) × (is_process after is_ready k ≡ true → is_process w is_ready k ≡ true)
+  pub marked_stays : IsTrue (is_process w is_ready_or_over k)
+      → IsTrue (is_process after is_ready_or_over k) × (is_process after is_ready k ≡ true → is_process w is_ready k ≡ true)
   unfolding is_process
   marked_stays passes = by_process (get w.processes k) refl passes
     where
       by_process : (o : Option Process) → get w.processes k ≡ o → IsTrue (state_passes is_ready_or_over o)
-          → IsTrue (state_passes is_ready_or_over (get after.processes k)) × (state_passes is_ready (get after.processes k) ≡ true → state_passes is_ready o ≡ true)
+          → IsTrue (state_passes is_ready_or_over (get after.processes k)) × (state_passes is_ready (get after.processes k) ≡ true
+          → state_passes is_ready o ≡ true)
       by_process None at passes = absurd (false≢true passes)
       by_process (Some y) at passes = by_state y at y.state refl passes
 
@@ -95,7 +99,8 @@ over_not_ready w k over = by (get w.processes k) over
 
 -- ---- a process that goes on by itself keeps its state
 
-pub state_kept : (w : World) (p : ℕ) (f : Process → Process) → ((y : Process) → (f y).state ≡ y.state) → (test : State → Bool) (k : ℕ) → is_process (on_process w p f) test k ≡ is_process w test k
+pub state_kept : (w : World) (p : ℕ) (f : Process → Process) → ((y : Process) → (f y).state ≡ y.state) → (test : State → Bool) (k : ℕ)
+    → is_process (on_process w p f) test k ≡ is_process w test k
 unfolding is_process on_process
 state_kept w p f keeps test k = rw (get-update w.processes p f k) (by_test (p == k) (get w.processes k))
   where

@@ -128,7 +128,8 @@ all_left p out none = record { none = none; same = λ k apart. refl; fewer = λ 
 pub others_left : (p : ℕ) (out : List ℕ) → LeavesMarks p out (others_of p out)
 others_left p out = record { none = self_unmarked p out; same = λ k apart. others_marked p k out apart; fewer = λ k. fewer_marks p k out }
 
-module _ (w after : World) (p : ℕ) (ready out left : List ℕ) (listed : Listed w ready out) (itself : is_process w is_ready p ≡ true) (leaves : LeavesMarks p out left) (others : OthersStay w p after) where
+module _ (w after : World) (p : ℕ) (ready out left : List ℕ) (listed : Listed w ready out) (itself : is_process w is_ready p ≡ true)
+    (leaves : LeavesMarks p out left) (others : OthersStay w p after) where
   another : (k : ℕ) → is_in k left ≡ true → (k == p) ≡ false
   another k is = elim (cases_Bool (k == p)) as (λ _. (k == p) ≡ false) [
     | inl here ↦ absurd (false≢true (sym leaves.none ∙ (ap (λ (j : ℕ). is_in j left) (sym (eqb-true k p here)) ∙ is)))
@@ -150,7 +151,8 @@ module _ (w after : World) (p : ℕ) (ready out left : List ℕ) (listed : Liste
   after_listed sound = listed_by after (queued_after w p after ready) left (queued_ready w after p ready left before sound)
       (λ k. omega (arith, leaves.fewer k, listed.marks k)) (λ k is. (others k (another k is) (was_marked k is)).0)
 
-  pub after_room : IsSound after → ((q : ℕ) → get w.processes q ≡ None → is_process after is_ready q ≡ false) → length (queued_after w p after ready) + length left ≤ length w.processes
+  pub after_room : IsSound after → ((q : ℕ) → get w.processes q ≡ None → is_process after is_ready q ≡ false)
+      → length (queued_after w p after ready) + length left ≤ length w.processes
   after_room sound fresh = queued_room w after p ready left before sound fresh known (λ k. omega (arith, leaves.fewer k, listed.marks k))
     where
       known : (q : ℕ) → get w.processes q ≡ None → is_in q left ≡ false
@@ -162,7 +164,8 @@ module _ (w after : World) (p : ℕ) (ready out left : List ℕ) (listed : Liste
 -- ---- nobody is ready
 
 -- a list that holds the ready ones and is there has one
-pub empty_where_idle : (w : World) (ready out : List ℕ) → Listed w ready out → (is_empty : Bool) → is_empty ≡ (length ready == 0) → ((k : ℕ) → is_process w is_ready k ≡ false) → IsTrue is_empty
+pub empty_where_idle : (w : World) (ready out : List ℕ) → Listed w ready out → (is_empty : Bool) → is_empty ≡ (length ready == 0)
+    → ((k : ℕ) → is_process w is_ready k ≡ false) → IsTrue is_empty
 empty_where_idle w [] out listed is_empty is none = rw is refl
 empty_where_idle w (x ∷ rest) out listed is_empty is none =
     let there : times x (x ∷ rest) ≡ times x (x ∷ []) + times x rest = times-append x (x ∷ []) rest in

@@ -57,7 +57,8 @@ module _ (w after : World) (p : ℕ) (list out : List ℕ) (b : Before w after p
       (by_tests (is_process after is_ready q) (is_process w is_ready q) (q == p) (is_in q out) (list_any (λ x. x == q) list)
       (λ here. ap (λ y. is_process w is_ready y) (eqb-true q p here) ∙ b.ready) (listed_is q) (b.stay q))
     where
-      by_tests : (now was same marked listed : Bool) → (same ≡ true → was ≡ true) → (same ≡ false → listed ≡ (was && not marked)) → (marked ≡ true → now ≡ true → was ≡ true)
+      by_tests : (now was same marked listed : Bool) → (same ≡ true → was ≡ true) → (same ≡ false → listed ≡ (was && not marked))
+          → (marked ≡ true → now ≡ true → was ≡ true)
           → (now && (not ((now && not same) && listed) && (not marked && not same))) ≡ (now && not was)
       by_tests false was same marked listed itself others stay = refl
       by_tests true was true true listed itself others stay = rw (itself refl) refl
@@ -90,7 +91,9 @@ module _ (w after : World) (p : ℕ) (list out : List ℕ) (b : Before w after p
         times-filter (λ q. is_process after is_ready q && not (is_process w is_ready q)) k (pids_of after),
       ) refl
 
-  at_itself : (now : Bool) → (if now && not true then times p list else 0) + ((if now && not true then times p (pids_of after) else 0) + (if now then 1 else 0)) ≡ (if now && not false then 1 else 0)
+  at_itself : (now : Bool)
+      → (if now && not true then times p list else 0) + ((if now && not true then times p
+      (pids_of after) else 0) + (if now then 1 else 0)) ≡ (if now && not false then 1 else 0)
   at_itself true = refl
   at_itself false = refl
 
@@ -103,22 +106,30 @@ module _ (w after : World) (p : ℕ) (list out : List ℕ) (b : Before w after p
   at_other true false false n m counted once stay = omega (arith, counted, once refl)
 
   pub queued_ready : IsSound after → AreBut after out (queued_after w p after list)
-  queued_ready sound k = elim (cases_Bool (k == p)) as (λ _. times k (queued_after w p after list) ≡ (if is_process after is_ready k && not (is_in k out) then 1 else 0)) [
-    | inl here ↦ subst (λ (j : ℕ). times j (queued_after w p after list) ≡ (if is_process after is_ready j && not (is_in j out) then 1 else 0)) (sym (eqb-true k p here))
-        (parts p ∙ rw (eq-eqb p p refl, b.ready, b.unmarked, itself_here (is_process after is_ready p)) (at_itself (is_process after is_ready p)))
-    | inr apart ↦ parts k ∙ rw (apart, itself_other k (other_way k p apart) (is_process after is_ready p))
-        (at_other (is_process after is_ready k) (is_process w is_ready k) (is_in k out) (times k list) (times k (pids_of after)) (b.others k apart)
-        (λ now. key_once k after.processes sound.handles.processes (ready_key after k now)) (b.stay k))
-  ]
+  queued_ready sound k = elim (cases_Bool (k == p)) as (λ _. times k
+      (queued_after w p after list) ≡ (if is_process after is_ready k && not (is_in k out) then 1 else 0)) [
+        | inl here ↦ subst (λ (j : ℕ). times j (queued_after w p after list) ≡ (if is_process after is_ready j && not (is_in j out) then 1 else 0))
+            (sym (eqb-true k p here))
+            (parts p ∙ rw (eq-eqb p p refl, b.ready, b.unmarked, itself_here (is_process after is_ready p)) (at_itself (is_process after is_ready p)))
+        | inr apart ↦ parts k ∙ rw (apart, itself_other k (other_way k p apart) (is_process after is_ready p))
+            (at_other (is_process after is_ready k) (is_process w is_ready k) (is_in k out) (times k list) (times k (pids_of after)) (b.others k apart)
+            (λ now. key_once k after.processes sound.handles.processes (ready_key after k now)) (b.stay k))
+      ]
 
   -- ---- its room
 
-  pub queued_room : IsSound after → ((q : ℕ) → get w.processes q ≡ None → is_process after is_ready q ≡ false) → ((q : ℕ) → get w.processes q ≡ None → is_in q out ≡ false)
+  pub queued_room : IsSound after → ((q : ℕ) → get w.processes q ≡ None → is_process after is_ready q ≡ false)
+      → ((q : ℕ) → get w.processes q ≡ None → is_in q out ≡ false)
       → ((q : ℕ) → times q out ≤ 1) → length (queued_after w p after list) + length out ≤ length w.processes
   queued_room sound fresh known once =
-      omega (arith, no_longer w.processes (queued_after w p after list ++ out) (λ k. at_most k (get w.processes k) refl), length-append (queued_after w p after list) out)
+      omega (
+        arith,
+        no_longer w.processes (queued_after w p after list ++ out) (λ k. at_most k (get w.processes k) refl),
+        length-append (queued_after w p after list) out,
+      )
     where
-      by_mark : (k : ℕ) (now marked : Bool) → is_process after is_ready k ≡ now → is_in k out ≡ marked → times k (queued_after w p after list ++ out) ≤ (if now then 1 else if marked then 1 else 0)
+      by_mark : (k : ℕ) (now marked : Bool) → is_process after is_ready k ≡ now → is_in k out ≡ marked
+          → times k (queued_after w p after list ++ out) ≤ (if now then 1 else if marked then 1 else 0)
       by_mark k true true is m =
           let none : times k (queued_after w p after list) ≡ 0 = queued_ready sound k ∙ rw (is, m) refl in
           omega (arith, times-append k (queued_after w p after list) out, none, once k)
@@ -139,12 +150,14 @@ module _ (w after : World) (p : ℕ) (list out : List ℕ) (b : Before w after p
 
       at_most : (k : ℕ) (o : Option Process) → get w.processes k ≡ o → times k (queued_after w p after list ++ out) ≤ (if is_some o then 1 else 0)
       at_most k None e = by_mark k false false (fresh k e) (known k e)
-      at_most k (Some x) e = omega (arith, by_mark k (is_process after is_ready k) (is_in k out) refl refl, one_each (is_process after is_ready k) (is_in k out))
+      at_most k (Some x) e = omega
+          (arith, by_mark k (is_process after is_ready k) (is_in k out) refl refl, one_each (is_process after is_ready k) (is_in k out))
 
   -- ---- where all are as ready as before
 
   module _ (same : (k : ℕ) → is_process after is_ready k ≡ is_process w is_ready k) where
-    stays : (xs : List ℕ) → ((k : ℕ) → 0 < times k xs → is_process w is_ready k ≡ true) → filter (λ q. is_process w is_ready q && not (q == p)) xs ≡ filter (λ q. not (q == p)) xs
+    stays : (xs : List ℕ) → ((k : ℕ) → 0 < times k xs → is_process w is_ready k ≡ true)
+        → filter (λ q. is_process w is_ready q && not (q == p)) xs ≡ filter (λ q. not (q == p)) xs
     stays [] all = refl
     stays (x ∷ xs) all =
         let first : is_process w is_ready x ≡ true = all x (at_front x) in
@@ -158,16 +171,18 @@ module _ (w after : World) (p : ℕ) (list out : List ℕ) (b : Before w after p
         further k some false e = rw e some
 
         by_test : (c : Bool) → filter (λ q. is_process w is_ready q && not (q == p)) xs ≡ filter (λ q. not (q == p)) xs
-            → (if c then x ∷ filter (λ q. is_process w is_ready q && not (q == p)) xs else filter (λ q. is_process w is_ready q && not (q == p)) xs) ≡ (if c then x ∷ filter (λ q. not (q == p)) xs else filter (λ q. not (q == p)) xs)
+            → (if c then x ∷ filter (λ q. is_process w is_ready q && not (q == p)) xs else filter
+            (λ q. is_process w is_ready q && not (q == p)) xs) ≡ (if c then x ∷ filter (λ q. not (q == p)) xs else filter (λ q. not (q == p)) xs)
         by_test true e = ap (λ (ys : List ℕ). x ∷ ys) e
         by_test false e = e
 
     none_joins : (xs : List ℕ) → filter (λ q. is_process w is_ready q && not (is_process w is_ready q)) xs ≡ []
     none_joins [] = refl
-    none_joins (x ∷ xs) = elim (cases_Bool (is_process w is_ready x)) as (λ _. filter (λ q. is_process w is_ready q && not (is_process w is_ready q)) (x ∷ xs) ≡ []) [
-      | inl now ↦ rw now (none_joins xs)
-      | inr not_now ↦ rw not_now (none_joins xs)
-    ]
+    none_joins (x ∷ xs) = elim (cases_Bool (is_process w is_ready x)) as (λ _. filter (λ q. is_process w is_ready q && not (is_process w is_ready q))
+        (x ∷ xs) ≡ []) [
+          | inl now ↦ rw now (none_joins xs)
+          | inr not_now ↦ rw not_now (none_joins xs)
+        ]
 
     in_list : (k : ℕ) → 0 < times k list → is_process w is_ready k ≡ true
     in_list k some = elim (cases_Bool (k == p)) as (λ _. is_process w is_ready k ≡ true) [
@@ -200,7 +215,8 @@ last_stays p xs once =
 
 pub last_stays_at : (p : ℕ) (xs : List ℕ) → 0 < length xs → get_or xs (length xs - 1) p ≡ p → times p xs ≡ 1 → xs ≡ filter (λ q. not (q == p)) xs ++ (p ∷ [])
 last_stays_at p xs some is once =
-    let ends : xs ≡ take (length xs - 1) xs ++ (p ∷ []) = sym (take_all (length xs - 1 + 1) xs (omega (arith, some))) ∙ (take_more xs (length xs - 1) p (omega (arith, some)) ∙ ap (λ (x : ℕ). take (length xs - 1) xs ++ (x ∷ [])) is) in
+    let ends : xs ≡ take (length xs - 1) xs ++ (p ∷ []) = sym (take_all (length xs - 1 + 1) xs (omega (arith, some)))
+    ∙ (take_more xs (length xs - 1) p (omega (arith, some)) ∙ ap (λ (x : ℕ). take (length xs - 1) xs ++ (x ∷ [])) is) in
     subst (λ (ys : List ℕ). ys ≡ filter (λ q. not (q == p)) ys ++ (p ∷ [])) (sym ends) (last_stays p (take (length xs - 1) xs) (ap (times p) (sym ends) ∙ once))
 
 -- one place more than are left without p
@@ -213,7 +229,8 @@ room_left p xs once =
 pub filtered_more : (f : ℕ → Bool) (n x : ℕ) (xs : List ℕ) → slice_get xs n ≡ Some x → filter f (take (n + 1) xs) ≡ filter f (take n xs) ++ one_if (f x) x
 filtered_more f n x xs at =
     let bound : n < length xs = slice_get_within xs n x at in
-    ap (filter f) (take_more xs n x bound ∙ ap (λ (y : ℕ). take n xs ++ (y ∷ [])) (get_or_from_slice_get xs n x x at)) ∙ (filter-append f (take n xs) (x ∷ []) ∙ ap (λ (ys : List ℕ). filter f (take n xs) ++ ys) (alone (f x) refl))
+    ap (filter f) (take_more xs n x bound ∙ ap (λ (y : ℕ). take n xs ++ (y ∷ [])) (get_or_from_slice_get xs n x x at))
+    ∙ (filter-append f (take n xs) (x ∷ []) ∙ ap (λ (ys : List ℕ). filter f (take n xs) ++ ys) (alone (f x) refl))
   where
     alone : (b : Bool) → f x ≡ b → filter f (x ∷ []) ≡ one_if b x
     alone true e = rw e refl
@@ -223,11 +240,13 @@ filtered_more f n x xs at =
 pub fewer_first : (f : ℕ → Bool) (n : ℕ) (xs : List ℕ) → length (filter f (take n xs)) ≤ length (filter f xs)
 fewer_first f n xs =
     let both : length (filter f (take n xs)) + length (filter f (drop n xs)) ≡ length (filter f xs)
-    = sym (length-append (filter f (take n xs)) (filter f (drop n xs))) ∙ (sym (ap length (filter-append f (take n xs) (drop n xs))) ∙ ap (λ (ys : List ℕ). length (filter f ys)) (take-append-drop n xs)) in
+    = sym (length-append (filter f (take n xs)) (filter f (drop n xs)))
+    ∙ (sym (ap length (filter-append f (take n xs) (drop n xs))) ∙ ap (λ (ys : List ℕ). length (filter f ys)) (take-append-drop n xs)) in
     omega (arith, both)
 
 -- with no mark, no process is ready where the list is empty, and only there
-pub idle_by : (w : World) (list : List ℕ) → ((k : ℕ) → times k list ≡ (if is_process w is_ready k then 1 else 0)) → (is_idle : Bool) → is_idle ≡ (length list == 0)
+pub idle_by : (w : World) (list : List ℕ) → ((k : ℕ) → times k list ≡ (if is_process w is_ready k then 1 else 0)) → (is_idle : Bool)
+    → is_idle ≡ (length list == 0)
     → (IsTrue is_idle → (k : ℕ) → is_process w is_ready k ≡ false) × (((k : ℕ) → is_process w is_ready k ≡ false) → IsTrue is_idle)
 idle_by w [] are is_idle is = ((λ _ k. by_test (is_process w is_ready k) (are k)), (λ _. rw is refl))
   where

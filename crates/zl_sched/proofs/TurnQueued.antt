@@ -42,18 +42,22 @@ module _ (s : System) (whole : IsWhole s) (pid : ℕ) (unmarked : is_in pid s.ou
       (λ q free. made_not_ready s.lab.programs s.lab.world pid x l2.world step q free)
 
   pub places : length (requeued l2.world pid s.out s.ready) ≤ length s.lab.world.processes
-  places = subst (λ (ys : List ℕ). length ys ≤ length s.lab.world.processes) (sym (requeued_is s.lab.world l2.world pid s.ready s.out so)) (omega (arith, queue_room))
+  places = subst (λ (ys : List ℕ). length ys ≤ length s.lab.world.processes) (sym (requeued_is s.lab.world l2.world pid s.ready s.out so))
+      (omega (arith, queue_room))
 
   pub by_requeue : (ready2 : List ℕ) → ready2 ≡ requeued l2.world pid s.out s.ready → ready2 ≡ queued_after s.lab.world pid l2.world s.ready
   by_requeue ready2 is = is ∙ requeued_is s.lab.world l2.world pid s.ready s.out so
 
-  pub by_move : leaves_ready x ≡ true → length l2.world.blocked ≡ length s.lab.world.blocked → (ready2 : List ℕ) → ready2 ≡ filter (λ q. not (q == pid)) s.ready ++ (pid ∷ []) → ready2 ≡ queued_after s.lab.world pid l2.world s.ready
+  pub by_move : leaves_ready x ≡ true → length l2.world.blocked ≡ length s.lab.world.blocked → (ready2 : List ℕ)
+      → ready2 ≡ filter (λ q. not (q == pid)) s.ready ++ (pid ∷ []) → ready2 ≡ queued_after s.lab.world pid l2.world s.ready
   by_move leaves as_long ready2 is =
       is ∙ moved_is s.lab.world l2.world pid s.ready s.out so (ready_as_before s.lab.programs s.lab.world pid x l2.world sound step leaves as_long)
 
-  pub still_whole : (items2 : _) (ready2 : List ℕ) → items2 ≡ s.items ++ (x ∷ []) → length s.items < s.limit → ready2 ≡ queued_after s.lab.world pid l2.world s.ready
+  pub still_whole : (items2 : _) (ready2 : List ℕ) → items2 ≡ s.items ++ (x ∷ []) → length s.items < s.limit
+      → ready2 ≡ queued_after s.lab.world pid l2.world s.ready
       → IsWhole (record s { lab = l2; items = items2; ready = ready2 })
   still_whole items2 ready2 added room is = record {
-    legal = legal_more s pid (record s { lab = l2; items = items2; ready = ready2 }) whole.legal (step_told s pid unmarked l2 items2 ready2 x taken added room is);
+    legal = legal_more s pid (record s { lab = l2; items = items2; ready = ready2 }) whole.legal
+        (step_told s pid unmarked l2 items2 ready2 x taken added room is);
     listed = rw is (after_listed s.lab.world l2.world pid s.ready s.out s.out whole.listed taken.ready (all_left pid s.out unmarked) others after_sound);
   }

@@ -31,7 +31,8 @@ module _ (s : System) (pid : ℕ) where
   pub out_told : IsTrue (is_in pid s.out) → Turns s pid stepped.NotReady s
   out_told out = (refl, and_right (is_ready_in s.lab pid) (not (is_in pid s.out)) (ap not out))
 
-  pub step_told : is_in pid s.out ≡ false → (l2 : World) (items2 : List TraceItem) (ready2 : List ℕ) (x : TraceItem) → TakesStep s.lab pid l2 x → items2 ≡ s.items ++ (x ∷ []) → length s.items < s.limit
+  pub step_told : is_in pid s.out ≡ false → (l2 : World) (items2 : List TraceItem) (ready2 : List ℕ) (x : TraceItem) → TakesStep s.lab pid l2 x
+      → items2 ≡ s.items ++ (x ∷ []) → length s.items < s.limit
       → ready2 ≡ queued_after s.lab.world pid l2.world s.ready → Runs s pid (record s { lab = l2; items = items2; ready = ready2 })
   step_told hand l2 items2 ready2 x taken added room queue = record {
     item = x;

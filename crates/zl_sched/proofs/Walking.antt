@@ -11,10 +11,13 @@ use Rattle.zl_sched.specs.declared.system.End.TheVariants as end
 
 -- ---- what follows a schedule
 
-pub follows_then : (lib : Library) (w mid w2 : World) (ts us : List ℕ) (xs ys : List TraceItem) → Follows lib w ts xs mid → Follows lib mid us ys w2 → Follows lib w (ts ++ us) (xs ++ ys) w2
+pub follows_then : (lib : Library) (w mid w2 : World) (ts us : List ℕ) (xs ys : List TraceItem) → Follows lib w ts xs mid → Follows lib mid us ys w2
+    → Follows lib w (ts ++ us) (xs ++ ys) w2
 follows_then lib _ _ w2 _ us _ ys (ends w) rest = rest
-follows_then lib _ _ w2 _ us _ ys (skips w mid p turns items not_ready first) rest = skips w w2 p (turns ++ us) (items ++ ys) not_ready (follows_then lib w mid w2 turns us items ys first rest)
-follows_then lib _ _ w2 _ us _ ys (goes w next mid p x turns items ready step first) rest = goes w next w2 p x (turns ++ us) (items ++ ys) ready step (follows_then lib next mid w2 turns us items ys first rest)
+follows_then lib _ _ w2 _ us _ ys (skips w mid p turns items not_ready first) rest = skips w w2 p (turns ++ us) (items ++ ys) not_ready
+    (follows_then lib w mid w2 turns us items ys first rest)
+follows_then lib _ _ w2 _ us _ ys (goes w next mid p x turns items ready step first) rest = goes w next w2 p x (turns ++ us) (items ++ ys) ready step
+    (follows_then lib next mid w2 turns us items ys first rest)
 
 follows_skipping : (lib : Library) (w : World) (p n : ℕ) → is_process w is_ready p ≡ false → Follows lib w (replicate n p) [] w
 follows_skipping lib w p zero not_ready = ends w
@@ -54,7 +57,12 @@ ran_walks s p s2 runs = record {
 }
 
 pub skipped_walks : (s : System) (p n : ℕ) → is_ready_in s.lab p ≡ false → Walks s (replicate n p) end.Schedule s
-skipped_walks s p n not_ready = record { more = []; adds = adds_nothing s; room = omega arith; ends = follows_skipping s.lab.programs s.lab.world p n not_ready }
+skipped_walks s p n not_ready = record {
+  more = [];
+  adds = adds_nothing s;
+  room = omega arith;
+  ends = follows_skipping s.lab.programs s.lab.world p n not_ready;
+}
 
 stops_here : (s : System) (p : ℕ) (us : List ℕ) → IsTrue (is_ready_in s.lab p) → StopsBefore s.lab.programs s.lab.world (p ∷ us) [] s.lab.world
 stops_here s p us ready = record { taken = []; next = p; left = us; are_all = refl; follows = ends s.lab.world; is_ready = ready }
@@ -68,21 +76,25 @@ wanting_walks s p us ready room = record { more = []; adds = adds_nothing s; roo
 -- ---- one walk after another
 
 module _ (s mid s2 : System) (ts us : List ℕ) (first : Walks s ts end.Schedule mid) where
-  stops_then : (ys : List TraceItem) (w2 : World) → StopsBefore mid.lab.programs mid.lab.world us ys w2 → StopsBefore s.lab.programs s.lab.world (ts ++ us) (first.more ++ ys) w2
+  stops_then : (ys : List TraceItem) (w2 : World) → StopsBefore mid.lab.programs mid.lab.world us ys w2
+      → StopsBefore s.lab.programs s.lab.world (ts ++ us) (first.more ++ ys) w2
   stops_then ys w2 stops = record {
     taken = ts ++ stops.taken;
     next = stops.next;
     left = stops.left;
     are_all = ap (λ (rest : List ℕ). ts ++ rest) stops.are_all ∙ sym (append_assoc ts stops.taken (stops.next ∷ stops.left));
-    follows = follows_then s.lab.programs s.lab.world mid.lab.world w2 ts stops.taken first.more ys first.ends (subst (λ (lib : Library). Follows lib mid.lab.world stops.taken ys w2) first.adds.programs stops.follows);
+    follows = follows_then s.lab.programs s.lab.world mid.lab.world w2 ts stops.taken first.more ys first.ends
+        (subst (λ (lib : Library). Follows lib mid.lab.world stops.taken ys w2) first.adds.programs stops.follows);
     is_ready = stops.is_ready;
   }
 
   counts : length mid.items ≡ length s.items + length first.more
   counts = ap length first.adds.items ∙ length-append s.items first.more
 
-  ends_then : (e : End) (ys : List TraceItem) (w2 : World) → EndsBy mid.lab.programs mid.lab.world us (room_of mid) ys w2 e → EndsBy s.lab.programs s.lab.world (ts ++ us) (room_of s) (first.more ++ ys) w2 e
-  ends_then end.Schedule ys w2 follows = follows_then s.lab.programs s.lab.world mid.lab.world w2 ts us first.more ys first.ends (subst (λ (lib : Library). Follows lib mid.lab.world us ys w2) first.adds.programs follows)
+  ends_then : (e : End) (ys : List TraceItem) (w2 : World) → EndsBy mid.lab.programs mid.lab.world us (room_of mid) ys w2 e
+      → EndsBy s.lab.programs s.lab.world (ts ++ us) (room_of s) (first.more ++ ys) w2 e
+  ends_then end.Schedule ys w2 follows = follows_then s.lab.programs s.lab.world mid.lab.world w2 ts us first.more ys first.ends
+      (subst (λ (lib : Library). Follows lib mid.lab.world us ys w2) first.adds.programs follows)
   ends_then end.Limit ys w2 stops = (stops_then ys w2 stops.0, omega (arith, stops.1, counts, first.adds.limit, first.room, length-append first.more ys))
   ends_then end.Memory ys w2 stops = (stops_then ys w2 stops.0, omega (arith, stops.1, counts, first.adds.limit, first.room, length-append first.more ys))
 
@@ -98,26 +110,33 @@ module _ (s mid s2 : System) (ts us : List ℕ) (first : Walks s ts end.Schedule
 
 module _ (s mid s2 : System) (p n count : ℕ) (first : Walks s (replicate n p) end.Schedule mid) where
   pub once_more : Runs mid p s2 → Walks s (replicate (n + 1) p) end.Schedule s2
-  once_more runs = subst (λ (turns : List ℕ). Walks s turns end.Schedule s2) (replicate_more n p) (walks_then s mid s2 (replicate n p) (p ∷ []) first end.Schedule (ran_walks mid p s2 runs))
+  once_more runs = subst (λ (turns : List ℕ). Walks s turns end.Schedule s2) (replicate_more n p)
+      (walks_then s mid s2 (replicate n p) (p ∷ []) first end.Schedule (ran_walks mid p s2 runs))
 
   turns_left : n < count → replicate n p ++ (p ∷ replicate (count - (n + 1)) p) ≡ replicate count p
   turns_left some = replicate-append-replicate n (suc (count - (n + 1))) p ∙ ap (λ (k : ℕ). replicate k p) (omega (arith, some))
 
   pub no_more : n < count → (mid ≡ s2) → is_ready_in mid.lab p ≡ false → Walks s (replicate count p) end.Schedule s2
   no_more some same busy = subst (λ (x : System). Walks s (replicate count p) end.Schedule x) same
-      (subst (λ (turns : List ℕ). Walks s turns end.Schedule mid) (turns_left some) (walks_then s mid mid (replicate n p) (p ∷ replicate (count - (n + 1)) p) first end.Schedule (skipped_walks mid p (suc (count - (n + 1))) busy)))
+      (subst (λ (turns : List ℕ). Walks s turns end.Schedule mid) (turns_left some)
+      (walks_then s mid mid (replicate n p) (p ∷ replicate (count - (n + 1)) p) first end.Schedule (skipped_walks mid p (suc (count - (n + 1))) busy)))
 
   pub no_room : n < count → (mid ≡ s2) → IsTrue (is_ready_in mid.lab p) → mid.limit ≤ length mid.items → Walks s (replicate count p) end.Limit s2
   no_room some same ready full = subst (λ (x : System). Walks s (replicate count p) end.Limit x) same
-      (subst (λ (turns : List ℕ). Walks s turns end.Limit mid) (turns_left some) (walks_then s mid mid (replicate n p) (p ∷ replicate (count - (n + 1)) p) first end.Limit (limited_walks mid p (replicate (count - (n + 1)) p) ready full)))
+      (subst (λ (turns : List ℕ). Walks s turns end.Limit mid) (turns_left some)
+      (walks_then s mid mid (replicate n p) (p ∷ replicate (count - (n + 1)) p) first end.Limit
+      (limited_walks mid p (replicate (count - (n + 1)) p) ready full)))
 
   pub no_memory : n < count → (mid ≡ s2) → IsTrue (is_ready_in mid.lab p) → length mid.items < mid.limit → Walks s (replicate count p) end.Memory s2
   no_memory some same ready room = subst (λ (x : System). Walks s (replicate count p) end.Memory x) same
-      (subst (λ (turns : List ℕ). Walks s turns end.Memory mid) (turns_left some) (walks_then s mid mid (replicate n p) (p ∷ replicate (count - (n + 1)) p) first end.Memory (wanting_walks mid p (replicate (count - (n + 1)) p) ready room)))
+      (subst (λ (turns : List ℕ). Walks s turns end.Memory mid) (turns_left some)
+      (walks_then s mid mid (replicate n p) (p ∷ replicate (count - (n + 1)) p) first end.Memory
+      (wanting_walks mid p (replicate (count - (n + 1)) p) ready room)))
 
 -- ---- the pairs of a schedule
 
-module _ (s mid s2 : System) (schedule : List (ℕ × ℕ)) (n : ℕ) (default : ℕ × ℕ) (some : n < length schedule) (first : Walks s (turns_of (take n schedule)) end.Schedule mid) where
+module _ (s mid s2 : System) (schedule : List (ℕ × ℕ)) (n : ℕ) (default : ℕ × ℕ) (some : n < length schedule)
+    (first : Walks s (turns_of (take n schedule)) end.Schedule mid) where
   abbrev pair : ℕ × ℕ
   pair = get_or schedule n default
 
@@ -125,10 +144,12 @@ module _ (s mid s2 : System) (schedule : List (ℕ × ℕ)) (n : ℕ) (default :
   of_pair x = replicate x.1 x.0
 
   joined : turns_of (take n schedule) ++ replicate pair.1 pair.0 ≡ turns_of (take (n + 1) schedule)
-  joined = sym (ap turns_of (take_more schedule n default some) ∙ (flat_map-append of_pair (take n schedule) (pair ∷ []) ∙ ap (λ (x : List ℕ). turns_of (take n schedule) ++ x) (append-nil (of_pair pair))))
+  joined = sym (ap turns_of (take_more schedule n default some)
+      ∙ (flat_map-append of_pair (take n schedule) (pair ∷ []) ∙ ap (λ (x : List ℕ). turns_of (take n schedule) ++ x) (append-nil (of_pair pair))))
 
   pub pair_walked : Walks mid (replicate pair.1 pair.0) end.Schedule s2 → Walks s (turns_of (take (n + 1) schedule)) end.Schedule s2
-  pair_walked next = subst (λ (turns : List ℕ). Walks s turns end.Schedule s2) joined (walks_then s mid s2 (turns_of (take n schedule)) (replicate pair.1 pair.0) first end.Schedule next)
+  pair_walked next = subst (λ (turns : List ℕ). Walks s turns end.Schedule s2) joined
+      (walks_then s mid s2 (turns_of (take n schedule)) (replicate pair.1 pair.0) first end.Schedule next)
 
   -- an end before all turns were taken
   stops_more : (lib : Library) (w w2 : World) (ts us : List ℕ) (xs : List TraceItem) → StopsBefore lib w ts xs w2 → StopsBefore lib w (ts ++ us) xs w2
@@ -143,17 +164,21 @@ module _ (s mid s2 : System) (schedule : List (ℕ × ℕ)) (n : ℕ) (default :
 
   pub pair_stopped : (e : End) → (e ≡ end.Schedule → ⊥) → Walks mid (replicate pair.1 pair.0) e s2 → Walks s (turns_of schedule) e s2
   pair_stopped e early next =
-      let so_far : Walks s (turns_of (take n schedule) ++ replicate pair.1 pair.0) e s2 = walks_then s mid s2 (turns_of (take n schedule)) (replicate pair.1 pair.0) first e next in
+      let so_far : Walks s (turns_of (take n schedule) ++ replicate pair.1 pair.0) e s2 = walks_then s mid s2 (turns_of (take n schedule))
+      (replicate pair.1 pair.0) first e next in
       let whole : (turns_of (take n schedule) ++ replicate pair.1 pair.0) ++ turns_of (drop (n + 1) schedule) ≡ turns_of schedule
-      = ap (λ (x : List ℕ). x ++ turns_of (drop (n + 1) schedule)) joined ∙ (sym (flat_map-append of_pair (take (n + 1) schedule) (drop (n + 1) schedule)) ∙ ap turns_of (take-append-drop (n + 1) schedule)) in
+      = ap (λ (x : List ℕ). x ++ turns_of (drop (n + 1) schedule)) joined
+      ∙ (sym (flat_map-append of_pair (take (n + 1) schedule) (drop (n + 1) schedule)) ∙ ap turns_of (take-append-drop (n + 1) schedule)) in
       record {
         more = so_far.more;
         adds = so_far.adds;
         room = so_far.room;
-        ends = subst (λ (turns : List ℕ). EndsBy s.lab.programs s.lab.world turns (room_of s) so_far.more s2.lab.world e) whole (by_end e early (turns_of (take n schedule) ++ replicate pair.1 pair.0) (turns_of (drop (n + 1) schedule)) so_far.more s2.lab.world so_far.ends);
+        ends = subst (λ (turns : List ℕ). EndsBy s.lab.programs s.lab.world turns (room_of s) so_far.more s2.lab.world e) whole
+            (by_end e early (turns_of (take n schedule) ++ replicate pair.1 pair.0) (turns_of (drop (n + 1) schedule)) so_far.more s2.lab.world so_far.ends);
       }
     where
-      by_end : (e : End) → (e ≡ end.Schedule → ⊥) → (ts us : List ℕ) (xs : List TraceItem) (w2 : World) → EndsBy s.lab.programs s.lab.world ts (room_of s) xs w2 e → EndsBy s.lab.programs s.lab.world (ts ++ us) (room_of s) xs w2 e
+      by_end : (e : End) → (e ≡ end.Schedule → ⊥) → (ts us : List ℕ) (xs : List TraceItem) (w2 : World)
+          → EndsBy s.lab.programs s.lab.world ts (room_of s) xs w2 e → EndsBy s.lab.programs s.lab.world (ts ++ us) (room_of s) xs w2 e
       by_end end.Schedule early ts us xs w2 stops = absurd (early refl)
       by_end end.Limit early ts us xs w2 stops = (stops_more s.lab.programs s.lab.world w2 ts us xs stops.0, stops.1)
       by_end end.Memory early ts us xs w2 stops = (stops_more s.lab.programs s.lab.world w2 ts us xs stops.0, stops.1)

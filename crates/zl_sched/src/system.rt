@@ -167,9 +167,9 @@ impl System {
 
     /// Lets the process do one instruction, and adds its item to the trace.
     ///
-    /// `NotReady` comes for a process that isn't ready or is out, whatever else is so; else `Limit` where the
-    /// trace is full, and `NoMemory` where room for the item or in the list of ready processes is
-    /// refused. That it was refused no clause says.
+    /// `NotReady` comes for a process that isn't ready or is out, whatever else is so; else `Limit`
+    /// where the trace is full, and `NoMemory` where room for the item or in the list of ready
+    /// processes is refused. That it was refused no clause says.
     // A run along a schedule calls it for each turn.
     #[inline(always)]
     pub fn step(&mut self, pid: Pid) -> Stepped
@@ -233,8 +233,8 @@ impl System {
 
     /// The turns of the schedule, one pair after another, up to the end that comes first: `Schedule`
     /// after the last, else `Limit` or `Memory` before a turn of a ready process that has no room. A
-    /// turn of a process that isn't ready is skipped, and so is one of a process that is out: what is said
-    /// of the end is said where none is.
+    /// turn of a process that isn't ready is skipped, and so is one of a process that is out: what the
+    /// clause says is of a system where none is.
     pub fn step_all(&mut self, schedule: &[(Pid, u32)]) -> End
         ensures { self.old.out ≡ [] → Walks self.old (turns_of schedule.now) result self.new }
     {

@@ -5,4 +5,5 @@ use Rattle.zl_sched.proofs.hand_in.go.Goals as goal
 
 pub end-requires-clause-ready : goal.end-requires-clause-ready
 end-requires-clause-ready c =
-    rw (c.advance.ensures.cpu, c.pid-pid.ensures) (state_kept c.args.world.now.world c.args.done.pid (λ p. record p { cpu = c.args.done.to }) (λ y. refl) is_ready c.args.done.pid ∙ c.requires.ready)
+    rw (c.advance.ensures.cpu, c.pid-pid.ensures)
+    (state_kept c.args.world.now.world c.args.done.pid (λ p. record p { cpu = c.args.done.to }) (λ y. refl) is_ready c.args.done.pid ∙ c.requires.ready)

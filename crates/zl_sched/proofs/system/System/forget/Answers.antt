@@ -2,11 +2,13 @@ use Rattle.zl_sched.proofs.Common.{◌≡◌, false, arith, ap, length, is_proce
 use Rattle.zl_code.specs.Common.{lives}
 use Rattle.zl_sched.proofs.HandedIn.{forgets_whole}
 use Rattle.zl_sched.proofs.Marked.{shorter}
+use Rattle.zl_sched.proofs.Held.{held}
 use Rattle.zl_sched.proofs.system.System.forget.Goals as goal
 
 pub invariant_of-self : goal.invariant_of-self
 invariant_of-self c =
-    let before : System = record { lab = c.self.inside.world; items = c.self.inside.items.items; statements = c.self.inside.boot.statements.items; limit = c.self.inside.boot.limit; ready = c.self.inside.ready.items; out = c.self.inside.out.items } in
+    let before : System = held c.self.inside.world c.self.inside.items.items c.self.inside.boot.statements.items c.self.inside.boot.limit
+    c.self.inside.ready.items c.self.inside.out.items in
     let over : is_process before.lab.world lives c.args.pid ≡ false = rw (← c.self.view_is) at c.requires in (
       rw c.unmark.ensures.items (forgets_whole before c.self.invariant.0 c.args.pid over),
       omega (arith, c.self.invariant.1, ap length c.unmark.ensures.items, shorter c.args.pid before.out),

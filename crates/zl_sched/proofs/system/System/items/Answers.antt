@@ -6,5 +6,6 @@ returns-clause-safe c =
     let legal = c.self.invariant.0.legal in
     rw (← c.self.view_is) (record {
       legal = legal;
-      covered = covered_go_well c.self.inside.world.programs c.self.inside.boot.statements.items legal.boot (rw c.programs.ensures at c.len.ensures.verified) legal.sized c.self.inside.items.items;
+      covered = covered_go_well c.self.inside.world.programs c.self.inside.boot.statements.items legal.boot
+          (rw c.programs.ensures at c.len.ensures.verified) legal.sized c.self.inside.items.items;
     })

@@ -1,11 +1,13 @@
 use Rattle.zl_sched.proofs.Common.{◌≡◌, true, false, sym, is_process, is_ready, System}
 use Rattle.zl_sched.specs.Ready.{is_in}
 use Rattle.zl_sched.proofs.MarksKept.{over_or_ready}
+use Rattle.zl_sched.proofs.Held.{held}
 use Rattle.zl_sched.proofs.system.System.judge.Goals as goal
 
 pub returns-then-not-is_ready : goal.returns-then-not-is_ready
 returns-then-not-is_ready c =
-    let before : System = record { lab = c.self.inside.world; items = c.self.inside.items.items; statements = c.self.inside.boot.statements.items; limit = c.self.inside.boot.limit; ready = c.self.inside.ready.items; out = c.self.inside.out.items } in
+    let before : System = held c.self.inside.world c.self.inside.items.items c.self.inside.boot.statements.items c.self.inside.boot.limit
+    c.self.inside.ready.items c.self.inside.out.items in
     let out : is_in c.args.done.now.pid before.out ≡ true = rw (c.pid-pid.ensures, c.deref.ensures.value) at (sym (c.if-not-is_out.ensures {u = tt})) in
     let busy : is_process before.lab.world is_ready c.args.done.now.pid ≡ false = rw c.pid-pid.ensures at (sym (c.if-not-is_ready.ensures {u = tt})) in
     rw (← c.self.view_is) (out, over_or_ready before.lab.world c.args.done.now.pid (c.self.invariant.0.listed.marked c.args.done.now.pid out) busy)

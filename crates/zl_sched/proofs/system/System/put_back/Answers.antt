@@ -2,20 +2,35 @@ use Rattle.zl_sched.proofs.Common.{◌≡◌, true, arith, ap, length, is_proces
 use Rattle.zl_sched.specs.Ready.{is_in}
 use Rattle.zl_sched.proofs.HandedIn.{puts_back_whole}
 use Rattle.zl_sched.proofs.MarksMoved.{out_shorter, put_back_room}
+use Rattle.zl_sched.proofs.Held.{held}
 use Rattle.zl_sched.proofs.system.System.put_back.Goals as goal
 
 pub push_reserved-requires : goal.push_reserved-requires
 push_reserved-requires c =
-    let before : System = record { lab = c.self.inside.world; items = c.self.inside.items.items; statements = c.self.inside.boot.statements.items; limit = c.self.inside.boot.limit; ready = c.self.inside.ready.items; out = c.self.inside.out.items } in
+    let before : System = held c.self.inside.world c.self.inside.items.items c.self.inside.boot.statements.items c.self.inside.boot.limit
+    c.self.inside.ready.items c.self.inside.out.items in
     let marked : is_in c.args.pid before.out ≡ true = rw (← c.self.view_is) at c.requires.out in
     let is : is_process before.lab.world is_ready c.args.pid ≡ true = rw (← c.self.view_is) at c.requires.ready in
-    omega (arith, c.self.invariant.1, out_shorter before.lab.world before.ready before.out c.self.invariant.0.listed c.args.pid marked is, c.self.inside.ready.ok.0)
+    omega (
+      arith,
+      c.self.invariant.1,
+      out_shorter before.lab.world before.ready before.out c.self.invariant.0.listed c.args.pid marked is,
+      c.self.inside.ready.ok.0,
+    )
 
 pub invariant_of-self : goal.invariant_of-self
 invariant_of-self c =
-    let before : System = record { lab = c.self.inside.world; items = c.self.inside.items.items; statements = c.self.inside.boot.statements.items; limit = c.self.inside.boot.limit; ready = c.self.inside.ready.items; out = c.self.inside.out.items } in
+    let before : System = held c.self.inside.world c.self.inside.items.items c.self.inside.boot.statements.items c.self.inside.boot.limit
+    c.self.inside.ready.items c.self.inside.out.items in
     let marked : is_in c.args.pid before.out ≡ true = rw (← c.self.view_is) at c.requires.out in
     let is : is_process before.lab.world is_ready c.args.pid ≡ true = rw (← c.self.view_is) at c.requires.ready in (
       rw (c.push_reserved.ensures.items, c.unmark.ensures.items) (puts_back_whole before c.self.invariant.0 c.args.pid marked is),
-      omega (arith, c.self.invariant.1, put_back_room before.lab.world before.ready before.out c.self.invariant.0.listed c.args.pid marked is, ap length c.unmark.ensures.items, ap length c.push_reserved.ensures.items, c.push_reserved.ensures.capacity),
+      omega (
+        arith,
+        c.self.invariant.1,
+        put_back_room before.lab.world before.ready before.out c.self.invariant.0.listed c.args.pid marked is,
+        ap length c.unmark.ensures.items,
+        ap length c.push_reserved.ensures.items,
+        c.push_reserved.ensures.capacity,
+      ),
     )

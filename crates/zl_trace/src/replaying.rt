@@ -1,5 +1,5 @@
 //! A trace, done again step by step.
-ghost use Rattle.std.specs.Prelude.{◌≡◌, ◌≢◌, ◌↔◌, IfOk, IfErr, IsTrue, true, false, ℕ};
+ghost use Rattle.std.specs.Prelude.{◌≡◌, ◌≢◌, IfOk, IfErr, true, false, ℕ};
 ghost use Rattle.zl_code.specs.declared.boot.BootCause.TheVariants.{NoMemory};
 ghost use Rattle.zl_code.specs.declared.boot.BootFault.{BootFault as BootFaultValue};
 ghost use Rattle.zl_code.specs.Boot.{FirstFault};
@@ -11,7 +11,7 @@ ghost use Rattle.zl_trace.specs.Replaying.{Differs, DiffersAt, IsReplayed, Repea
 use crate::fault::ReplayFault;
 use std::alloc::Global;
 use zl_calls::World;
-use zl_code::{Boot, CallName, Outcome, TraceItem};
+use zl_code::{Boot, TraceItem};
 use zl_interp::Library;
 use zl_rights::Pid;
 
@@ -85,55 +85,7 @@ fn repeat_step(world: &mut World, pid: Pid, item: TraceItem) -> bool
     ensures other { result ≡ false → StepDiffers world.old.programs world.old.world item }
 {
     match world.step(pid) {
-        Some(own) => is_same(own, item),
+        Some(own) => own.is_same(item),
         None => false,
-    }
-}
-
-/// Whether both items are the same.
-fn is_same(one: TraceItem, other: TraceItem) -> bool
-    ensures { IsTrue result ↔ one ≡ other }
-{
-    match (one, other) {
-        (
-            TraceItem::Run { pid, count },
-            TraceItem::Run {
-                pid: other_pid,
-                count: other_count,
-            },
-        ) => pid == other_pid && count == other_count,
-        (
-            TraceItem::Call { pid, call, outcome },
-            TraceItem::Call {
-                pid: other_pid,
-                call: other_call,
-                outcome: other_outcome,
-            },
-        ) => {
-            pid == other_pid
-                && is_same_call(call, other_call)
-                && is_same_outcome(outcome, other_outcome)
-        }
-        (TraceItem::Stuck { pid }, TraceItem::Stuck { pid: other_pid }) => pid == other_pid,
-        _ => false,
-    }
-}
-
-/// Whether both are the same system call: no two have one name.
-fn is_same_call(one: CallName, other: CallName) -> bool
-    ensures { IsTrue result ↔ one ≡ other }
-{
-    one.name() == other.name()
-}
-
-/// Whether both calls ended alike.
-fn is_same_outcome(one: Outcome, other: Outcome) -> bool
-    ensures { IsTrue result ↔ one ≡ other }
-{
-    match (one, other) {
-        (Outcome::Answered(status), Outcome::Answered(other_status)) => status == other_status,
-        (Outcome::Blocked, Outcome::Blocked) => true,
-        (Outcome::Ended(code), Outcome::Ended(other_code)) => code == other_code,
-        _ => false,
     }
 }

@@ -2,13 +2,9 @@
 
 use std::alloc::{AllocError, Global};
 use std::convert::AsStr;
-use zl_asm::hints::{Word, push_nearest};
+use zl_asm::hints::{Value, Word, push_nearest, push_text};
 
-/// The commands that come later.
-const LATER: [&str; 1] = ["run"];
-
-/// The commands that there are, and those that come later.
-const COMMANDS: [&str; 6] = ["asm", "check", "step", "replay", "help", "run"];
+const COMMANDS: [&str; 6] = ["asm", "check", "step", "replay", "run", "help"];
 
 /// A command whose words are files.
 #[derive(Clone, Copy)]
@@ -49,7 +45,45 @@ const REPLAY: Form = Form {
     next: "third",
 };
 
+/// An option of `run`, and which numbers it takes.
+#[derive(Clone, Copy)]
+struct Numbered {
+    name: &'static str,
+    /// Its number in the form of the command.
+    letter: &'static str,
+    least: u64,
+    most: u64,
+}
+
+const WORKERS: Numbered = Numbered {
+    name: "--workers",
+    letter: "N",
+    least: 1,
+    most: 64,
+};
+
+const LIMIT: Numbered = Numbered {
+    name: "--limit",
+    letter: "M",
+    least: 0,
+    most: 1_000_000,
+};
+
+/// What was met of the words behind `run`.
+#[derive(Clone, Copy)]
+struct Met {
+    has_file: bool,
+    has_workers: bool,
+    has_limit: bool,
+    /// Whether a word `--` was among them.
+    are_files: bool,
+    /// The option whose number is the next word.
+    open: Option<Numbered>,
+}
+
 const OPTIONS: [&str; 4] = ["--help", "--version", "-h", "-V"];
+
+const OPTIONS_OF_RUN: [&str; 3] = ["--workers", "--limit", "--help"];
 
 /// Adds which of the words, those behind the program's name, wasn't understood.
 pub fn explain_words<S: AsStr>(hint: &mut String, alloc: Global, words: &[S]) {
@@ -75,11 +109,11 @@ fn push_words<S: AsStr>(hint: &mut String, alloc: Global, words: &[S]) -> Result
     if word == "replay" {
         return push_files(hint, REPLAY, rest);
     }
-    if LATER.contains(&word) {
-        return write!(hint, "{word} isn't built yet");
+    if word == "run" {
+        return push_run(hint, alloc, rest);
     }
     if word == "help" {
-        return hint.push_str("help takes one of asm, check, step and replay");
+        return hint.push_str("help takes one of asm, check, step, replay and run");
     }
     if word == "-" {
         return hint.push_str("standard input is read only by the form without words");
@@ -143,4 +177,147 @@ fn push_files<S: AsStr>(hint: &mut String, form: Form, words: &[S]) -> Result<()
     }
     let found = if count == 0 { "none" } else { "one" };
     write!(hint, "{command} takes {files}, and has {found}")
+}
+
+/// Adds what is wrong with the words behind `run`.
+fn push_run<S: AsStr>(hint: &mut String, alloc: Global, words: &[S]) -> Result<(), AllocError> {
+    let mut met = Met {
+        has_file: false,
+        has_workers: false,
+        has_limit: false,
+        are_files: false,
+        open: None,
+    };
+    for word in words {
+        if push_wrong_word(hint, alloc, &mut met, word.as_str())? {
+            return Ok(());
+        }
+    }
+    push_missing(hint, met)
+}
+
+/// Adds what is wrong with the next word behind `run`, if something is.
+fn push_wrong_word(
+    hint: &mut String,
+    alloc: Global,
+    met: &mut Met,
+    word: &str,
+) -> Result<bool, AllocError> {
+    if let Some(option) = met.open {
+        met.open = None;
+        return push_wrong_number(hint, option, word);
+    }
+    if word == "--" && !met.are_files {
+        met.are_files = true;
+        return Ok(false);
+    }
+    if word.len() > 1 && word.starts_with('-') && !met.are_files {
+        return push_wrong_option(hint, alloc, met, word);
+    }
+    let is_second = met.has_file;
+    met.has_file = true;
+    if is_second {
+        let text = "run takes one file, SCENARIO, and # is a second word";
+        push_text(hint, text, &[Value::Word(word.as_bytes())])?;
+    }
+    Ok(is_second)
+}
+
+/// Adds what is wrong with the option, if something is.
+fn push_wrong_option(
+    hint: &mut String,
+    alloc: Global,
+    met: &mut Met,
+    word: &str,
+) -> Result<bool, AllocError> {
+    for option in [WORKERS, LIMIT] {
+        if let Some(rest) = word.strip_prefix(option.name) {
+            if rest.is_empty() || rest.starts_with('=') {
+                return push_wrong_use(hint, met, option, rest);
+            }
+        }
+    }
+    let word = word.as_bytes();
+    push_text(hint, "run has no option #", &[Value::Word(word)])?;
+    if word.len() > 2 {
+        push_nearest(hint, alloc, word, &OPTIONS_OF_RUN)?;
+    }
+    Ok(true)
+}
+
+/// Adds what is wrong with an option of `run`, whose number may stand behind its name, if something is.
+fn push_wrong_use(
+    hint: &mut String,
+    met: &mut Met,
+    option: Numbered,
+    rest: &str,
+) -> Result<bool, AllocError> {
+    let is_second = if option.name == WORKERS.name {
+        met.has_workers
+    } else {
+        met.has_limit
+    };
+    if is_second {
+        push_text(hint, "# stands twice", &[Value::Name(option.name)])?;
+        return Ok(true);
+    }
+    if option.name == WORKERS.name {
+        met.has_workers = true;
+    } else {
+        met.has_limit = true;
+    }
+    let Some(number) = rest.strip_prefix('=') else {
+        met.open = Some(option);
+        return Ok(false);
+    };
+    push_wrong_number(hint, option, number)
+}
+
+/// Adds that the option doesn't take the word, if it doesn't.
+fn push_wrong_number(hint: &mut String, option: Numbered, word: &str) -> Result<bool, AllocError> {
+    if let Ok(number) = word.parse::<u64>() {
+        if option.least <= number && number <= option.most {
+            return Ok(false);
+        }
+    }
+    push_range(hint, option)?;
+    if word.is_empty() {
+        hint.push_str(", and has none")?;
+    } else {
+        push_text(hint, ", and # is none", &[Value::Word(word.as_bytes())])?;
+    }
+    Ok(true)
+}
+
+/// Adds which numbers the option takes.
+fn push_range(hint: &mut String, option: Numbered) -> Result<(), AllocError> {
+    let values = [
+        Value::Name(option.name),
+        Value::Number(option.least),
+        Value::Number(option.most),
+    ];
+    push_text(hint, "# takes a number from # to #", &values)
+}
+
+/// Adds what is missing behind `run`.
+fn push_missing(hint: &mut String, met: Met) -> Result<(), AllocError> {
+    if let Some(option) = met.open {
+        push_range(hint, option)?;
+        return hint.push_str(", and has none");
+    }
+    if !met.has_file {
+        return hint.push_str("run takes one file, SCENARIO, and has none");
+    }
+    if met.has_workers && met.has_limit {
+        return hint.push_str("run takes SCENARIO --workers N --limit M");
+    }
+    let option = if met.has_workers { LIMIT } else { WORKERS };
+    let values = [
+        Value::Name(option.name),
+        Value::Name(option.letter),
+        Value::Name(option.letter),
+        Value::Number(option.least),
+        Value::Number(option.most),
+    ];
+    push_text(hint, "run takes # #, # from # to #, and has none", &values)
 }

@@ -6,7 +6,8 @@ use Rattle.zl_calls.specs.calls.Answer.{Told, with_stored}
 use Rattle.zl_calls.specs.declared.process.Process.{Process}
 
 -- it has this table then, and is told the answer
-pub told_so : {A : Type 0} (told : A → Told) (Does : Handles → Objects → A → Handles → Objects → Type 0) (s : Site) (p p2 : Process) (r r2 : Objects) (o : Outcome) (answer : A) (t2 : Handles)
+pub told_so : {A : Type 0} (told : A → Told) (Does : Handles → Objects → A → Handles → Objects → Type 0) (s : Site) (p p2 : Process) (r r2 : Objects)
+    (o : Outcome) (answer : A) (t2 : Handles)
     → Does p.table r answer t2 r2 → o ≡ outcome.Answered (told answer).status
     → p2 ≡ record p { cpu = cpu_answered s (told answer).status (told answer).values (with_stored (told answer).stored p.cpu); table = t2 }
     → IsAnswered told Does s p r o p2 r2

@@ -17,7 +17,8 @@ use Rattle.zl_calls.proofs.StepItems.{lab_value}
 -- ---- what stands there
 
 -- the process that is read at its place is what the world has
-pub read_there : (ps : List Process) (pid place : ℕ) (p : Process) → IsPlaceOf ps pid place → p ≡ get_or ps place p → get (map process_entry ps) pid ≡ Some (process_value p)
+pub read_there : (ps : List Process) (pid place : ℕ) (p : Process) → IsPlaceOf ps pid place → p ≡ get_or ps place p
+    → get (map process_entry ps) pid ≡ Some (process_value p)
 read_there ps pid place p at read = at.holds ∙ ap (option_map process_value) (slice_get-get_or ps place p at.within ∙ ap (λ (q : Process). Some q) (sym read))
 
 module _ (lib : Library) (ps : List Process) (r : Objects) (blocked : List ℕ) (pid : ℕ) where
@@ -77,12 +78,15 @@ module _ (lib : Library) (ps : List Process) (r : Objects) (lab : IsConsistent p
   module _ (n : ℕ) (p2 : Process) (cpu : p2 ≡ record p { cpu = p2.cpu }) (follows : after_locals g.image n p.cpu ≡ Some p2.cpu) where
     -- as many steps as were done lead to the world with the new Cpu
     pub advances : Runs lib before (replicate n (item.Run pid 1)) (world_blocked (set ps place p2) r blocked)
-    advances = subst (Runs lib before (replicate n (item.Run pid 1))) (sym (moved_world lib ps r lab blocked are sound pid place p found read is_ready_there p2 cpu))
+    advances = subst (Runs lib before (replicate n (item.Run pid 1)))
+        (sym (moved_world lib ps r lab blocked are sound pid place p found read is_ready_there p2 cpu))
         (locals_run lib before pid (process_value p) (stands lib ps r lab blocked are sound pid place p found read is_ready_there)
         (ready lib ps r lab blocked are sound pid place p found read is_ready_there) g runs at_rest awake n p2.cpu follows)
 
     pub advanced_sound : IsSoundWorld (world_blocked (set ps place p2) r blocked)
-    advanced_sound = along lib IsSoundWorld (λ w k x w2 s step. step_sound lib w k x w2 s step) before (replicate n (item.Run pid 1)) (world_blocked (set ps place p2) r blocked) sound advances
+    advanced_sound = along lib IsSoundWorld (λ w k x w2 s step. step_sound lib w k x w2 s step) before (replicate n (item.Run pid 1))
+        (world_blocked (set ps place p2) r blocked) sound advances
 
     pub advanced_programs : HavePrograms lib before → HavePrograms lib (world_blocked (set ps place p2) r blocked)
-    advanced_programs all = along lib (HavePrograms lib) (λ w k x w2 h step. step_programs lib w k x w2 h step) before (replicate n (item.Run pid 1)) (world_blocked (set ps place p2) r blocked) all advances
+    advanced_programs all = along lib (HavePrograms lib) (λ w k x w2 h step. step_programs lib w k x w2 h step) before (replicate n (item.Run pid 1))
+        (world_blocked (set ps place p2) r blocked) all advances

@@ -28,7 +28,8 @@ none_made lib made none root = record {
   words = tt;
 }
 
-small_more : (ss : List Statement) (s : Statement) → AllByRecursion (λ x. word_of x ≤ most_word) ss → word_of s ≤ most_word → AllByRecursion (λ x. word_of x ≤ most_word) (ss ++ s ∷ [])
+small_more : (ss : List Statement) (s : Statement) → AllByRecursion (λ x. word_of x ≤ most_word) ss → word_of s ≤ most_word
+    → AllByRecursion (λ x. word_of x ≤ most_word) (ss ++ s ∷ [])
 small_more [] s all one = (one, tt)
 small_more (t ∷ ss) s (first, all) one = (first, small_more ss s all one)
 
@@ -41,7 +42,8 @@ one_more lib ss i d before after lt so_far makes small = record {
 }
 
 -- all of them were made
-pub all_small : (lib : Library) (ss : List Statement) (i : ℕ) (made : Made) → length ss ≤ i → IsMadeBy lib (take i ss) made → AllByRecursion (λ x. word_of x ≤ most_word) ss
+pub all_small : (lib : Library) (ss : List Statement) (i : ℕ) (made : Made) → length ss ≤ i → IsMadeBy lib (take i ss) made
+    → AllByRecursion (λ x. word_of x ≤ most_word) ss
 all_small lib ss i made all so_far = rw take_all at so_far.words
 
 -- ---- faults

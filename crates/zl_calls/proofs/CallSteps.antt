@@ -57,7 +57,8 @@ module _ (lib : Library) (ps : List Process) (r : Objects) (whole : IsConsistent
       (moves_so lib ps r whole blocked are sound pid place p found read is_ready_there p2 (rw same_process at next) (rw same_process at cpu))
 
   -- nothing ends, fires or wakes behind it
-  pub stays_from : (p2 : Process) → p2 ≡ record p1 { cpu = p2.cpu } → StaysAwake (world_blocked ps r blocked) (world_left (set ps1 place p2) r1 b1) (world_blocked (set ps1 place p2) r1 b1)
+  pub stays_from : (p2 : Process) → p2 ≡ record p1 { cpu = p2.cpu }
+      → StaysAwake (world_blocked ps r blocked) (world_left (set ps1 place p2) r1 b1) (world_blocked (set ps1 place p2) r1 b1)
   stays_from p2 cpu =
       rw (same_list, same_objects, same_blocked)
       (moved_stays lib ps r whole blocked are sound pid place p found read is_ready_there p2 (rw same_process at cpu))

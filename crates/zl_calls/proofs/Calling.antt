@@ -20,7 +20,8 @@ module _ (lib : Library) (ps : List Process) (r : Objects) (b : List ℕ) (place
 
   -- who is read there once more is there, and is the same
   pub again_there : (ps1 : List Process) (q : Process) → ps1 ≡ ps → q ≡ get_or ps1 place q → slice_get ps place ≡ Some q
-  again_there ps1 q same again = slice_get-get_or ps place q within ∙ ap (λ (x : Process). Some x) (sym (again ∙ ap (λ (xs : List Process). get_or xs place q) same))
+  again_there ps1 q same again =
+      slice_get-get_or ps place q within ∙ ap (λ (x : Process). Some x) (sym (again ∙ ap (λ (xs : List Process). get_or xs place q) same))
 
   pub same_caller : (ps1 : List Process) (q : Process) → ps1 ≡ ps → q ≡ get_or ps1 place q → q ≡ p
   same_caller ps1 q same again = same_Some q p (sym (again_there ps1 q same again) ∙ is_there)
@@ -54,12 +55,14 @@ module _ (lib : Library) (ps : List Process) (r : Objects) (b : List ℕ) (place
           by_site None none reached = reached
           by_site (Some s) none reached = reaches none reached
 
-      pub acted_acts : (ps1 : List Process) (r1 : Objects) (b1 : List ℕ) → ps1 ≡ ps → r1 ≡ r → b1 ≡ b → (q : Process) → q ≡ p → (o : Outcome) (p2 : Process) (r2 : Objects)
+      pub acted_acts : (ps1 : List Process) (r1 : Objects) (b1 : List ℕ) → ps1 ≡ ps → r1 ≡ r → b1 ≡ b → (q : Process) → q ≡ p
+          → (o : Outcome) (p2 : Process) (r2 : Objects)
           → Acted (site_of call q.cpu) q r1 o p2 r2 → (caller : Process) → slice_get ps place ≡ Some caller → Done o (lab (set ps1 place p2) r2 b1) caller
       acted_acts ps1 r1 b1 same_list same_objects same_blocked q same o p2 r2 acted =
           rw (same_list, same_blocked) (of_caller (Done o (lab (set ps place p2) r2 b)) (by_site (site_of call p.cpu) none (rw (same, same_objects) at acted)))
         where
-          by_site : (at : Option Site) → IfSome at (λ s. verdict_on p.table.entries r.objects p.pid s.request ≡ None) → Acted at p r o p2 r2 → IsReachedBy at (λ s. CallActs lib place p s (lab ps r b) o (lab (set ps place p2) r2 b))
+          by_site : (at : Option Site) → IfSome at (λ s. verdict_on p.table.entries r.objects p.pid s.request ≡ None) → Acted at p r o p2 r2
+              → IsReachedBy at (λ s. CallActs lib place p s (lab ps r b) o (lab (set ps place p2) r2 b))
           by_site None none acted = acted
           by_site (Some s) none acted = acts p2 none (record { processes = refl; blocked = refl }) acted
 

@@ -323,7 +323,8 @@ module _ (lib : Library) (ps : List Process) (r : Objects) (whole : IsConsistent
     at_place : (c : Process) → slice_get l2.processes place ≡ Some c → (c.pid ≡ p.pid) × (process_value c ≡ process_killed dies (process_value p))
     at_place c at =
         let same : c.pid ≡ p.pid = place_stays (ended_within r t) (λ x. ends_pid (lives (state_value x.state) && is_within r.objects t x.pid) x) ps (map (ended_within r t) ps) l2.processes kills.between l2.objects refl kills.closes place p c here at in
-        let write : IsWrite l2.processes (slice_set l2.processes place c) c c = writes_at l2.processes place c c (still_sorted ps r whole blocked sound t given l2 kills) at refl in
+        let write : IsWrite l2.processes (slice_set l2.processes place c) c c =
+        writes_at l2.processes place c c (still_sorted ps r whole blocked sound t given l2 kills) at refl in
         (same, same_Some (process_value c) (process_killed dies (process_value p)) (sym (subst (λ (k : ℕ). get (map process_entry l2.processes) k ≡ Some (process_value c)) same write.there) ∙ stands))
 
     kill_chosen : IsTrue (may_choose w (taken w p.pid kill_site) p.pid (task_kill task) [])
@@ -347,7 +348,8 @@ module _ (lib : Library) (ps : List Process) (r : Objects) (whole : IsConsistent
       where
         no_more : (x : ProcessValue) → Some (process_killed (within_value p.pid) (process_value p)) ≡ Some x → process_ended KILLED x ≡ x
         no_more x is =
-            let became : process_killed true (process_value p) ≡ x = subst (λ (b : Bool). process_killed b (process_value p) ≡ x) (same_within r.objects t given p.pid ∙ among) (same_Some (process_killed (within_value p.pid) (process_value p)) x is) in
+            let became : process_killed true (process_value p) ≡ x = subst (λ (b : Bool). process_killed b (process_value p) ≡ x)
+            (same_within r.objects t given p.pid ∙ among) (same_Some (process_killed (within_value p.pid) (process_value p)) x is) in
             subst (λ (y : ProcessValue). process_ended KILLED y ≡ y) became (rw ready refl)
 
     killed_calls : dies ≡ true → PolicedCalls lib w p.pid kill_site (outcome.Ended KILLED) (with_waiters (world_value l2.processes (killing r t)) r.waits r.waits_made l2.blocked)
@@ -369,7 +371,8 @@ module _ (lib : Library) (ps : List Process) (r : Objects) (whole : IsConsistent
           let is : code ≡ KILLED = the_code among in
           subst (λ (x : ℤ). HasLeft lib ps l2.processes r l2.objects blocked l2.blocked p.pid (item.Call p.pid name (outcome.Ended x))) (sym is)
           (leaves_so lib ps r blocked sound p there ready name kill_site next l2.processes (killing r t) l2.objects l2.blocked (outcome.Ended KILLED) refl
-          (ends_settled ps r whole blocked sound t given l2 kills l2.processes (λ k q. q.cpu) (λ k. killed_got (λ j q. q.cpu) k (λ q there_too. refl)) (λ k. refl) (still_sorted ps r whole blocked sound t given l2 kills))
+          (ends_settled ps r whole blocked sound t given l2 kills l2.processes (λ k q. q.cpu) (λ k. killed_got (λ j q. q.cpu) k (λ q there_too. refl))
+          (λ k. refl) (still_sorted ps r whole blocked sound t given l2 kills))
           blocked_after (killed_calls among) lists)
       | inr apart ↦ absurd (not_over apart)
     ]

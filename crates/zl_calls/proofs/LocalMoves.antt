@@ -100,8 +100,10 @@ module _ (lib : Library) (ps : List Process) (r : Objects) (lab : IsConsistent p
     all_left = all_kept (is_left (world_value after r)) r.waits (λ i d inside.
         let x : Wait = slice_index_or r.waits i d in
         let t : IsSoundWait before x = sound.waits i d inside in
-        and_from (is_made_by_handle (world_value after r) x) (has_key (map object_entry r.objects) x.object && has_key (map object_entry r.objects) x.port) (made x t)
-        (and_from (has_key (map object_entry r.objects) x.object) (has_key (map object_entry r.objects) x.port) (watched_there before sound i d inside) (ported x t)))
+        and_from (is_made_by_handle (world_value after r) x) (has_key (map object_entry r.objects) x.object && has_key (map object_entry r.objects) x.port)
+        (made x t)
+        (and_from (has_key (map object_entry r.objects) x.object) (has_key (map object_entry r.objects) x.port) (watched_there before sound i d inside)
+        (ported x t)))
 
     all_left_at_port : filter (is_left_at_port (world_value after r)) r.waits ≡ r.waits
     all_left_at_port = all_kept (is_left_at_port (world_value after r)) r.waits (λ i d inside.
@@ -119,10 +121,12 @@ module _ (lib : Library) (ps : List Process) (r : Objects) (lab : IsConsistent p
 
     live : (k : ℕ) (q : ProcessValue) → get (map process_entry after) k ≡ Some q → IsTrue (lives q.state) → IsTrue (has_key r.objects k)
     unfolding is_process
-    live k q at h = object_there ps r blocked sound k (sym (alike_states ps after p p2 write lives (ap (λ (x : Process). lives (state_value x.state)) cpu) r r k) ∙ rw at h)
+    live k q at h = object_there ps r blocked sound k (sym (alike_states ps after p p2 write lives (ap (λ (x : Process). lives (state_value x.state)) cpu) r
+        r k) ∙ rw at h)
 
     pub moved_rests : Settles (world_blocked after r blocked) (world_blocked after r blocked)
     moved_rests =
-        let bare : Settles (world_value after r) (world_value after r) = subst (Settles (world_value after r)) (all_live after r moved_keeps.processes_in_order live) (still_settles after r moved_keeps) in
+        let bare : Settles (world_value after r) (world_value after r) =
+        subst (Settles (world_value after r)) (all_live after r moved_keeps.processes_in_order live) (still_settles after r moved_keeps) in
         subst (λ (ws : List Wait). Settles (world_blocked after r blocked) (record (world_blocked after r blocked) { waits = ws })) all_left_at_port
         (settles_waiting (world_value after r) (world_value after r) bare r.waits r.waits_made blocked)

@@ -37,7 +37,8 @@ last_one (suc n) x = ap (λ (xs : List TraceItem). x ∷ xs) (last_one n x)
 
 module _ (lib : Library) where
   -- one step more, at the end
-  step_behind : (w : World) (xs : List TraceItem) (mid : World) (x : TraceItem) (w2 : World) → Runs lib w xs mid → Step lib mid (pid_of x) x w2 → Runs lib w (xs ++ (x ∷ [])) w2
+  step_behind : (w : World) (xs : List TraceItem) (mid : World) (x : TraceItem) (w2 : World) → Runs lib w xs mid → Step lib mid (pid_of x) x w2
+      → Runs lib w (xs ++ (x ∷ [])) w2
   step_behind w [] mid x w2 e step = (w2, subst (λ (v : World). Step lib v (pid_of x) x w2) e step, refl)
   step_behind w (y ∷ ys) mid x w2 (first, own, rest) step = (first, own, step_behind first ys mid x w2 rest step)
 
@@ -55,7 +56,8 @@ moves_there (AtCall call s) d e = absurd (none-some d e)
 moves_there IsStuck d e = absurd (none-some d e)
 
 -- the process p of w is ready, and runs this program
-module _ (lib : Library) (w : World) (p : ℕ) (q : ProcessValue) (there : get w.processes p ≡ Some q) (ready : q.state ≡ Ready) (g : Program) (runs : slice_get lib q.program ≡ Some g) where
+module _ (lib : Library) (w : World) (p : ℕ) (q : ProcessValue) (there : get w.processes p ≡ Some q) (ready : q.state ≡ Ready) (g : Program)
+    (runs : slice_get lib q.program ≡ Some g) where
   -- the world where it has this Cpu
   abbrev pub at : Cpu → World
   at c = on_process w p (λ x. record x { cpu = c })
@@ -72,7 +74,10 @@ module _ (lib : Library) (w : World) (p : ℕ) (q : ProcessValue) (there : get w
 
     begins : (d : Cpu) → q.cpu ≡ d → at d ≡ w
     unfolding on_process
-    begins d same = λ i. record w { processes = update_same w.processes p (λ x. record x { cpu = d }) q there (ap (λ (c : Cpu). record q { cpu = c }) (sym same)) i }
+    begins d same = λ i. record w {
+      processes = update_same w.processes p (λ x. record x { cpu = d }) q there
+          (ap (λ (c : Cpu). record q { cpu = c }) (sym same)) i;
+    }
 
     one_step : (c d : Cpu) → next_at g.image c ≡ Moves d → Step lib (at c) p (item.Run p 1) (at d)
     one_step c d next = record {
@@ -92,7 +97,8 @@ module _ (lib : Library) (w : World) (p : ℕ) (q : ProcessValue) (there : get w
     locals_run (suc n) d e = by (after_locals g.image n q.cpu) refl e (λ c is. locals_run n c is)
       where
         by : (o : Option Cpu) → after_locals g.image n q.cpu ≡ o → then_moved g.image o ≡ Some d
-            → ((c : Cpu) → after_locals g.image n q.cpu ≡ Some c → Runs lib w (replicate n (item.Run p 1)) (at c)) → Runs lib w (replicate (suc n) (item.Run p 1)) (at d)
+            → ((c : Cpu) → after_locals g.image n q.cpu ≡ Some c → Runs lib w (replicate n (item.Run p 1)) (at c))
+            → Runs lib w (replicate (suc n) (item.Run p 1)) (at d)
         by None is e before = absurd (none-some d e)
         by (Some c) is e before =
             subst (λ (xs : List TraceItem). Runs lib w xs (at d)) (last_one n (item.Run p 1))

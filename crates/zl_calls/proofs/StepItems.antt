@@ -193,7 +193,8 @@ module _ (lib : Library) (ps : List Process) (r : Objects) (blocked : List ℕ) 
   }
 
   -- the same of a local instruction, behind which nothing is due
-  pub takes_local : (ps2 : List Process) (r2 : Objects) (blocked2 : List ℕ) (x : TraceItem) → is_local x ≡ true → DoesNext lib (world_blocked ps r blocked) pid x (world_left ps2 r2 (then_blocked pid x blocked2))
+  pub takes_local : (ps2 : List Process) (r2 : Objects) (blocked2 : List ℕ) (x : TraceItem) → is_local x ≡ true
+      → DoesNext lib (world_blocked ps r blocked) pid x (world_left ps2 r2 (then_blocked pid x blocked2))
       → wakes (world_left ps2 r2 blocked2) ≡ world_blocked ps2 r2 blocked2 → TakesStep (lab_value lib ps r blocked) pid (lab_value lib ps2 r2 blocked2) x
   unfolding is_process
   takes_local ps2 r2 blocked2 x local does quiet = record {
@@ -215,14 +216,18 @@ module _ (lib : Library) (ps : List Process) (r : Objects) (blocked : List ℕ) 
   }
 
 -- behind such a step nothing is due
-pub stepped_awake : (lib : Library) (ps ps2 : List Process) (r r2 : Objects) (blocked blocked2 : List ℕ) (pid : ℕ) (x : TraceItem) → TakesStep (lab_value lib ps r blocked) pid (lab_value lib ps2 r2 blocked2) x
+pub stepped_awake : (lib : Library) (ps ps2 : List Process) (r r2 : Objects) (blocked blocked2 : List ℕ) (pid : ℕ) (x : TraceItem)
+    → TakesStep (lab_value lib ps r blocked) pid (lab_value lib ps2 r2 blocked2) x
     → wakes (world_blocked ps2 r2 blocked2) ≡ world_blocked ps2 r2 blocked2
-stepped_awake lib ps ps2 r r2 blocked blocked2 pid x takes = step_awake lib (world_blocked ps r blocked) (pid_of x) x (world_blocked ps2 r2 blocked2) takes.steps.step
+stepped_awake lib ps ps2 r r2 blocked blocked2 pid x takes =
+    step_awake lib (world_blocked ps r blocked) (pid_of x) x (world_blocked ps2 r2 blocked2) takes.steps.step
 
 -- it leaves each process a program of the library
-pub stepped_programs : (lib : Library) (ps ps2 : List Process) (r r2 : Objects) (blocked blocked2 : List ℕ) (pid : ℕ) (x : TraceItem) → TakesStep (lab_value lib ps r blocked) pid (lab_value lib ps2 r2 blocked2) x
+pub stepped_programs : (lib : Library) (ps ps2 : List Process) (r r2 : Objects) (blocked blocked2 : List ℕ) (pid : ℕ) (x : TraceItem)
+    → TakesStep (lab_value lib ps r blocked) pid (lab_value lib ps2 r2 blocked2) x
     → HavePrograms lib (world_blocked ps r blocked) → HavePrograms lib (world_blocked ps2 r2 blocked2)
-stepped_programs lib ps ps2 r r2 blocked blocked2 pid x takes all = step_programs lib (world_blocked ps r blocked) (pid_of x) x (world_blocked ps2 r2 blocked2) all takes.steps.step
+stepped_programs lib ps ps2 r r2 blocked blocked2 pid x takes all =
+    step_programs lib (world_blocked ps r blocked) (pid_of x) x (world_blocked ps2 r2 blocked2) all takes.steps.step
 
 -- such a step leads from a sound world to a sound one
 pub stepped_sound : (lib : Library) (ps ps2 : List Process) (r r2 : Objects) (blocked blocked2 : List ℕ) (pid : ℕ) (x : TraceItem) → TakesStep (lab_value lib ps r blocked) pid (lab_value lib ps2 r2 blocked2) x

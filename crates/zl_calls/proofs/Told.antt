@@ -80,7 +80,8 @@ then_there true x there = refl
 then_there false x there = there
 
 -- a read that isn't stuck has its room
-pub room_there : (a channel address room bytes handles first places : ℕ) (c : Cpu) → IsSome (site_of (call.ChanReadEtc a channel address room bytes handles first places) c)
+pub room_there : (a channel address room bytes handles first places : ℕ) (c : Cpu)
+    → IsSome (site_of (call.ChanReadEtc a channel address room bytes handles first places) c)
     → is_in_memory c (reg c address) (reg c room) ≡ true
 unfolding site_of row_of call_parts
 room_there a channel address room bytes handles first places c there = then_there _ _ there

@@ -39,7 +39,8 @@ module _ (p : ℕ) (c : Cpu) where
       by_body raised EventBody = refl
       by_body raised (PortBody packets) = refl
       by_body raised (JobBody parent depth policy killed) = λ i. bit_or raised (bit_or (signal_if TERMINATED killed)
-          (bit_or (signal_if NO_JOBS (not (has_child_job w k))) (signal_if NO_PROCESSES (not (list_any (λ e. is_process_of k e.1.body && passes_still w lives e.0 i) w.objects)))))
+          (bit_or (signal_if NO_JOBS (not (has_child_job w k))) (signal_if NO_PROCESSES
+          (not (list_any (λ e. is_process_of k e.1.body && passes_still w lives e.0 i) w.objects)))))
       by_body raised (ProcessBody job) = λ i. bit_or raised (signal_if TERMINATED (passes_still w has_ended k i))
 
       by_object : (o : Option Object) → active_of (moved w) k o ≡ active_of w k o
@@ -59,16 +60,22 @@ module _ (p : ℕ) (c : Cpu) where
   unfolding fired
   fires_still w = λ i. record w {
     processes = update w.processes p given;
-    objects = each (λ k o. record o { body = body_with_packets (map (λ x. packet_still w x i) (filter (λ x. x.port == k && holds_still w x i) w.waits)) o.body }) w.objects;
+    objects = each (λ k o. record o {
+      body = body_with_packets (map (λ x. packet_still w x i) (filter (λ x. x.port == k && holds_still w x i) w.waits))
+          o.body;
+    }) w.objects;
     waits = filter (λ x. not (holds_still w x i)) w.waits;
   }
 
-  ready_still : (w : World) (q : ℕ) (x : Process) (destinations values : List ℕ) → (p == q) ≡ false → made_ready (moved w) q x destinations values ≡ moved (made_ready w q x destinations values)
+  ready_still : (w : World) (q : ℕ) (x : Process) (destinations values : List ℕ) → (p == q) ≡ false
+      → made_ready (moved w) q x destinations values ≡ moved (made_ready w q x destinations values)
   unfolding made_ready
-  ready_still w q x destinations values apart = λ i. record (made_ready w q x destinations values) { processes = put_update w.processes p q given (record x { state = Ready; cpu = answered x.cpu destinations values }) apart i }
+  ready_still w q x destinations values apart = λ i. record (made_ready w q x destinations values)
+      { processes = put_update w.processes p q given (record x { state = Ready; cpu = answered x.cpu destinations values }) apart i }
 
   module _ (w : World) (q : ℕ) (apart : (p == q) ≡ false) where
-    by_packets : (x : Process) (k : ℕ) (ds : List ℕ) (o : Object) (packets : List Packet) → woken_by_first (moved w) q x k ds o packets ≡ moved (woken_by_first w q x k ds o packets)
+    by_packets : (x : Process) (k : ℕ) (ds : List ℕ) (o : Object) (packets : List Packet)
+        → woken_by_first (moved w) q x k ds o packets ≡ moved (woken_by_first w q x k ds o packets)
     by_packets x k ds o [] = refl
     by_packets x k ds o (first ∷ rest) = ready_still (with_body w k o (PortBody rest)) q x ds _ apart
 
@@ -83,7 +90,8 @@ module _ (p : ℕ) (c : Cpu) where
     by_state : (x : Process) (s : State) → woken_from (moved w) q x s ≡ moved (woken_from w q x s)
     by_state x (Blocked (SignalOf k mask) ds) = rw (signals w k) (by_test (meets (active w k) mask) (0 ∷ active w k ∷ []))
       where
-        by_test : (b : Bool) (values : List ℕ) → (if b then made_ready (moved w) q x ds values else moved w) ≡ moved (if b then made_ready w q x ds values else w)
+        by_test : (b : Bool) (values : List ℕ) → (if b then made_ready (moved w) q x ds values else moved w) ≡ moved
+            (if b then made_ready w q x ds values else w)
         by_test true values = ready_still w q x ds values apart
         by_test false values = refl
     by_state x (Blocked (PacketAt k) ds) = by_object x k ds (get w.objects k)
@@ -108,6 +116,7 @@ module _ (p : ℕ) (c : Cpu) where
   wakes_still w none = ap (λ v. fold woken v w.blocked) (fires_still w) ∙ turns_still (fired w) w.blocked none
 
 -- a process that isn't among the blocked goes on by itself, and nothing is due where nothing was
-pub moves_awake : (w : World) (p : ℕ) (c : Cpu) → list_any (λ q. p == q) w.blocked ≡ false → wakes w ≡ w → wakes (on_process w p (λ q. record q { cpu = c })) ≡ on_process w p (λ q. record q { cpu = c })
+pub moves_awake : (w : World) (p : ℕ) (c : Cpu) → list_any (λ q. p == q) w.blocked ≡ false → wakes w ≡ w
+    → wakes (on_process w p (λ q. record q { cpu = c })) ≡ on_process w p (λ q. record q { cpu = c })
 unfolding on_process
 moves_awake w p c none awake = wakes_still p c w none ∙ ap (moved p c) awake

@@ -36,7 +36,8 @@ module _ (P : TraceItem → Type 0) (free : (pid n : ℕ) → P (item.Run pid n)
 
   pub to_single : (xs : List TraceItem) → AllByRecursion P xs → AllByRecursion P (flat_map single xs)
   to_single [] h = tt
-  to_single (x ∷ xs) (one, more) = subst (AllByRecursion P) (sym (flat_map-cons single x xs)) (before (single x) (flat_map single xs) (of_one x one) (to_single xs more))
+  to_single (x ∷ xs) (one, more) =
+      subst (AllByRecursion P) (sym (flat_map-cons single x xs)) (before (single x) (flat_map single xs) (of_one x one) (to_single xs more))
 
   pub to_joined : (xs : List TraceItem) → AllByRecursion P (flat_map single xs) → AllByRecursion P xs
   to_joined [] h = tt
@@ -74,7 +75,8 @@ module _ (budget p : ℕ) where
   too_many n left none = let more : nat_le (suc n) left ≡ false = grind (arith, nat_tests, none) in rw more refl
 
   -- so many local instructions one by one count as they do together
-  runs_count : (q : ℕ) (b : Bool) → (q == p) ≡ b → (n left : ℕ) (ys : List TraceItem) → ◌≡◌ {A = Type 0} (KeepsBudget budget p left (replicate n (item.Run q 1) ++ ys)) (Behind b n left ys)
+  runs_count : (q : ℕ) (b : Bool) → (q == p) ≡ b → (n left : ℕ) (ys : List TraceItem)
+      → ◌≡◌ {A = Type 0} (KeepsBudget budget p left (replicate n (item.Run q 1) ++ ys)) (Behind b n left ys)
   runs_count q false e zero left ys = refl
   runs_count q true e zero left ys = ap (λ (o : Option ℕ). IsSomeAnd o (λ more. KeepsBudget budget p more ys)) (sym (none_done left))
   runs_count q false e (suc n) left ys = ap (λ (b : Bool). Behind b 1 left (replicate n (item.Run q 1) ++ ys)) e ∙ runs_count q false e n left ys
@@ -90,7 +92,8 @@ module _ (budget p : ℕ) where
           ap (λ (b : Bool). IsSomeAnd (if b then Some (left - 1) else None) (λ more. KeepsBudget budget p more (replicate n (item.Run q 1) ++ ys))) none
           ∙ ap (λ (o : Option ℕ). IsSomeAnd o (λ more. KeepsBudget budget p more ys)) (sym (too_many n left none))
 
-  one_counts : (x : TraceItem) (left : ℕ) (ys : List TraceItem) → ◌≡◌ {A = Type 0} (KeepsBudget budget p left (single x ++ ys)) (KeepsBudget budget p left (x ∷ ys))
+  one_counts : (x : TraceItem) (left : ℕ) (ys : List TraceItem)
+      → ◌≡◌ {A = Type 0} (KeepsBudget budget p left (single x ++ ys)) (KeepsBudget budget p left (x ∷ ys))
   one_counts (item.Run q count) left ys = runs_count q (q == p) refl count left ys
   one_counts (item.Call pid called o) left ys = refl
   one_counts (item.Stuck pid) left ys = refl

@@ -124,7 +124,8 @@ module _ (lib : Library) where
           over _ p code (with_all_done (taken w p s) s.request vs passes (removed w p (taken_handles s.request) all))
       passed vs outcome.Blocked passes = waits w p s.destinations (awaited_by w p s.request) all
 
-      called : (choice : Choice) (r : Option Outcome) (answer : Outcome) (w2 : World) → refusal lib w p s.request ≡ r → CallBy lib w p s choice r answer w2 → HavePrograms lib w2
+      called : (choice : Choice) (r : Option Outcome) (answer : Outcome) (w2 : World) → refusal lib w p s.request ≡ r → CallBy lib w p s choice r answer w2
+          → HavePrograms lib w2
       called Refused None answer w2 is c = absurd c
       called Refused (Some o) answer w2 is c = rw c.1 (refused o)
       called WantsMemory None answer w2 is c = rw c.2 (refused (outcome.Answered status.NoMemory))

@@ -156,7 +156,8 @@ pub data WasStarted (lib : Library) (boot : World) (items : List TraceItem) (i :
       → (step : Step lib v caller (item.Call caller name.ProcessStart (outcome.Answered status.Ok)) w) → StartsChild lib v caller step.process p
       → program_of lib v p ≡ Some (record { checked = true; image = i }) → WasStarted lib boot items i w p
 
--- In this history from the boot world, the process p is covered from its n-th item on, the first of more: a program that is listed as checked, with this image, was just started in it.
+-- In this history from the boot world, the process p is covered from its n-th item on, the first of more: a program that is listed as
+-- checked, with this image, was just started in it.
 pub record IsCoveredFrom (lib : Library) (boot : World) (history : List TraceItem) (i : Image) (p n : ℕ) (more : List TraceItem) : Type 0 where
   pub items : List TraceItem
   pub parts : history ≡ items ++ more

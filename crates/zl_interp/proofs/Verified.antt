@@ -19,7 +19,9 @@ all_behind : (xs : Library) (g : Program) → AllByRecursion InRange xs → InRa
 all_behind [] g all one = (one, tt)
 all_behind (x ∷ xs) g (first, all) one = (first, all_behind xs g all one)
 
-found : (xs : Library) (g : Program) (n : ℕ) (h : Program) → slice_get (xs ++ g ∷ []) n ≡ Some h → ((m : ℕ) → slice_get xs m ≡ Some h → h.checked ≡ true → HasStepBound h.image) → (g.checked ≡ true → HasStepBound g.image) → h.checked ≡ true → HasStepBound h.image
+found : (xs : Library) (g : Program) (n : ℕ) (h : Program) → slice_get (xs ++ g ∷ []) n ≡ Some h
+    → ((m : ℕ) → slice_get xs m ≡ Some h → h.checked ≡ true → HasStepBound h.image) → (g.checked ≡ true → HasStepBound g.image) → h.checked ≡ true
+    → HasStepBound h.image
 found [] g zero h at old new checked = subst (λ (x : Program). x.checked ≡ true → HasStepBound x.image) (same_Some g h at) new checked
 found [] g (suc n) h at old new checked = absurd (none-some h at)
 found (x ∷ xs) g zero h at old new checked = old zero at checked
@@ -32,7 +34,8 @@ one_verified lib g v range bound = record {
 }
 
 -- of a list that is seen through f, where one more is pushed
-pub pushed : {X : Type 0} (f : X → Program) (old between new : List X) (x : X) (g : Program) → IsVerified (map f old) → between ≡ old → new ≡ between ++ x ∷ [] → f x ≡ g → InRange g → (g.checked ≡ true → HasStepBound g.image) → IsVerified (map f new)
+pub pushed : {X : Type 0} (f : X → Program) (old between new : List X) (x : X) (g : Program) → IsVerified (map f old) → between ≡ old
+    → new ≡ between ++ x ∷ [] → f x ≡ g → InRange g → (g.checked ≡ true → HasStepBound g.image) → IsVerified (map f new)
 pushed f old between new x g v same is made range bound =
     subst (λ ys. IsVerified (map f ys)) (sym is)
     (subst (λ ys. IsVerified (map f (ys ++ x ∷ []))) (sym same)

@@ -230,7 +230,8 @@ ending_places m k o there once have j = by_key (cases_Bool (k == j))
     reserved : reserved_in (get mid j) ≡ reserved_in (get (without m k) j) - waits_for j o
     reserved = giving_reserved o.signals.waits (without m k) j
 
-    other : (k == j) ≡ false → (b : Bool) → waits_at mid j ≡ reserved_in (get mid j) → waits_at (ending_port k b mid) j + 0 ≡ reserved_in (get (ending_port k b mid) j)
+    other : (k == j) ≡ false → (b : Bool) → waits_at mid j ≡ reserved_in (get mid j)
+        → waits_at (ending_port k b mid) j + 0 ≡ reserved_in (get (ending_port k b mid) j)
     other apart true h = omega (arith, each_others k j apart mid, each_reserved k j mid, h)
     other apart false h = omega (arith, h)
 
@@ -273,7 +274,8 @@ wait_counts K (x ∷ xs) each_there = rw first (ap (λ (ys : List Watch). x ∷ 
 
 pub all_ports_there : (m : Map Object) → HavePlaces m → (k : ℕ) (o : Object) → get m k ≡ Some o → filter (λ (x : Watch). has_key m x.port) o.signals.waits ≡ o.signals.waits
 all_ports_there m have k o at =
-    wait_counts (has_key m) o.signals.waits (λ p some. by_object p (get m p) refl (omega (arith, some, have p, sum_updated (λ (e : ℕ × Object). waits_for p e.1) m k o (without_port_waits p) at, none_at p o.signals.waits)))
+    wait_counts (has_key m) o.signals.waits (λ p some. by_object p (get m p) refl
+    (omega (arith, some, have p, sum_updated (λ (e : ℕ × Object). waits_for p e.1) m k o (without_port_waits p) at, none_at p o.signals.waits)))
   where
     by_object : (p : ℕ) (q : Option Object) → get m p ≡ q → 0 < reserved_in (get m p) → IsTrue (has_key m p)
     by_object p None is some = absurd (let zero : ◌≡◌ {A = ℕ} (reserved_in (get m p)) 0 = ap reserved_in is in omega (arith, some, zero))

@@ -76,7 +76,9 @@ module _ {waits : List WaitValue} where
   pub roomy_kept : (m n : Map Object) (next room room2 : ℕ) (d d2 : List ℕ) → IsKept None m next d room waits → n ≡ m → d2 ≡ d → room ≤ room2 → IsKept None n next d2 room2 waits
   roomy_kept m n next room room2 d d2 kept is same more = record { whole = roomy_whole m n next room room2 d d2 kept.whole is same more; listed = rw is kept.listed }
 
-  pub inserted_kept : (m n : Map Object) (next room room2 : ℕ) (d d2 : List ℕ) (o : Object) → IsKept None m next d room waits → is_end_body o.body ≡ false → reserved_of o.body ≡ 0 → o.signals.waits ≡ [] → d2 ≡ d → length m + 1 ≤ room2 → n ≡ insert_entry nat_cmp m next o → IsKept None n (next + 1) d2 room2 waits
+  pub inserted_kept : (m n : Map Object) (next room room2 : ℕ) (d d2 : List ℕ) (o : Object) → IsKept None m next d room waits → is_end_body o.body ≡ false
+      → reserved_of o.body ≡ 0 → o.signals.waits ≡ [] → d2 ≡ d → length m + 1 ≤ room2 → n ≡ insert_entry nat_cmp m next o
+      → IsKept None n (next + 1) d2 room2 waits
   inserted_kept m n next room room2 d d2 o kept alone empty fresh same more into = record {
     whole = inserted_whole m n next room room2 d d2 o kept.whole alone empty fresh same more into;
     listed = inserted_listed waits m n next o kept.whole.below fresh kept.listed into;

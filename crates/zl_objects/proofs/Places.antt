@@ -78,16 +78,17 @@ waits_at_port f m p j = sum_same (λ (e : ℕ × Object). waits_for j e.1) m p (
 
 -- its place is no longer reserved
 pub places_used : (f : Port → Port) → ((p : Port) → (f p).reserved ≡ p.reserved - 1) → (x : Watch) (m : Map Object) → HavePlacesWith (Some x) m → HavePlaces (update m x.port (at_port f))
-places_used f less x m have j = elim (cases_Bool (x.port == j)) as (λ _. waits_at (update m x.port (at_port f)) j + 0 ≡ reserved_in (get (update m x.port (at_port f)) j)) [
-  | inl here ↦
-      let one : ◌≡◌ {A = ℕ} (cond (x.port == j) 1 0) 1 = rw here refl in
-      let reserved : reserved_in (get (update m x.port (at_port f)) j) ≡ reserved_in (get m j) - 1 = reserved_at_port f m x.port j ∙ rw here (by_object (get m j)) in
-      omega (arith, have j, waits_at_port f m x.port j, one, reserved)
-  | inr apart ↦
-      let none : ◌≡◌ {A = ℕ} (cond (x.port == j) 1 0) 0 = rw apart refl in
-      let reserved : reserved_in (get (update m x.port (at_port f)) j) ≡ reserved_in (get m j) = reserved_at_port f m x.port j ∙ rw apart refl in
-      omega (arith, have j, waits_at_port f m x.port j, none, reserved)
-]
+places_used f less x m have j =
+    elim (cases_Bool (x.port == j)) as (λ _. waits_at (update m x.port (at_port f)) j + 0 ≡ reserved_in (get (update m x.port (at_port f)) j)) [
+      | inl here ↦
+          let one : ◌≡◌ {A = ℕ} (cond (x.port == j) 1 0) 1 = rw here refl in
+          let reserved : reserved_in (get (update m x.port (at_port f)) j) ≡ reserved_in (get m j) - 1 = reserved_at_port f m x.port j ∙ rw here (by_object (get m j)) in
+          omega (arith, have j, waits_at_port f m x.port j, one, reserved)
+      | inr apart ↦
+          let none : ◌≡◌ {A = ℕ} (cond (x.port == j) 1 0) 0 = rw apart refl in
+          let reserved : reserved_in (get (update m x.port (at_port f)) j) ≡ reserved_in (get m j) = reserved_at_port f m x.port j ∙ rw apart refl in
+          omega (arith, have j, waits_at_port f m x.port j, none, reserved)
+    ]
   where
     by_body : (b : Body) → reserved_of (changed_port f b) ≡ reserved_of b - 1
     by_body (body.Job own) = refl
@@ -102,16 +103,17 @@ places_used f less x m have j = elim (cases_Bool (x.port == j)) as (λ _. waits_
 
 -- a place is reserved for it
 pub places_made : (x : Watch) (m : Map Object) → IsTrue (is_port_at m x.port) → HavePlaces m → HavePlacesWith (Some x) (update m x.port (at_port with_place))
-places_made x m port have j = elim (cases_Bool (x.port == j)) as (λ _. waits_at (update m x.port (at_port with_place)) j + cond (x.port == j) 1 0 ≡ reserved_in (get (update m x.port (at_port with_place)) j)) [
-  | inl here ↦
-      let one : ◌≡◌ {A = ℕ} (cond (x.port == j) 1 0) 1 = rw here refl in
-      let reserved : reserved_in (get (update m x.port (at_port with_place)) j) ≡ reserved_in (get m j) + 1 = reserved_at_port with_place m x.port j ∙ rw here (by_object (get m j) (subst (λ (i : ℕ). IsTrue (is_port_at m i)) (eqb-true x.port j here) port)) in
-      omega (arith, have j, waits_at_port with_place m x.port j, one, reserved)
-  | inr apart ↦
-      let none : ◌≡◌ {A = ℕ} (cond (x.port == j) 1 0) 0 = rw apart refl in
-      let reserved : reserved_in (get (update m x.port (at_port with_place)) j) ≡ reserved_in (get m j) = reserved_at_port with_place m x.port j ∙ rw apart refl in
-      omega (arith, have j, waits_at_port with_place m x.port j, none, reserved)
-]
+places_made x m port have j = elim (cases_Bool (x.port == j))
+    as (λ _. waits_at (update m x.port (at_port with_place)) j + cond (x.port == j) 1 0 ≡ reserved_in (get (update m x.port (at_port with_place)) j)) [
+      | inl here ↦
+          let one : ◌≡◌ {A = ℕ} (cond (x.port == j) 1 0) 1 = rw here refl in
+          let reserved : reserved_in (get (update m x.port (at_port with_place)) j) ≡ reserved_in (get m j) + 1 = reserved_at_port with_place m x.port j ∙ rw here (by_object (get m j) (subst (λ (i : ℕ). IsTrue (is_port_at m i)) (eqb-true x.port j here) port)) in
+          omega (arith, have j, waits_at_port with_place m x.port j, one, reserved)
+      | inr apart ↦
+          let none : ◌≡◌ {A = ℕ} (cond (x.port == j) 1 0) 0 = rw apart refl in
+          let reserved : reserved_in (get (update m x.port (at_port with_place)) j) ≡ reserved_in (get m j) = reserved_at_port with_place m x.port j ∙ rw apart refl in
+          omega (arith, have j, waits_at_port with_place m x.port j, none, reserved)
+    ]
   where
     by_object : (o : Option Object) → IsTrue (is_port_in o) → reserved_in (option_map (at_port with_place) o) ≡ reserved_in o + 1
     by_object None h = absurd (false≢true h)

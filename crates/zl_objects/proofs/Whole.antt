@@ -90,7 +90,8 @@ more_whole = updated_whole held_once_more (same_ends held_once_more more_same) (
 
 -- other signals
 pub changed_whole : (m n : Map Object) (next room k clear set : ℕ) (d : List ℕ) → IsWhole None m next d room → n ≡ update m k (raised_changed clear set) → IsWhole None n next d room
-changed_whole m n next room k clear set d whole is = placed_whole f (λ o. refl) (λ m next o has. has) None None m n next room k d whole is (places_updated f (λ j o. refl) (λ o. refl) None m k whole.places)
+changed_whole m n next room k clear set d whole is =
+    placed_whole f (λ o. refl) (λ m next o has. has) None None m n next room k d whole is (places_updated f (λ j o. refl) (λ o. refl) None m k whole.places)
   where
     f : Object → Object
     f = raised_changed clear set
@@ -114,7 +115,8 @@ at_port_whole g = placed_whole (at_port g) (λ o. same_end g o.body) (λ m next 
 
 -- other packets at a port
 pub port_whole : (g : Port → Port) → ((p : Port) → (g p).reserved ≡ p.reserved) → (m n : Map Object) (next room k : ℕ) (d : List ℕ) → IsWhole None m next d room → n ≡ update m k (at_port g) → IsWhole None n next d room
-port_whole g same m n next room k d whole is = at_port_whole g None None m n next room k d whole is (places_updated (at_port g) (λ j o. refl) (λ o. by_body o.body) None m k whole.places)
+port_whole g same m n next room k d whole is =
+    at_port_whole g None None m n next room k d whole is (places_updated (at_port g) (λ j o. refl) (λ o. by_body o.body) None m k whole.places)
   where
     by_body : (b : Body) → reserved_of (changed_port g b) ≡ reserved_of b
     by_body (body.Job own) = refl
@@ -229,7 +231,8 @@ later_peer m next o (body.ChannelEnd p queue) below has = (omega (arith, has.0),
     apart = grind (arith, nat_tests, has.0)
 
 -- the new object has the next koid, and is no end; no place is reserved at it
-pub inserted_whole : (m n : Map Object) (next room room2 : ℕ) (d d2 : List ℕ) (o : Object) → IsWhole None m next d room → is_end_body o.body ≡ false → reserved_of o.body ≡ 0 → o.signals.waits ≡ [] → d2 ≡ d → length m + 1 ≤ room2 → n ≡ insert_entry nat_cmp m next o → IsWhole None n (next + 1) d2 room2
+pub inserted_whole : (m n : Map Object) (next room room2 : ℕ) (d d2 : List ℕ) (o : Object) → IsWhole None m next d room → is_end_body o.body ≡ false
+    → reserved_of o.body ≡ 0 → o.signals.waits ≡ [] → d2 ≡ d → length m + 1 ≤ room2 → n ≡ insert_entry nat_cmp m next o → IsWhole None n (next + 1) d2 room2
 inserted_whole m n next room room2 d d2 o whole alone empty fresh same more into = rw (into, inserted m next o, same) record {
   below = λ k there. elim (put_key m next o k there) as (λ _. k < next + 1) [
     | inl here ↦ omega (arith, here)
@@ -400,11 +403,14 @@ no_entries [] some = refl
 no_entries (e ∷ es) some = absurd (false≢true (some (omega arith)))
 
 -- the object with the greatest koid is gone; it was no end, so it was no peer
-pub popped_whole : (m n : BTreeMap ℕ Object) (next koid room : ℕ) (d : List ℕ) (r : Option (ℕ × Object)) → IsWhole None m.entries next d room → next ≡ koid + 1 → is_end_at m.entries koid ≡ false → reserved_in (get m.entries koid) ≡ 0 → waits_in (get m.entries koid) ≡ [] → IsTrue (has_key m.entries koid) → length n.entries ≤ length m.entries
+pub popped_whole : (m n : BTreeMap ℕ Object) (next koid room : ℕ) (d : List ℕ) (r : Option (ℕ × Object)) → IsWhole None m.entries next d room
+    → next ≡ koid + 1 → is_end_at m.entries koid ≡ false → reserved_in (get m.entries koid) ≡ 0 → waits_in (get m.entries koid) ≡ []
+    → IsTrue (has_key m.entries koid) → length n.entries ≤ length m.entries
     → IsSome r ↔ (0 < length m.entries) → IfNone r (IsUnchanged m n) → IfSome r (λ p. lookup (is_at (nat_cmp p.0)) m.entries ≡ Some p.1) → IfSome r (λ p. IsUpperBound nat_cmp m p.0) → IfSome r (λ p. Updates nat_cmp m n p.0 None) → IfSome r (λ p. m.entries ≡ n.entries ++ p ∷ [])
     → IsWhole None n.entries koid d room
 unfolding get
-popped_whole m n next koid room d None whole newest alone unreserved unwatched there fewer some unchanged value greatest updates removal = rw unchanged (none_whole m.entries koid room d (no_entries m.entries some.1) whole.none)
+popped_whole m n next koid room d None whole newest alone unreserved unwatched there fewer some unchanged value greatest updates removal =
+    rw unchanged (none_whole m.entries koid room d (no_entries m.entries some.1) whole.none)
 popped_whole m n next koid room d (Some p) whole newest alone unreserved unwatched there fewer some unchanged value greatest updates removal = record {
   below = λ j at. lower j (rw (read j) at at);
   peers = λ j o at. peers j o at;

@@ -1,4 +1,5 @@
--- A checked program that goes through each of the 23 calls: its process starts properly, each call but its exit is answered OK, it waits for a checked child that it starts, and wakes. So the headline speaks of something.
+-- A checked program that goes through each of the 23 calls: its process starts properly, each call but its exit is answered OK, it waits
+-- for a checked child that it starts, and wakes. So the headline speaks of something.
 use Rattle.std.proofs.lemmas.Option.{none-some, same_Some}
 use Rattle.zl_code.proofs.Common.{◌≡◌, ℕ, zero, suc, subst, slice_get, arith, true, false, List, [], ◌∷◌, ◌++◌, refl, map, replicate, pos, Some, None, World, Process, Library, Choice, Values, IsBoot, IsLegalHistory, boot_fault, boot_effect, origin, settled_in, Settles-by, started_process, creates, rights_of}
 use Rattle.zl_rights.specs.declared.kind.Kind.{Kind}
@@ -94,7 +95,16 @@ image = record {
 
 -- the child gets an event that it may signal, and exits with its word
 abbrev child_image : Image
-child_image = record { raw = false; memory = 0; budget = 1; needs = []; starts = start kind.Event 4096 ∷ []; slots = []; code = instr.Call (call.ProcessExit 1) ∷ [] }
+child_image = record {
+  raw = false;
+  memory = 0;
+  budget = 1;
+  needs = [];
+  starts = start kind.Event 4096 ∷ [];
+  slots = [];
+  code = instr.Call
+      (call.ProcessExit 1) ∷ [];
+}
 
 -- program 0 is the first, program 1 that of the child, both checked
 abbrev library : Library
@@ -108,7 +118,11 @@ accepted = record { typing = IsTyping-by image (found image) refl; bound = IsSte
 -- So has that of the child.
 accepted_child : IsAccepted child_image (found child_image) (numbers child_image)
 unfolding typing
-accepted_child = record { typing = IsTyping-by child_image (found child_image) refl; bound = IsStepBound-by child_image (found child_image) (numbers child_image) refl }
+accepted_child = record {
+  typing = IsTyping-by child_image (found child_image) refl;
+  bound = IsStepBound-by child_image (found child_image)
+      (numbers child_image) refl;
+}
 
 -- ---- the boot
 
@@ -278,6 +292,8 @@ all_go_well = covered_go_well library statements boot verified sized items
     }
       where
         bound : (n : ℕ) (i : Image) → slice_get library n ≡ Some (record { checked = true; image = i }) → HasStepBound i
-        bound zero i at = subst (λ (g : Program). HasStepBound g.image) (same_Some _ _ at) (record { states = _; typing = accepted.typing; steps = _; bound = accepted.bound })
-        bound (suc zero) i at = subst (λ (g : Program). HasStepBound g.image) (same_Some _ _ at) (record { states = _; typing = accepted_child.typing; steps = _; bound = accepted_child.bound })
+        bound zero i at = subst (λ (g : Program). HasStepBound g.image) (same_Some _ _ at)
+            (record { states = _; typing = accepted.typing; steps = _; bound = accepted.bound })
+        bound (suc zero) i at = subst (λ (g : Program). HasStepBound g.image) (same_Some _ _ at)
+            (record { states = _; typing = accepted_child.typing; steps = _; bound = accepted_child.bound })
         bound (suc (suc n)) i at = absurd (none-some _ at)

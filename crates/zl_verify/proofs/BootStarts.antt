@@ -165,7 +165,8 @@ module _ (lib : Library) (statements : List Statement) (boot : World) (b : IsSiz
   is_booted q there = (boot_starts lib statements boot b p q there).booted
 
   -- where its handles are as its image declares, and its job allows what the image needs, it started properly
-  pub proper : (q : Process) (s : IsBooted lib q) → (i : Image) (checked : Bool) → slice_get lib s.program ≡ Some (record { checked = checked; image = i }) → are_declared i.starts s.handles ≡ true → ((c : Condition) → IsTrue (is_among i.needs c) → creates boot p c ≡ None)
+  pub proper : (q : Process) (s : IsBooted lib q) → (i : Image) (checked : Bool) → slice_get lib s.program ≡ Some (record { checked = checked; image = i })
+      → are_declared i.starts s.handles ≡ true → ((c : Condition) → IsTrue (is_among i.needs c) → creates boot p c ≡ None)
       → IsProperStart lib i boot p q
   proper q s i checked running declared allowed = record {
     checked = checked;

@@ -92,13 +92,15 @@ module _ (lib : Library) (i : Image) (t : ℕ → Option State) (range : is_in_r
     run_fine : (more items : List TraceItem) (w after : World) → Runs lib boot items w → StandsIn w p → Runs lib w more after → AllByRecursion (IsFineItem p) more
     run_fine [] items w after run s e = tt
     run_fine (x ∷ more) items w after run s (mid, step, rest) =
-        let (fine, later) = stands_still w x mid (fit_of lib w (pid_of x) x mid (record { statements = statements; boot = boot; items = items; begins = begins; run = run; step = step })) p s in
+        let (fine, later) = stands_still w x mid (fit_of lib w (pid_of x) x mid
+        (record { statements = statements; boot = boot; items = items; begins = begins; run = run; step = step })) p s in
         (fine, run_fine more (items ++ (x ∷ [])) mid after (one_more lib boot items w x mid run step) later rest)
 
     run_stands : (more items : List TraceItem) (w after : World) → Runs lib boot items w → StandsIn w p → Runs lib w more after → StandsIn after p
     run_stands [] items w after run s e = rw e s
     run_stands (x ∷ more) items w after run s (mid, step, rest) =
-        let (fine, later) = stands_still w x mid (fit_of lib w (pid_of x) x mid (record { statements = statements; boot = boot; items = items; begins = begins; run = run; step = step })) p s in
+        let (fine, later) = stands_still w x mid (fit_of lib w (pid_of x) x mid
+        (record { statements = statements; boot = boot; items = items; begins = begins; run = run; step = step })) p s in
         run_stands more (items ++ (x ∷ [])) mid after (one_more lib boot items w x mid run step) later rest
 
     pub stays_so : (items more : List TraceItem) (w after : World) → Runs lib boot items w → IsUnderWay lib i t w p → Runs lib w more after → StandsIn after p

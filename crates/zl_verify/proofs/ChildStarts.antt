@@ -248,10 +248,12 @@ module _ (lib : Library) (statements : List Statement) (boot : World) (begins : 
   run_unstarted : (more items : List TraceItem) (w after : World) → Runs lib boot items w → AreUnstarted lib w → Runs lib w more after → AreUnstarted lib after
   run_unstarted [] items w after run all e = rw e all
   run_unstarted (x ∷ more) items w after run all (mid, step, rest) =
-      let b : IsFitStep lib w (pid_of x) x mid = fit_of lib w (pid_of x) x mid (record { statements = statements; boot = boot; items = items; begins = begins; run = run; step = step }) in
+      let b : IsFitStep lib w (pid_of x) x mid =
+      fit_of lib w (pid_of x) x mid (record { statements = statements; boot = boot; items = items; begins = begins; run = run; step = step }) in
       run_unstarted more (items ++ (x ∷ [])) mid after (one_more lib boot items w x mid run step) (step_unstarted lib w (pid_of x) x mid b (sound_before lib w (pid_of x) x mid b) all) rest
 
-module _ (lib : Library) (w : World) (p : ℕ) (x : TraceItem) (w2 : World) (b : IsFitStep lib w p x w2) (unstarted : AreUnstarted lib w) (i : Image) (k : ℕ) (told : x ≡ item.Call p name.ProcessStart (outcome.Answered status.Ok)) (c : StartsChild lib w p b.step.process k)
+module _ (lib : Library) (w : World) (p : ℕ) (x : TraceItem) (w2 : World) (b : IsFitStep lib w p x w2) (unstarted : AreUnstarted lib w) (i : Image) (k : ℕ)
+    (told : x ≡ item.Call p name.ProcessStart (outcome.Answered status.Ok)) (c : StartsChild lib w p b.step.process k)
     (program : program_of lib w k ≡ Some (record { checked = true; image = i })) where
   abbrev own : Process
   own = b.step.process
@@ -311,7 +313,9 @@ module _ (lib : Library) (w : World) (p : ℕ) (x : TraceItem) (w2 : World) (b :
           }
 
 -- so it is in a run
-pub child_starts_in_run : (lib : Library) (w : World) (p : ℕ) (x : TraceItem) (w2 : World) → (b : IsRunStep lib w p x w2) → (i : Image) (k : ℕ) → x ≡ item.Call p name.ProcessStart (outcome.Answered status.Ok) → StartsChild lib w p b.step.process k
+pub child_starts_in_run : (lib : Library) (w : World) (p : ℕ) (x : TraceItem) (w2 : World) → (b : IsRunStep lib w p x w2) → (i : Image) (k : ℕ)
+    → x ≡ item.Call p name.ProcessStart (outcome.Answered status.Ok) → StartsChild lib w p b.step.process k
     → program_of lib w k ≡ Some (record { checked = true; image = i }) → IsStarted lib i w2 k
 child_starts_in_run lib w p x w2 b i k told c program =
-    child_starts lib w p x w2 (fit_of lib w p x w2 b) (run_unstarted lib b.statements b.boot b.begins b.items [] b.boot w refl (boot_unstarted lib b.statements b.boot b.begins) b.run) i k told c program
+    child_starts lib w p x w2 (fit_of lib w p x w2 b) (run_unstarted lib b.statements b.boot b.begins b.items [] b.boot w refl
+    (boot_unstarted lib b.statements b.boot b.begins) b.run) i k told c program

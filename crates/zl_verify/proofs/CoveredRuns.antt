@@ -34,10 +34,19 @@ module _ (lib : Library) (statements : List Statement) (boot : World) (verified 
     was_started : (items : List TraceItem) (w : World) → WasStarted lib boot items i w p → IsStarted lib i w p
     was_started items w (by_boot none is program) = subst (λ v. IsStarted lib i v p) (sym is) (boot_is_proper lib statements boot begins p i program)
     was_started items w (by_call before v caller is run step child program) =
-        child_starts_in_run lib v caller _ w (record { statements = statements; boot = boot; items = flat_map single before; begins = begins; run = run; step = step }) i p refl child program
+        child_starts_in_run lib v caller _ w (record {
+          statements = statements;
+          boot = boot;
+          items = flat_map single before;
+          begins = begins;
+          run = run;
+          step
+              = step;
+        }) i p refl child program
 
   pub covered_go_well : (history : List TraceItem) → CoveredGoWell lib boot history
   covered_go_well history i p n more c =
       let b = has_bound i p c.items c.world c.started in
       (joined_go_well i p more).1
-      (headline i b.states b.steps b.typing b.bound lib statements boot c.world c.after (flat_map single c.items) (flat_map single more) p begins c.comes (was_started i p c.items c.world c.started) c.goes)
+      (headline i b.states b.steps b.typing b.bound lib statements boot c.world c.after (flat_map single c.items) (flat_map single more) p begins c.comes
+      (was_started i p c.items c.world c.started) c.goes)

@@ -42,13 +42,15 @@ module _ (lib : Library) (v : IsVerified lib) where
   in_range n i at = image_in lib n (record { checked = true; image = i }) v.images at
 
   -- who has just started properly
-  as_started : (i : Image) (n : ℕ) → Checks (slice_get lib n) i → (w : World) (q : ℕ) (y : Process) → get w.processes q ≡ Some y → IsStarted lib i w q → IsAsTyped i w q y
+  as_started : (i : Image) (n : ℕ) → Checks (slice_get lib n) i → (w : World) (q : ℕ) (y : Process) → get w.processes q ≡ Some y → IsStarted lib i w q
+      → IsAsTyped i w q y
   as_started i n at w q y there s =
       let b = v.bounds n i at in
       record {
         typing = b.states;
         types = b.typing;
-        conforms = subst (Conforms i b.states w q) (same_Some s.process y (sym s.there ∙ there)) (starts_conforming i b.states (in_range n i at) b.typing lib w q s.process s.proper);
+        conforms = subst (Conforms i b.states w q) (same_Some s.process y (sym s.there ∙ there))
+            (starts_conforming i b.states (in_range n i at) b.typing lib w q s.process s.proper);
       }
 
   pub boot_covered : (statements : List Statement) (boot : World) → IsSizedBoot lib statements boot → IsCovered lib boot
@@ -62,7 +64,8 @@ module _ (lib : Library) (v : IsVerified lib) where
     abbrev fit : IsFitStep lib w (pid_of x) x w2
     fit = record { images = v.images; sound = sound; sized = c.sized; step = step }
 
-    module _ (q : ℕ) (y : Process) (i : Image) (there : get w2.processes q ≡ Some y) (running : runs y.state ≡ true) (at : Checks (slice_get lib y.program) i) where
+    module _ (q : ℕ) (y : Process) (i : Image) (there : get w2.processes q ≡ Some y) (running : runs y.state ≡ true)
+        (at : Checks (slice_get lib y.program) i) where
       -- the program that it had
       listed : (z : Process) → get w.processes q ≡ Some z → Checks (slice_get lib z.program) i
       listed z was =
@@ -80,8 +83,14 @@ module _ (lib : Library) (v : IsVerified lib) where
           under = record { process = z; there = was; running = ran; checked = true; program = listed z was; conforms = k.conforms }
 
           by : StandsIn lib i k.typing (in_range z.program i (listed z was)) k.types w2 q → IsAsTyped i w2 q y
-          by (inl u) = record { typing = k.typing; types = k.types; conforms = subst (Conforms i k.typing w2 q) (same_Some u.process y (sym u.there ∙ there)) u.conforms }
-          by (inr o) = absurd (not_over y.state running (subst (λ (u : Process). has_ended u.state ≡ true) (same_Some o.process y (sym o.there ∙ there)) o.over))
+          by (inl u) = record {
+            typing = k.typing;
+            types = k.types;
+            conforms = subst (Conforms i k.typing w2 q) (same_Some u.process y (sym u.there ∙ there))
+                u.conforms;
+          }
+          by (inr o) = absurd (not_over y.state running (subst (λ (u : Process). has_ended u.state ≡ true) (same_Some o.process y (sym o.there ∙ there))
+              o.over))
 
       still_idle : IsIdle w2 q → ⊥
       still_idle idle = let bad : true ≡ false = sym running ∙ (sym (ap (state_passes runs) there) ∙ idle) in cc
@@ -94,12 +103,14 @@ module _ (lib : Library) (v : IsVerified lib) where
           by (inl i2) = absurd (still_idle i2)
           by (inr s) =
               let (z, was, new) = found_created w q s.created in
-              as_started i z.program (listed z was) w2 q y there (child_starts lib w (pid_of x) x w2 fit c.unstarted i q s.told s.child (ap (program_in lib) was ∙ listed z was))
+              as_started i z.program (listed z was) w2 q y there (child_starts lib w (pid_of x) x w2 fit c.unstarted i q s.told s.child
+              (ap (program_in lib) was ∙ listed z was))
 
       -- who steps runs
       not_idle : (pid_of x == q) ≡ true → IsIdle w q → ⊥
       not_idle same idle =
-          let bad : true ≡ false = sym (ap runs step.is_ready) ∙ (sym (ap (state_passes runs) (subst (λ j. get w.processes j ≡ Some step.process) (eqb-true (pid_of x) q same) step.is_there)) ∙ idle) in
+          let bad : true ≡ false = sym (ap runs step.is_ready) ∙ (sym (ap (state_passes runs)
+          (subst (λ j. get w.processes j ≡ Some step.process) (eqb-true (pid_of x) q same) step.is_there)) ∙ idle) in
           cc
 
       typed_still : IsAsTyped i w2 q y

@@ -18,7 +18,8 @@ use Rattle.zl_verify.proofs.CheckedRuns.{budget_kept, never_refused}
 use Rattle.zl_verify.proofs.Starting.{starts_conforming}
 
 -- what is true of each is true of the one that was looked up
-pub program_in : (lib : Library) (n : ℕ) (g : Program) → AllByRecursion (λ x. IsTrue (is_in_range x.image)) lib → slice_get lib n ≡ Some g → IsTrue (is_in_range g.image)
+pub program_in : (lib : Library) (n : ℕ) (g : Program) → AllByRecursion (λ x. IsTrue (is_in_range x.image)) lib → slice_get lib n ≡ Some g
+    → IsTrue (is_in_range g.image)
 program_in [] n g all at = absurd (none-some g at)
 program_in (x ∷ lib) zero g all at = subst (λ (y : Program). IsTrue (is_in_range y.image)) (same_Some x g at) all.0
 program_in (x ∷ lib) (suc n) g all at = program_in lib n g all.1 at

@@ -63,30 +63,37 @@ settled_idle q u v (K, largest, is) idle = rw is (ap (state_passes runs) (get-ea
 module _ (q : ℕ) where
   module _ (u : World) (idle : IsIdle u q) (m : ℕ) where
     -- another gets its answer
-    readied : (v : World) → v.processes ≡ u.processes → (y : Process) → get u.processes m ≡ Some y → (awaited : Awaited) (ds vs : List ℕ) → y.state ≡ Blocked awaited ds → IsIdle (made_ready v m y ds vs) q
+    readied : (v : World) → v.processes ≡ u.processes → (y : Process) → get u.processes m ≡ Some y → (awaited : Awaited) (ds vs : List ℕ)
+        → y.state ≡ Blocked awaited ds → IsIdle (made_ready v m y ds vs) q
     unfolding made_ready
     readied v same y at awaited ds vs blocked = by (cases_Bool (m == q))
       where
-        by : ((m == q) ≡ true) ⊎ ((m == q) ≡ false) → state_passes runs (get (put v.processes m (record y { state = Ready; cpu = answered y.cpu ds vs })) q) ≡ false
+        by : ((m == q) ≡ true) ⊎ ((m == q) ≡ false) → state_passes runs (get (put v.processes m (record y { state = Ready; cpu = answered y.cpu ds vs })) q)
+            ≡ false
         by (inl e) =
             let here : get u.processes q ≡ Some y = subst (λ j. get u.processes j ≡ Some y) (eqb-true m q e) at in
             let bad : true ≡ false = sym (ap runs blocked) ∙ (sym (ap (state_passes runs) here) ∙ idle) in
             cc
-        by (inr e) = ap (state_passes runs) (get-put v.processes m (record y { state = Ready; cpu = answered y.cpu ds vs }) q ∙ rw e (ap (λ ps. get ps q) same)) ∙ idle
+        by (inr e) = ap (state_passes runs) (get-put v.processes m (record y { state = Ready; cpu = answered y.cpu ds vs }) q
+            ∙ rw e (ap (λ ps. get ps q) same)) ∙ idle
 
-    by_packets : (y : Process) → get u.processes m ≡ Some y → (koid : ℕ) (ds : List ℕ) → y.state ≡ Blocked (PacketAt koid) ds → (o : Object) (packets : List Packet) → IsIdle (woken_by_first u m y koid ds o packets) q
+    by_packets : (y : Process) → get u.processes m ≡ Some y → (koid : ℕ) (ds : List ℕ) → y.state ≡ Blocked (PacketAt koid) ds
+        → (o : Object) (packets : List Packet) → IsIdle (woken_by_first u m y koid ds o packets) q
     by_packets y at koid ds blocked o [] = idle
     by_packets y at koid ds blocked o (x ∷ rest) = readied (with_body u koid o (PortBody rest)) refl y at (PacketAt koid) ds (0 ∷ packet_values x) blocked
 
-    by_body : (y : Process) → get u.processes m ≡ Some y → (koid : ℕ) (ds : List ℕ) → y.state ≡ Blocked (PacketAt koid) ds → (o : Object) (b : Body) → IsIdle (woken_by u m y koid ds o b) q
+    by_body : (y : Process) → get u.processes m ≡ Some y → (koid : ℕ) (ds : List ℕ) → y.state ≡ Blocked (PacketAt koid) ds → (o : Object) (b : Body)
+        → IsIdle (woken_by u m y koid ds o b) q
     by_body y at koid ds blocked o (PortBody packets) = by_packets y at koid ds blocked o packets
     by_body y at koid ds blocked o _ = idle
 
-    by_object : (y : Process) → get u.processes m ≡ Some y → (koid : ℕ) (ds : List ℕ) → y.state ≡ Blocked (PacketAt koid) ds → (o : Option Object) → IsIdle (woken_at_port u m y koid ds o) q
+    by_object : (y : Process) → get u.processes m ≡ Some y → (koid : ℕ) (ds : List ℕ) → y.state ≡ Blocked (PacketAt koid) ds → (o : Option Object)
+        → IsIdle (woken_at_port u m y koid ds o) q
     by_object y at koid ds blocked None = idle
     by_object y at koid ds blocked (Some o) = by_body y at koid ds blocked o o.body
 
-    by_signal : (y : Process) → get u.processes m ≡ Some y → (koid mask : ℕ) (ds : List ℕ) → y.state ≡ Blocked (SignalOf koid mask) ds → (b : Bool) → IsIdle (if b then made_ready u m y ds (0 ∷ active u koid ∷ []) else u) q
+    by_signal : (y : Process) → get u.processes m ≡ Some y → (koid mask : ℕ) (ds : List ℕ) → y.state ≡ Blocked (SignalOf koid mask) ds → (b : Bool)
+        → IsIdle (if b then made_ready u m y ds (0 ∷ active u koid ∷ []) else u) q
     by_signal y at koid mask ds blocked true = readied u refl y at (SignalOf koid mask) ds (0 ∷ active u koid ∷ []) blocked
     by_signal y at koid mask ds blocked false = idle
 
@@ -113,7 +120,8 @@ module _ (q : ℕ) where
 
   -- who doesn't run right after the act of a step doesn't at its end
   pub idle_still : (lib : Library) (w : World) (m : ℕ) (x : TraceItem) (w2 : World) → (step : Step lib w m x w2) → IsIdle step.acted q → IsIdle w2 q
-  idle_still lib w m x w2 step idle = subst (λ v. IsIdle v q) (sym step.ends_awake) (idle_awake step.settled (settled_idle q step.acted step.settled step.settles idle))
+  idle_still lib w m x w2 step idle =
+      subst (λ v. IsIdle v q) (sym step.ends_awake) (idle_awake step.settled (settled_idle q step.acted step.settled step.settles idle))
 
 -- ---- the act
 
@@ -127,10 +135,12 @@ module _ (p q : ℕ) (apart : (p == q) ≡ false) (lib : Library) (w : World) wh
   carried t u v same (idles i) = idles (same_idle q u v same i)
   carried t u v same (starts process h word asked child) = starts process h word asked child
 
-  done : (c : Cpu) (x : CallInstr) (t : Site) → SiteAt c x t → (u : World) → IsIdle u q → (vs ws : List ℕ) (es : List Entry) → Idles t (insert_all (effect lib w u p t.request vs) (receiver_of w p t.request) es ws)
+  done : (c : Cpu) (x : CallInstr) (t : Site) → SiteAt c x t → (u : World) → IsIdle u q → (vs ws : List ℕ) (es : List Entry)
+      → Idles t (insert_all (effect lib w u p t.request vs) (receiver_of w p t.request) es ws)
   unfolding effect with_object on_object with_killed
   done c _ _ (process_create_at a b d e) u idle vs ws es =
-      idles (ap (state_passes runs) (inserted_elsewhere es ws (effect lib w u p (process_create (reg c b) (reg c d)) vs) p q apart ∙ get-put u.processes w.next_koid (created_process lib (reg c d)) q) ∙ by (w.next_koid == q))
+      idles (ap (state_passes runs) (inserted_elsewhere es ws (effect lib w u p (process_create (reg c b) (reg c d)) vs) p q apart
+      ∙ get-put u.processes w.next_koid (created_process lib (reg c d)) q) ∙ by (w.next_koid == q))
     where
       by : (b : Bool) → state_passes runs (if b then Some (created_process lib (reg c d)) else get u.processes q) ≡ false
       by true = refl
@@ -143,11 +153,14 @@ module _ (p q : ℕ) (apart : (p == q) ≡ false) (lib : Library) (w : World) wh
       start : Process → Process
       start = started_with vs (reg c d)
 
-      by : ((child == q) ≡ true) ⊎ ((child == q) ≡ false) → Idles (site (process_start (reg c b) (reg c o) (reg c d)) (o ∷ []) (a ∷ [])) (insert_all (on_process u child start) child es ws)
+      by : ((child == q) ≡ true) ⊎ ((child == q) ≡ false) → Idles (site (process_start (reg c b) (reg c o) (reg c d)) (o ∷ []) (a ∷ []))
+          (insert_all (on_process u child start) child es ws)
       by (inl same) = starts (reg c b) (reg c o) (reg c d) refl (eqb-true child q same)
-      by (inr other) = idles (same_idle q u (insert_all (on_process u child start) child es ws) (inserted_elsewhere es ws (on_process u child start) child q other ∙ changed_elsewhere u child start q other) idle)
+      by (inr other) = idles (same_idle q u (insert_all (on_process u child start) child es ws)
+          (inserted_elsewhere es ws (on_process u child start) child q other ∙ changed_elsewhere u child start q other) idle)
   done c _ _ (task_kill_at a b) u idle vs ws es =
-      idles (ap (state_passes runs) (inserted_elsewhere es ws (with_killed u task) p q apart ∙ get-each u.processes (λ k x. process_killed (is_within u.objects task k) x) q) ∙ by (is_within u.objects task q) (get u.processes q) idle)
+      idles (ap (state_passes runs) (inserted_elsewhere es ws (with_killed u task) p q apart
+      ∙ get-each u.processes (λ k x. process_killed (is_within u.objects task k) x) q) ∙ by (is_within u.objects task q) (get u.processes q) idle)
     where
       task : ℕ
       task = object_at w p (reg c b)
@@ -160,31 +173,39 @@ module _ (p q : ℕ) (apart : (p == q) ≡ false) (lib : Library) (w : World) wh
       by b None e = refl
       by false (Some y) e = e
       by true (Some y) e = over y (lives y.state) refl e
-  done c x t here u idle vs ws es = idles (same_idle q u (insert_all (effect lib w u p t.request vs) p es ws) (inserted_elsewhere es ws (effect lib w u p t.request vs) p q apart) idle)
+  done c x t here u idle vs ws es =
+      idles (same_idle q u (insert_all (effect lib w u p t.request vs) p es ws) (inserted_elsewhere es ws (effect lib w u p t.request vs) p q apart) idle)
 
   module _ (idle : IsIdle w q) where
     when_refused : (t : Site) (o : Outcome) → IsIdle (after_refusal w p t o) q
     when_refused t (outcome.Answered answer) =
-        same_idle q w (replied (taken w p t) p t answer (gives_refused w p t.request answer)) (replied_other p q apart (taken w p t) t answer (gives_refused w p t.request answer) ∙ left_other p q apart (taken_handles t.request) w) idle
+        same_idle q w (replied (taken w p t) p t answer (gives_refused w p t.request answer))
+        (replied_other p q apart (taken w p t) t answer (gives_refused w p t.request answer) ∙ left_other p q apart (taken_handles t.request) w) idle
     when_refused t (outcome.Ended code) = same_idle q w (ended w p code) (ended_other p q apart w code) idle
     when_refused t outcome.Blocked = idle
 
     module _ (c : Cpu) (x : CallInstr) (t : Site) (here : SiteAt c x t) where
       when_done : (vs : List ℕ) → Idles t (with_effect lib w (taken w p t) p t.request vs)
       when_done vs =
-          carried t _ _ (stored_other p q apart (stored_by w p t.request) (insert_all (effect lib w (taken w p t) p t.request vs) (receiver_of w p t.request) (new_handles w p t.request) (entering_at t.request vs)))
-          (done c x t here (taken w p t) (same_idle q w (taken w p t) (left_other p q apart (taken_handles t.request) w) idle) vs (entering_at t.request vs) (new_handles w p t.request))
+          carried t _ _ (stored_other p q apart (stored_by w p t.request)
+          (insert_all (effect lib w (taken w p t) p t.request vs) (receiver_of w p t.request) (new_handles w p t.request) (entering_at t.request vs)))
+          (done c x t here (taken w p t) (same_idle q w (taken w p t) (left_other p q apart (taken_handles t.request) w) idle) vs (entering_at t.request vs)
+          (new_handles w p t.request))
 
       when_ok : (vs : List ℕ) (o : Outcome) → Idles t (after_ok lib w p t vs o)
-      when_ok vs (outcome.Answered answer) = carried t _ _ (replied_other p q apart (with_effect lib w (taken w p t) p t.request vs) t status.Ok (gives_ok w p t.request vs)) (when_done vs)
+      when_ok vs (outcome.Answered answer) =
+          carried t _ _ (replied_other p q apart (with_effect lib w (taken w p t) p t.request vs) t status.Ok (gives_ok w p t.request vs)) (when_done vs)
       when_ok vs (outcome.Ended code) = carried t _ _ (ended_other p q apart (with_effect lib w (taken w p t) p t.request vs) code) (when_done vs)
-      when_ok vs outcome.Blocked = idles (same_idle q w (waiting w p t.destinations (awaited_by w p t.request)) (waiting_other p q apart w t.destinations (awaited_by w p t.request)) idle)
+      when_ok vs outcome.Blocked = idles (same_idle q w (waiting w p t.destinations (awaited_by w p t.request))
+          (waiting_other p q apart w t.destinations (awaited_by w p t.request)) idle)
 
       -- it doesn't run, or the call starts it and is answered OK
       abbrev IsStart : Outcome → Type 0
-      IsStart o = (process : ℕ) × (h : ℕ) × (word : ℕ) × (t.request ≡ process_start process h word) × (object_at w p process ≡ q) × (is_process w is_created q ≡ true) × (o ≡ outcome.Answered status.Ok)
+      IsStart o = (process : ℕ) × (h : ℕ) × (word : ℕ) × (t.request ≡ process_start process h word) × (object_at w p process ≡ q)
+          × (is_process w is_created q ≡ true) × (o ≡ outcome.Answered status.Ok)
 
-      when_called : (choice : Choice) (r : Option Outcome) → refusal lib w p t.request ≡ r → (answer : Outcome) (w2 : World) → CallBy lib w p t choice r answer w2 → IsIdle w2 q ⊎ IsStart answer
+      when_called : (choice : Choice) (r : Option Outcome) → refusal lib w p t.request ≡ r → (answer : Outcome) (w2 : World)
+          → CallBy lib w p t choice r answer w2 → IsIdle w2 q ⊎ IsStart answer
       when_called Refused None is answer w2 h = absurd h
       when_called Refused (Some o) is answer w2 h = rw h.1 (inl (when_refused t o))
       when_called WantsMemory None is answer w2 h = rw h.2 (inl (when_refused t (outcome.Answered status.NoMemory)))
@@ -193,53 +214,71 @@ module _ (p q : ℕ) (apart : (p == q) ≡ false) (lib : Library) (w : World) wh
         where
           by : Idles t (after_ok lib w p t vs (ok_outcome w p t.request)) → IsIdle w2 q ⊎ IsStart answer
           by (idles i) = inl (subst (λ v. IsIdle v q) (sym h.2) i)
-          by (starts process k word asked child) = inr (process, k, word, asked, child, subst (λ j. is_process w is_created j ≡ true) child (starts_created lib w p process k word (subst (λ r. refusal lib w p r ≡ None) asked is)), h.1 ∙ ap (ok_outcome w p) asked)
+          by (starts process k word asked child) = inr (
+            process,
+            k,
+            word,
+            asked,
+            child,
+            subst (λ j. is_process w is_created j ≡ true) child
+                (starts_created lib w p process k word (subst (λ r. refusal lib w p r ≡ None) asked is)),
+            h.1 ∙ ap (ok_outcome w p) asked,
+          )
       when_called (Values vs) (Some o) is answer w2 h = absurd h
 
 -- the call that asks for it is process_start
-start_named : (c : Cpu) (x : CallInstr) (t : Site) → SiteAt c x t → (process h word : ℕ) → t.request ≡ process_start process h word → name_of x ≡ name.ProcessStart
+start_named : (c : Cpu) (x : CallInstr) (t : Site) → SiteAt c x t → (process h word : ℕ) → t.request ≡ process_start process h word
+    → name_of x ≡ name.ProcessStart
 start_named c _ _ (process_start_at a b o d) process h word e = refl
 start_named c _ _ _ process h word e = cc
 
-module _ (lib : Library) (w : World) (p : ℕ) (x : TraceItem) (w2 : World) (step : Step lib w p x w2) (q : ℕ) (apart : (p == q) ≡ false) (idle : IsIdle w q) where
-  -- x tells of a process_start of q that is answered OK
-  pub record IsStarting : Type 0 where
-    pub told : x ≡ item.Call p name.ProcessStart (outcome.Answered status.Ok)
-    pub child : StartsChild lib w p step.process q
-    pub created : is_process w is_created q ≡ true
+module _ (lib : Library) (w : World) (p : ℕ) (x : TraceItem) (w2 : World) (step : Step lib w p x w2) (q : ℕ) (apart : (p == q) ≡ false) (idle : IsIdle w q)
+  where
+    -- x tells of a process_start of q that is answered OK
+    pub record IsStarting : Type 0 where
+      pub told : x ≡ item.Call p name.ProcessStart (outcome.Answered status.Ok)
+      pub child : StartsChild lib w p step.process q
+      pub created : is_process w is_created q ≡ true
 
-  -- right after the act it doesn't run, or was started
-  abbrev IsKept : Type 0
-  IsKept = IsIdle step.acted q ⊎ IsStarting
+    -- right after the act it doesn't run, or was started
+    abbrev IsKept : Type 0
+    IsKept = IsIdle step.acted q ⊎ IsStarting
 
-  starting : (called : CallName) (t : Site) → next_for lib step.process ≡ AtCall called t → called ≡ name.ProcessStart → (process h word : ℕ) → t.request ≡ process_start process h word → object_at w p process ≡ q → is_process w is_created q ≡ true → (o : Outcome) → x ≡ item.Call p called o → o ≡ outcome.Answered status.Ok → IsStarting
-  starting called t next named process h word asked is_child created o told is = record {
-    told = told ∙ (λ i. item.Call p (named i) (is i));
-    child = record { site = t; next = next ∙ ap (λ n. AtCall n t) named; process = process; handle = h; word = word; asks = asked; child = is_child };
-    created = created;
-  }
+    starting : (called : CallName) (t : Site) → next_for lib step.process ≡ AtCall called t → called ≡ name.ProcessStart → (process h word : ℕ)
+        → t.request ≡ process_start process h word → object_at w p process ≡ q → is_process w is_created q ≡ true → (o : Outcome) → x ≡ item.Call p called o
+        → o ≡ outcome.Answered status.Ok → IsStarting
+    starting called t next named process h word asked is_child created o told is = record {
+      told = told ∙ (λ i. item.Call p (named i) (is i));
+      child = record { site = t; next = next ∙ ap (λ n. AtCall n t) named; process = process; handle = h; word = word; asks = asked; child = is_child };
+      created = created;
+    }
 
-  by_program : (o : Option Program) → slice_get lib step.process.program ≡ o → (n : Next) → next_in o step.process.cpu ≡ n → Acts lib w p n x step.acted → IsKept
-  by_program o at (Moves c) next a = inl (same_idle q w step.acted (ap (λ v. get v.processes q) a.1 ∙ changed_elsewhere w p _ q apart) idle)
-  by_program o at IsStuck next a = inl (same_idle q w step.acted (ap (λ v. get v.processes q) a.1 ∙ ended_other p q apart w _) idle)
-  by_program None at (AtCall called t) next a = cc
-  by_program (Some g) at (AtCall called t) next (o, told, h) = by (when_called p q apart lib w idle step.process.cpu there.call t (site_at step.process.cpu t there.call there.site) h.0 (refusal lib w p t.request) refl o step.acted h.1)
-    where
-      there : IsAtCall g.image step.process.cpu called t
-      there = at_call g.image step.process.cpu called t next
+    by_program : (o : Option Program) → slice_get lib step.process.program ≡ o → (n : Next) → next_in o step.process.cpu ≡ n → Acts lib w p n x step.acted
+        → IsKept
+    by_program o at (Moves c) next a = inl (same_idle q w step.acted (ap (λ v. get v.processes q) a.1 ∙ changed_elsewhere w p _ q apart) idle)
+    by_program o at IsStuck next a = inl (same_idle q w step.acted (ap (λ v. get v.processes q) a.1 ∙ ended_other p q apart w _) idle)
+    by_program None at (AtCall called t) next a = cc
+    by_program (Some g) at (AtCall called t) next (o, told, h) =
+        by (when_called p q apart lib w idle step.process.cpu there.call t (site_at step.process.cpu t there.call there.site) h.0 (refusal lib w p t.request)
+        refl o step.acted h.1)
+      where
+        there : IsAtCall g.image step.process.cpu called t
+        there = at_call g.image step.process.cpu called t next
 
-      by : IsIdle step.acted q ⊎ ((process : ℕ) × (h : ℕ) × (word : ℕ) × (t.request ≡ process_start process h word) × (object_at w p process ≡ q) × (is_process w is_created q ≡ true) × (o ≡ outcome.Answered status.Ok)) → IsKept
-      by (inl i) = inl i
-      by (inr (process, k, word, asked, child, created, is)) = inr (starting called t (ap (λ y. next_in y step.process.cpu) at ∙ next)
-          (sym there.named ∙ start_named step.process.cpu there.call t (site_at step.process.cpu t there.call there.site) process k word asked) process k word asked child created o told is)
+        by : IsIdle step.acted q ⊎ ((process : ℕ) × (h : ℕ) × (word : ℕ) × (t.request ≡ process_start process h word) × (object_at w p process ≡ q)
+            × (is_process w is_created q ≡ true) × (o ≡ outcome.Answered status.Ok)) → IsKept
+        by (inl i) = inl i
+        by (inr (process, k, word, asked, child, created, is)) = inr (starting called t (ap (λ y. next_in y step.process.cpu) at ∙ next)
+            (sym there.named ∙ start_named step.process.cpu there.call t (site_at step.process.cpu t there.call there.site) process k word asked) process k
+            word asked child created o told is)
 
-  kept : IsKept
-  kept = by_program (slice_get lib step.process.program) refl (next_for lib step.process) refl step.acts
+    kept : IsKept
+    kept = by_program (slice_get lib step.process.program) refl (next_for lib step.process) refl step.acts
 
-  -- so it is at the end of the step
-  pub stays_idle : IsIdle w2 q ⊎ IsStarting
-  stays_idle = by kept
-    where
-      by : IsKept → IsIdle w2 q ⊎ IsStarting
-      by (inl i) = inl (idle_still q lib w p x w2 step i)
-      by (inr s) = inr s
+    -- so it is at the end of the step
+    pub stays_idle : IsIdle w2 q ⊎ IsStarting
+    stays_idle = by kept
+      where
+        by : IsKept → IsIdle w2 q ⊎ IsStarting
+        by (inl i) = inl (idle_still q lib w p x w2 step i)
+        by (inr s) = inr s

@@ -137,7 +137,8 @@ module _ (i : Image) (t : ℕ → Option State) (range : IsTrue (is_in_range i))
   local_range : (x : LocalInstr) → instr_at i c0.counter ≡ Some (instr.Local x) → is_local_in_range x ≡ true
   local_range x is = rw is at (in_range_at i.raw i.code c0.counter (ranges i range).code)
 
-  arrives : (x : LocalInstr) → instr_at i c0.counter ≡ Some (instr.Local x) → Arrives f i c0.counter (target_of x) (local_rule (bounds_of i.code) i x k.state) (local_effect x c0)
+  arrives : (x : LocalInstr) → instr_at i c0.counter ≡ Some (instr.Local x)
+      → Arrives f i c0.counter (target_of x) (local_rule (bounds_of i.code) i x k.state) (local_effect x c0)
   arrives x is = agrees c0 k.holds (typing.state c0.counter k.state k.stands) k.memory known (bounds_of i.code) x (local_range x is)
 
   leads_here : (x : LocalInstr) → instr_at i c0.counter ≡ Some (instr.Local x)
@@ -145,9 +146,11 @@ module _ (i : Image) (t : ℕ → Option State) (range : IsTrue (is_in_range i))
   unfolding rule_with
   leads_here x is = rw (k.stands, is) refl
 
-  stepped : (x : LocalInstr) → instr_at i c0.counter ≡ Some (instr.Local x) → (c : Cpu) → local_effect x c0 ≡ Some c → OneOf (λ n. c.counter ≡ n) (leads i t c0.counter) × StandsBy i t f c
+  stepped : (x : LocalInstr) → instr_at i c0.counter ≡ Some (instr.Local x) → (c : Cpu) → local_effect x c0 ≡ Some c
+      → OneOf (λ n. c.counter ≡ n) (leads i t c0.counter) × StandsBy i t f c
   stepped x is c effect =
-      let r = reached t f i c (length i.code) c0.counter (target_of x) (local_rule (bounds_of i.code) i x k.state) (holds_at (Some (instr.Local x)) is) (rw effect at (arrives x is)) in
+      let r = reached t f i c (length i.code) c0.counter (target_of x) (local_rule (bounds_of i.code) i x k.state) (holds_at (Some (instr.Local x)) is)
+      (rw effect at (arrives x is)) in
       (subst (OneOf (λ n. c.counter ≡ n)) (leads_here x is) r.1.follows, record { state = r.1.state; stands = r.1.stands; holds = r.1.holds; memory = r.0 })
 
   -- a local instruction leads along a followed edge
@@ -155,7 +158,8 @@ module _ (i : Image) (t : ℕ → Option State) (range : IsTrue (is_in_range i))
   unfolding next_at
   moves_on c = by (instr_at i c0.counter) refl
     where
-      one : (x : LocalInstr) → instr_at i c0.counter ≡ Some (instr.Local x) → (o : Option Cpu) → local_effect x c0 ≡ o → moves o ≡ Moves c → OneOf (λ n. c.counter ≡ n) (leads i t c0.counter) × StandsBy i t f c
+      one : (x : LocalInstr) → instr_at i c0.counter ≡ Some (instr.Local x) → (o : Option Cpu) → local_effect x c0 ≡ o → moves o ≡ Moves c
+          → OneOf (λ n. c.counter ≡ n) (leads i t c0.counter) × StandsBy i t f c
       one x is None effect e = cc
       one x is (Some d) effect e = stepped x is c (effect ∙ ap Some (ap (moved_to d) e))
 
@@ -181,7 +185,8 @@ module _ (i : Image) (t : ℕ → Option State) (range : IsTrue (is_in_range i))
     where
       one : (x : LocalInstr) → instr_at i c0.counter ≡ Some (instr.Local x) → (o : Option Cpu) → local_effect x c0 ≡ o → moves o ≢ IsStuck
       one x is None effect e =
-          effect_there t f i (length i.code) c0.counter (target_of x) (local_rule (bounds_of i.code) i x k.state) (holds_at (Some (instr.Local x)) is) (rw effect at (arrives x is))
+          effect_there t f i (length i.code) c0.counter (target_of x) (local_rule (bounds_of i.code) i x k.state) (holds_at (Some (instr.Local x)) is)
+          (rw effect at (arrives x is))
       one x is (Some d) effect e = cc
 
       by : (o : Option Instr) → instr_at i c0.counter ≡ o → next_of o c0 ≢ IsStuck
@@ -196,7 +201,8 @@ pub able_goes : (i : Image) (c : Cpu) → IsTrue (is_in_range i) → IsAble i c 
 able_goes i c range a = never_stuck i a.typing range a.types a.table a.known c a.by
 
 pub able_still : (i : Image) (c d : Cpu) → IsTrue (is_in_range i) → IsAble i c → next_at i c ≡ Moves d → IsAble i d
-able_still i c d range a next = record { typing = a.typing; types = a.types; table = a.table; known = a.known; by = (moves_on i a.typing range a.types a.table a.known c a.by d next).1 }
+able_still i c d range a next =
+    record { typing = a.typing; types = a.types; table = a.table; known = a.known; by = (moves_on i a.typing range a.types a.table a.known c a.by d next).1 }
 
 -- ---- the law
 

@@ -224,7 +224,8 @@ module _ (lib : Library) (w : World) (p : ℕ) (x : TraceItem) (w2 : World) (sou
 
 -- ---- the law
 
-module _ (i : Image) (t : ℕ → Option State) (range : is_in_range i ≡ true) (typing : IsTyping i t) (lib : Library) (w : World) (p : ℕ) (x : TraceItem) (w2 : World) (b : IsFitStep lib w p x w2) (q : ℕ) (process : Process) (apart : (p == q) ≡ false)
+module _ (i : Image) (t : ℕ → Option State) (range : is_in_range i ≡ true) (typing : IsTyping i t) (lib : Library) (w : World) (p : ℕ) (x : TraceItem)
+    (w2 : World) (b : IsFitStep lib w p x w2) (q : ℕ) (process : Process) (apart : (p == q) ≡ false)
     (there : get w.processes q ≡ Some process) (running : runs process.state ≡ true) (k : Conforms i t w q process) where
   sound : IsSound w
   sound = sound_before lib w p x w2 b

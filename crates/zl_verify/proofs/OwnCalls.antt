@@ -289,8 +289,10 @@ can_call i t w p q range typing sound there k x is = by (reads i q.cpu x is)
     by (inr (s, next)) = record { site = s; next = next }
 
 -- its operands pass, and its policy allows what it makes
-pub operands_pass : (i : Image) (t : ℕ → Option State) (w : World) (p : ℕ) (q : Process) (called : CallName) (s : Site) → StandsAtCall i t w p q called s → examined w p [] (handle_operands s.request) ≡ None
+pub operands_pass : (i : Image) (t : ℕ → Option State) (w : World) (p : ℕ) (q : Process) (called : CallName) (s : Site) → StandsAtCall i t w p q called s
+    → examined w p [] (handle_operands s.request) ≡ None
 operands_pass i t w p q called s k = not_refused (is_ruled i t w p q called s k).before
 
-pub policy_passes : (i : Image) (t : ℕ → Option State) (w : World) (p : ℕ) (q : Process) (called : CallName) (s : Site) → StandsAtCall i t w p q called s → by_policy w p (condition_of s.request) ≡ None
+pub policy_passes : (i : Image) (t : ℕ → Option State) (w : World) (p : ℕ) (q : Process) (called : CallName) (s : Site) → StandsAtCall i t w p q called s
+    → by_policy w p (condition_of s.request) ≡ None
 policy_passes i t w p q called s k = (is_ruled i t w p q called s k).before.allowed

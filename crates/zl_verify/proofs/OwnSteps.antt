@@ -120,7 +120,8 @@ module _ (lib : Library) (i : Image) (t : ℕ → Option State) (range : is_in_r
   under_way p y w2 checked program running (wakes awaited ds waited a) =
       record { process = a.after; there = a.there; running = ap runs a.ready; checked = checked; program = ap (slice_get lib) a.program ∙ program; conforms = a.conforms }
 
-  module _ (w : World) (p : ℕ) (x : TraceItem) (w2 : World) (b : IsFitStep lib w p x w2) (checked : Bool) (program : slice_get lib b.step.process.program ≡ Some (record { checked = checked; image = i })) (k : Conforms i t w p b.step.process) where
+  module _ (w : World) (p : ℕ) (x : TraceItem) (w2 : World) (b : IsFitStep lib w p x w2) (checked : Bool)
+      (program : slice_get lib b.step.process.program ≡ Some (record { checked = checked; image = i })) (k : Conforms i t w p b.step.process) where
     abbrev own : Process
     own = b.step.process
 

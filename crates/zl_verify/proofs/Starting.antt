@@ -154,7 +154,8 @@ abbrev told : List ℕ → ℕ → List ℕ
 told [] word = word ∷ []
 told (v ∷ vs) word = v ∷ word ∷ vs
 
-start_fits : (ss : List Start) (es : List Entry) (vs : List ℕ) (word : ℕ) (q : Process) → q.last ≡ None → word ≤ ANY → are_declared ss es ≡ true → may_get_all q es vs ≡ true
+start_fits : (ss : List Start) (es : List Entry) (vs : List ℕ) (word : ℕ) (q : Process) → q.last ≡ None → word ≤ ANY → are_declared ss es ≡ true
+    → may_get_all q es vs ≡ true
     → Fits (get q.handles) zeros no_values (start_results ss) (told vs word) (get (getting_all es vs q).handles)
 start_fits [] [] [] word q fresh small d may = (get q.handles, (small, small, refl), refl)
 start_fits [] [] (v ∷ vs) word q fresh small d may = cc
@@ -170,7 +171,8 @@ start_fits (s ∷ ss) (e ∷ es) (v ∷ vs) word q fresh small d may =
       (
         get (process_with v e q).handles,
         (small, small, refl),
-        handles_fit (starts_from 2 ss) es vs (process_with v e q) (with_value (with_value zeros 0 (start_value s)) 1 (Word ANY)) (slice_set (slice_set no_values 0 v) 1 word) (λ x is. absurd (none-some x is)) two.1 (declared_fit 2 ss es named.1),
+        handles_fit (starts_from 2 ss) es vs (process_with v e q) (with_value (with_value zeros 0 (start_value s)) 1 (Word ANY))
+            (slice_set (slice_set no_values 0 v) 1 word) (λ x is. absurd (none-some x is)) two.1 (declared_fit 2 ss es named.1),
       ),
     )
   where
@@ -202,7 +204,8 @@ as_many [] [] (v ∷ vs) q d may = cc
 as_many [] (e ∷ es) vs q d may = cc
 as_many (s ∷ ss) [] vs q d may = cc
 as_many (s ∷ ss) (e ∷ es) [] q d may = cc
-as_many (s ∷ ss) (e ∷ es) (v ∷ vs) q d may = ap suc (as_many ss es vs (process_with v e q) (both (is_declared s e) (are_declared ss es) d).1 (both (may_get q v) (may_get_all (process_with v e q) es vs) may).1)
+as_many (s ∷ ss) (e ∷ es) (v ∷ vs) q d may = ap suc (as_many ss es vs (process_with v e q) (both (is_declared s e) (are_declared ss es) d).1
+    (both (may_get q v) (may_get_all (process_with v e q) es vs) may).1)
 
 start_registers : (ss : List Start) (vs xs : List ℕ) (word : ℕ) → length vs ≡ length ss → written xs (map (λ x. x.0) (start_results ss)) (told vs word) ≡ slice_set (with_handles vs xs) 1 word
 start_registers [] [] xs word same = refl
@@ -217,7 +220,8 @@ same_holding (e ∷ es) (v ∷ vs) q = same_holding es vs (process_with v e q)
 
 -- ---- the start
 
-module _ (i : Image) (t : ℕ → Option State) (range : is_in_range i ≡ true) (typing : IsTyping i t) (lib : Library) (w : World) (p : ℕ) (q : Process) (k : IsProperStart lib i w p q) where
+module _ (i : Image) (t : ℕ → Option State) (range : is_in_range i ≡ true) (typing : IsTyping i t) (lib : Library) (w : World) (p : ℕ) (q : Process)
+    (k : IsProperStart lib i w p q) where
   -- the process before its start
   abbrev first : Process
   first = created_process lib q.program

@@ -220,7 +220,8 @@ module _ (k : ℕ) (y : Process) (new : is_created y.state ≡ true) where
 
 -- ---- runs
 
-pub step_unstarted : (lib : Library) (w : World) (p : ℕ) (x : TraceItem) (w2 : World) → (b : IsFitStep lib w p x w2) → IsSound w → AreUnstarted lib w → AreUnstarted lib w2
+pub step_unstarted : (lib : Library) (w : World) (p : ℕ) (x : TraceItem) (w2 : World) → (b : IsFitStep lib w p x w2) → IsSound w → AreUnstarted lib w
+    → AreUnstarted lib w2
 step_unstarted lib w p x w2 b sound all k y at new =
     let before = settled_before b.step.acted b.step.settled b.step.settles k y (awake_before k y new b.step.settled (subst (λ v. get v.processes k ≡ Some y) b.step.ends_awake at)) new in
     let kept = acted_unstarted lib w p x w2 sound b.step all k y before new in

@@ -293,7 +293,8 @@ module _ (lib : Library) (w : World) (m : ℕ) (x : TraceItem) (w2 : World) (b :
           let alike : AreBare (without_others b.step.acted K) w2 = subst (λ v. AreBare v w2) is awake in
           bare_creates (without_others b.step.acted K) w2 alike p c ∙ settled_creates b.step.acted w2 K alike p (sound_after.living p y there living) c
 
-module _ (i : Image) (t : ℕ → Option State) (range : is_in_range i ≡ true) (typing : IsTyping i t) (lib : Library) (w : World) (m : ℕ) (x : TraceItem) (w2 : World) (b : IsFitStep lib w m x w2) where
+module _ (i : Image) (t : ℕ → Option State) (range : is_in_range i ≡ true) (typing : IsTyping i t) (lib : Library) (w : World) (m : ℕ) (x : TraceItem)
+    (w2 : World) (b : IsFitStep lib w m x w2) where
   module _ (p : ℕ) (q : Process) (there : get b.step.acted.processes p ≡ Some q) (running : runs q.state ≡ true) (k : Conforms i t b.step.acted p q) where
     still_allowed : (y : Process) → get w2.processes p ≡ Some y → lives y.state ≡ true → (c : Condition) → IsTrue (is_among i.needs c) → creates w2 p c ≡ None
     still_allowed y at living c named = allowed_after lib w m x w2 b p y at living c ∙ k.allowed c named

@@ -43,7 +43,8 @@ pub record IsAsTyped (i : Image) (w : World) (p : ℕ) (q : Process) : Type 0 wh
 
 -- so is each that runs by a checked program: every start of one is a proper start
 abbrev pub AreAsTyped : Library → World → Type 0
-AreAsTyped lib w = (p : ℕ) (q : Process) (i : Image) → get w.processes p ≡ Some q → IsTrue (runs q.state) → slice_get lib q.program ≡ Some (record { checked = true; image = i }) → IsAsTyped i w p q
+AreAsTyped lib w = (p : ℕ) (q : Process) (i : Image) → get w.processes p ≡ Some q → IsTrue (runs q.state)
+    → slice_get lib q.program ≡ Some (record { checked = true; image = i }) → IsAsTyped i w p q
 
 -- ---- a Cpu by itself
 

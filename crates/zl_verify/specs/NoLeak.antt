@@ -1,4 +1,5 @@
--- No leak: in every run, as long as it lives, a process that was properly started from an accepted image has in its table just the handles that stand in its slot arrays and in the registers that a typing knows as handles, each in one place.
+-- No leak: in every run, as long as it lives, a process that was properly started from an accepted image has in its table just the handles
+-- that stand in its slot arrays and in the registers that a typing knows as handles, each in one place.
 use Rattle.std.specs.Prelude.{ℕ, ◌≡◌, ◌↔◌, ◌&&◌, ◌==◌, nat_lt, List, [], ◌∷◌, ◌++◌, Option, Some, IsTrue, if◌then◌else◌}
 use Rattle.std.specs.List.{concat, filter, Contains, IsDistinct}
 use Rattle.zl_rights.specs.Common.{get, has_key, lives, Cpu, Process}

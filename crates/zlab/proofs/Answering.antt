@@ -45,7 +45,8 @@ module _ (text : List ℕ) (s : System) (pairs : List (ℕ × ℕ)) (start : IsS
     boots = start.boots;
     legal = legal;
     sound = always_sound s.lab.programs start.said.statements s.lab.world last.lab.world walks.more start.boots.boots legal;
-    covered = covered_go_well s.lab.programs start.said.statements s.lab.world (are_verified s.lab.programs start.boots.images start.accepted) start.boots walks.more;
+    covered = covered_go_well s.lab.programs start.said.statements s.lab.world (are_verified s.lab.programs start.boots.images start.accepted) start.boots
+        walks.more;
     room = omega (arith, walks.room, start.limit, ap length start.items);
     ends = subst (λ (turns : List (ℕ × ℕ)). EndsBy s.lab.programs s.lab.world (turns_of turns) start.said.limit walks.more last.lab.world e) start.schedule
         (subst (λ (limit : ℕ). EndsBy s.lab.programs s.lab.world (turns_of pairs) limit walks.more last.lab.world e) room walks.ends);

@@ -36,7 +36,8 @@ module _ (text : List ℕ) (fits : FitsInput text) (scenario : Made) (reading : 
   pub reading_fault : (w : World) (fault : LineFault) → IsBoot scenario.library scenario.boot.statements.items w → reading.fault ≡ Some fault → IsFirstFault text fault
   reading_fault w fault boots faulty = of_reading reading scenario.library w fault fits reads is.programs (subst (λ (ss : List Statement). IsBoot scenario.library ss w) is.statements boots) faulty
 
-  pub is_start : (s : System) (pairs : List (ℕ × ℕ)) → reading.fault ≡ None → s.lab.programs ≡ scenario.library → IsSizedBoot scenario.library scenario.boot.statements.items s.lab.world
+  pub is_start : (s : System) (pairs : List (ℕ × ℕ)) → reading.fault ≡ None → s.lab.programs ≡ scenario.library
+      → IsSizedBoot scenario.library scenario.boot.statements.items s.lab.world
       → s.items ≡ [] → s.out ≡ [] → s.limit ≡ scenario.boot.limit → pairs ≡ scenario.schedule.items → IsStart text s pairs
   is_start s pairs no_fault programs boots items out limit schedule = record {
     fits = fits;

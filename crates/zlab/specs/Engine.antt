@@ -47,7 +47,8 @@ pub record IsRunOf (text : List ℕ) (items : List TraceItem) (w : World) (e : E
   pub boot : World
   pub boots : IsSizedBoot library said.statements boot
   pub legal : IsLegalHistory library boot items w
-  -- no process of a checked program is answered BAD_HANDLE, WRONG_TYPE or ACCESS_DENIED, is stuck, ended by a policy or past its budget, until somebody kills it
+  -- no process of a checked program is answered BAD_HANDLE, WRONG_TYPE or ACCESS_DENIED, is stuck, ended by a policy or past its budget,
+  -- until somebody kills it
   pub covered : CoveredGoWell library boot items
   -- no two handles stand at one place, none has a right that its kind doesn't give, and each names an object that is there
   pub sound : InEachWorld IsSound library boot items w legal

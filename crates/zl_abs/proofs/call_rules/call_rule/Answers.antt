@@ -82,7 +82,8 @@ returns-in-Dup c = rw c.in-Dup.is (rw (c.used.ensures, c.narrowed.ensures, c.get
 
 pub returns-in-Replace : goal.returns-in-Replace
 unfolding call_rule uses_of row_of call_parts
-returns-in-Replace c = rw c.in-Replace.is (rw (c.taken.ensures, c.empty.ensures tt, c.narrowed-in-Replace.ensures, c.get-in-Replace.ensures) at c.simple-in-Replace.ensures)
+returns-in-Replace c =
+    rw c.in-Replace.is (rw (c.taken.ensures, c.empty.ensures tt, c.narrowed-in-Replace.ensures, c.get-in-Replace.ensures) at c.simple-in-Replace.ensures)
 
 pub returns-in-Close : goal.returns-in-Close
 unfolding call_rule uses_of row_of call_parts

@@ -29,8 +29,11 @@ loop-number-preserved c =
     let statements = c.deref-statement-items.ensures.value in
     one_more c.args.library.now c.args.boot.now.statements.items c.loop-number.number c.statement-item.result c.loop-number.made c.make.new.self
     (rw statements at c.loop-number-test.true) c.loop-number.invariant
-    (subst (λ (s : Statement). Makes c.args.library.now s c.loop-number.made c.make.new.self) (c.statement-item.is ∙ ap (λ (ss : List Statement). get_or ss c.loop-number.number c.statement-item.result) statements) (c.in_default-make.ensures {u = tt}).ok)
-    (subst (λ (s : Statement). word_of s ≤ most_word) (c.statement-item.is ∙ ap (λ (ss : List Statement). get_or ss c.loop-number.number c.statement-item.result) statements) (c.in_default-make.ensures {u = tt}).word)
+    (subst (λ (s : Statement). Makes c.args.library.now s c.loop-number.made c.make.new.self)
+    (c.statement-item.is ∙ ap (λ (ss : List Statement). get_or ss c.loop-number.number c.statement-item.result) statements)
+    (c.in_default-make.ensures {u = tt}).ok)
+    (subst (λ (s : Statement). word_of s ≤ most_word) (c.statement-item.is
+    ∙ ap (λ (ss : List Statement). get_or ss c.loop-number.number c.statement-item.result) statements) (c.in_default-make.ensures {u = tt}).word)
 
 pub returns-then-boot-gt-MOST_ITEMS-clause-err : goal.returns-then-boot-gt-MOST_ITEMS-clause-err
 returns-then-boot-gt-MOST_ITEMS-clause-err c =
@@ -42,4 +45,5 @@ returns-then-boot-gt-MOST_ITEMS-clause-err c =
 pub returns-clause-words : goal.returns-clause-words
 returns-clause-words c =
     let statements = c.deref-statement-items.ensures.value in
-    all_small c.args.library.now c.args.boot.now.statements.items c.loop-number.number c.loop-number.made (rw statements at c.loop-number-test.false) c.loop-number.invariant
+    all_small c.args.library.now c.args.boot.now.statements.items c.loop-number.number c.loop-number.made (rw statements at c.loop-number-test.false)
+    c.loop-number.invariant

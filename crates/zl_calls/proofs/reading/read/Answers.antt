@@ -6,7 +6,8 @@ pub returns-in-Ok : goal.returns-in-Ok
 returns-in-Ok c =
     parts_act c.args.to.status c.args.channel c.args.address c.args.room c.args.to.bytes c.args.to.handles c.args.to.first c.args.to.places
     c.args.process.now c.answer_read.new.self c.args.objects.now c.chan_read_etc.new.objects
-    (room_there c.args.to.status c.args.channel c.args.address c.args.room c.args.to.bytes c.args.to.handles c.args.to.first c.args.to.places c.args.process.now.cpu c.requires.there)
+    (room_there c.args.to.status c.args.channel c.args.address c.args.room c.args.to.bytes c.args.to.handles c.args.to.first c.args.to.places
+    c.args.process.now.cpu c.requires.there)
     c.chan_read_etc.new.table _ c.in-Ok.received c.answer_read.result c.received.view_is
     (rw (← c.register-room.ensures, ← c.register-channel.ensures) (rw c.in-Ok.is at c.chan_read_etc.ensures))
     c.answer_read.ensures.ends

@@ -18,14 +18,19 @@ pub call_next-requires-clause-ready : goal.call_next-requires-clause-ready
 call_next-requires-clause-ready c =
     caller_ready c.args.processes.now.items c.args.pid c.in_ok-place.place c.index.result.now (rw c.deref.ensures.value at c.in_ok-place.ensures.first) c.index.ensures (sym c.is_ready.ensures ∙ c.if-not-is_ready.false)
 
-called : (c : goal.After-leave) → HasActed c.args.library.now c.args.processes.now.items c.leave.new.processes.items c.args.objects.now c.call_next.new.objects c.args.blocked.now.items c.call_next.new.blocked.items
+called : (c : goal.After-leave) → HasActed c.args.library.now c.args.processes.now.items c.leave.new.processes.items c.args.objects.now
+    c.call_next.new.objects c.args.blocked.now.items c.call_next.new.blocked.items
     c.args.pid (item.Call c.args.pid c.in-Some.call c.in-Some.outcome)
 called c = rw c.leave.ensures
     (called_so c.args.library.now c.args.processes.now.items c.args.objects.now c.requires.lab c.args.blocked.now.items c.requires.list c.requires.sound c.args.pid c.in_ok-place.place c.index.result.now
     (rw c.deref.ensures.value at c.in_ok-place.ensures.first) c.index.ensures (sym c.is_ready.ensures ∙ c.if-not-is_ready.false) (lab c.call_next.new.processes.items c.call_next.new.objects c.call_next.new.blocked.items) c.in-Some.outcome c.in-Some.call
-    ((c.in-Some.ensures {u = tt}).calls c.index.result.now (is_there c.args.library.now c.args.processes.now.items c.args.objects.now c.args.blocked.now.items c.in_ok-place.place c.index.result.now (within c.args.processes.now.items c.args.pid c.in_ok-place.place c.index.result.now (rw c.deref.ensures.value at c.in_ok-place.ensures.first) c.index.ensures) c.index.ensures)))
+    ((c.in-Some.ensures {u = tt}).calls c.index.result.now (is_there c.args.library.now c.args.processes.now.items c.args.objects.now
+    c.args.blocked.now.items c.in_ok-place.place c.index.result.now
+    (within c.args.processes.now.items c.args.pid c.in_ok-place.place c.index.result.now (rw c.deref.ensures.value at c.in_ok-place.ensures.first)
+    c.index.ensures) c.index.ensures)))
 
-moved : (c : goal.After-processes-1) → HasActed c.args.library.now c.args.processes.now.items (set c.call_next.new.processes.items c.in_ok-place.place c.run_next.new.process) c.args.objects.now c.call_next.new.objects
+moved : (c : goal.After-processes-1) → HasActed c.args.library.now c.args.processes.now.items
+    (set c.call_next.new.processes.items c.in_ok-place.place c.run_next.new.process) c.args.objects.now c.call_next.new.objects
     c.args.blocked.now.items c.call_next.new.blocked.items c.args.pid (item.Run c.args.pid 1)
 moved c =
     (moves_from c.args.library.now c.args.processes.now.items c.args.objects.now c.requires.lab c.args.blocked.now.items c.requires.list c.requires.sound c.args.pid c.in_ok-place.place c.index.result.now
@@ -33,13 +38,17 @@ moved c =
     c.call_next.new.processes.items c.call_next.new.objects c.call_next.new.blocked.items (c.in_default.ensures {u = tt}).same_processes (c.in_default.ensures {u = tt}).same_objects (c.in_default.ensures {u = tt}).same_blocked c.index_mut-process.result.now c.index_mut-process.ensures.value
     c.run_next.new.process (c.in-Some-run_next.ensures {u = tt}).runs (c.in-Some-run_next.ensures {u = tt}).cpu)
 
-stopped : (c : goal.After-leave-in-None) → HasActed c.args.library.now c.args.processes.now.items c.leave-in-None.new.processes.items c.args.objects.now c.end.new.objects
+stopped : (c : goal.After-leave-in-None) → HasActed c.args.library.now c.args.processes.now.items c.leave-in-None.new.processes.items c.args.objects.now
+    c.end.new.objects
     c.args.blocked.now.items c.call_next.new.blocked.items c.args.pid (item.Stuck c.args.pid)
 stopped c = rw c.leave-in-None.ensures
     (stops_from c.args.library.now c.args.processes.now.items c.args.objects.now c.requires.lab c.args.blocked.now.items c.requires.list c.requires.sound c.args.pid c.in_ok-place.place c.index.result.now
     (rw c.deref.ensures.value at c.in_ok-place.ensures.first) c.index.ensures (sym c.is_ready.ensures ∙ c.if-not-is_ready.false)
     c.call_next.new.processes.items c.call_next.new.objects c.call_next.new.blocked.items (c.in_default.ensures {u = tt}).same_processes (c.in_default.ensures {u = tt}).same_objects (c.in_default.ensures {u = tt}).same_blocked c.index_mut-process.result.now c.index_mut-process.ensures.value
-    c.end.new.process c.end.new.objects ((c.in_default.ensures {u = tt}).missing c.index.result.now (is_there c.args.library.now c.args.processes.now.items c.args.objects.now c.args.blocked.now.items c.in_ok-place.place c.index.result.now (within c.args.processes.now.items c.args.pid c.in_ok-place.place c.index.result.now (rw c.deref.ensures.value at c.in_ok-place.ensures.first) c.index.ensures) c.index.ensures)) (c.in-None.ensures {u = tt}).stuck (rw (c.in-None.ensures {u = tt}).unchanged at c.end.ensures))
+    c.end.new.process c.end.new.objects ((c.in_default.ensures {u = tt}).missing c.index.result.now
+    (is_there c.args.library.now c.args.processes.now.items c.args.objects.now c.args.blocked.now.items c.in_ok-place.place c.index.result.now
+    (within c.args.processes.now.items c.args.pid c.in_ok-place.place c.index.result.now (rw c.deref.ensures.value at c.in_ok-place.ensures.first)
+    c.index.ensures) c.index.ensures)) (c.in-None.ensures {u = tt}).stuck (rw (c.in-None.ensures {u = tt}).unchanged at c.end.ensures))
 
 pub returns-in-Some-clause-acts : goal.returns-in-Some-clause-acts
 returns-in-Some-clause-acts c = (called c).acts
@@ -70,7 +79,8 @@ returns-in-None-clause-lab c = (stopped c).lab
 
 pub returns-in-Some-run_next-clause-quiet : goal.returns-in-Some-run_next-clause-quiet
 returns-in-Some-run_next-clause-quiet c local =
-    stays_from c.args.library.now c.args.processes.now.items c.args.objects.now c.requires.lab c.args.blocked.now.items c.requires.list c.requires.sound c.args.pid c.in_ok-place.place c.index.result.now
+    stays_from c.args.library.now c.args.processes.now.items c.args.objects.now c.requires.lab c.args.blocked.now.items c.requires.list c.requires.sound
+    c.args.pid c.in_ok-place.place c.index.result.now
     (rw c.deref.ensures.value at c.in_ok-place.ensures.first) c.index.ensures (sym c.is_ready.ensures ∙ c.if-not-is_ready.false)
     c.call_next.new.processes.items c.call_next.new.objects c.call_next.new.blocked.items (c.in_default.ensures {u = tt}).same_processes (c.in_default.ensures {u = tt}).same_objects (c.in_default.ensures {u = tt}).same_blocked c.index_mut-process.result.now c.index_mut-process.ensures.value
     c.run_next.new.process (c.in-Some-run_next.ensures {u = tt}).cpu

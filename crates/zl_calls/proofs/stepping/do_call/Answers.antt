@@ -18,9 +18,11 @@ returns-in-Some-reach-clause-acts c =
 pub act-requires : goal.act-requires
 act-requires c =
     let kept : set c.args.processes.now.items c.args.place c.by_policy.new.process ≡ c.args.processes.now.items =
-    ap (set c.args.processes.now.items c.args.place) (c.in_default.ensures {u = tt}).same_process ∙ set_read c.args.processes.now.items c.args.place c.index_mut.result.now c.index_mut.ensures.value in
+    ap (set c.args.processes.now.items c.args.place) (c.in_default.ensures {u = tt}).same_process
+    ∙ set_read c.args.processes.now.items c.args.place c.index_mut.result.now c.index_mut.ensures.value in
     let here : slice_get c.args.processes.now.items c.args.place ≡ Some c.index_mut-2.result.now =
-    again_there c.args.library.now c.args.processes.now.items c.args.objects.now c.args.blocked.now.items c.args.place c.index_mut.result.now c.requires.place c.index_mut.ensures.value
+    again_there c.args.library.now c.args.processes.now.items c.args.objects.now c.args.blocked.now.items c.args.place c.index_mut.result.now
+    c.requires.place c.index_mut.ensures.value
     c.reach.new.processes.items c.index_mut-2.result.now ((c.in_default-reach.ensures {u = tt}).same_processes ∙ kept) c.index_mut-2.ensures.value in
     record {
       counter = c.requires.counter c.index_mut-2.result.now here;
@@ -31,9 +33,11 @@ act-requires c =
 pub returns-clause-acts : goal.returns-clause-acts
 returns-clause-acts c =
     let same : c.reach.new.processes.items ≡ c.args.processes.now.items = (c.in_default-reach.ensures {u = tt}).same_processes
-    ∙ (ap (set c.args.processes.now.items c.args.place) (c.in_default.ensures {u = tt}).same_process ∙ set_read c.args.processes.now.items c.args.place c.index_mut.result.now c.index_mut.ensures.value) in
+    ∙ (ap (set c.args.processes.now.items c.args.place) (c.in_default.ensures {u = tt}).same_process
+    ∙ set_read c.args.processes.now.items c.args.place c.index_mut.result.now c.index_mut.ensures.value) in
     acted_acts c.args.library.now c.args.processes.now.items c.args.objects.now c.args.blocked.now.items c.args.place c.index_mut.result.now c.requires.place c.index_mut.ensures.value c.args.call c.requires.there (c.in_default.ensures {u = tt}).done
     c.reach.new.processes.items c.reach.new.objects c.reach.new.blocked.items same
     ((c.in_default-reach.ensures {u = tt}).same_objects ∙ (c.in_default.ensures {u = tt}).same_objects) (c.in_default-reach.ensures {u = tt}).same_blocked
-    c.index_mut-2.result.now (same_caller c.args.library.now c.args.processes.now.items c.args.objects.now c.args.blocked.now.items c.args.place c.index_mut.result.now c.requires.place c.index_mut.ensures.value c.reach.new.processes.items c.index_mut-2.result.now same c.index_mut-2.ensures.value)
+    c.index_mut-2.result.now (same_caller c.args.library.now c.args.processes.now.items c.args.objects.now c.args.blocked.now.items c.args.place
+    c.index_mut.result.now c.requires.place c.index_mut.ensures.value c.reach.new.processes.items c.index_mut-2.result.now same c.index_mut-2.ensures.value)
     c.act.result c.act.new.process c.act.new.objects c.act.ensures

@@ -3,11 +3,15 @@ use Rattle.zl_calls.proofs.Creating.{not_made, wants_memory}
 use Rattle.zl_calls.proofs.tasks.process_create.Goals as goal
 
 pub returns-in_default-clause-does : goal.returns-in_default-clause-does
-returns-in_default-clause-does c = λ caller there. wants_memory c.args.library.now c.args.processes.now.items c.prepare.new.processes.items c.args.objects.now c.args.blocked.now.items c.prepare.new.blocked.items
-    c.args.place c.args.job c.args.program c.prepare.ensures.same_processes c.prepare.ensures.same_blocked c.index.result.now c.index.ensures c.in_ok-job.ensures.refusal caller there
+returns-in_default-clause-does c = λ caller there. wants_memory c.args.library.now c.args.processes.now.items c.prepare.new.processes.items
+    c.args.objects.now c.args.blocked.now.items c.prepare.new.blocked.items
+    c.args.place c.args.job c.args.program c.prepare.ensures.same_processes c.prepare.ensures.same_blocked c.index.result.now c.index.ensures
+    c.in_ok-job.ensures.refusal caller there
     c.args.objects.now refl c.prepare.new.processes.items refl
 
 pub returns-in-Err-clause-does : goal.returns-in-Err-clause-does
-returns-in-Err-clause-does c = λ caller there. not_made c.args.library.now c.args.processes.now.items c.prepare.new.processes.items c.args.objects.now c.args.blocked.now.items c.prepare.new.blocked.items
-    c.args.place c.args.job c.args.program c.prepare.ensures.same_processes c.prepare.ensures.same_blocked c.index.result.now c.index.ensures c.in_ok-job.ensures.refusal caller there
+returns-in-Err-clause-does c = λ caller there. not_made c.args.library.now c.args.processes.now.items c.prepare.new.processes.items c.args.objects.now
+    c.args.blocked.now.items c.prepare.new.blocked.items
+    c.args.place c.args.job c.args.program c.prepare.ensures.same_processes c.prepare.ensures.same_blocked c.index.result.now c.index.ensures
+    c.in_ok-job.ensures.refusal caller there
     c.index_mut.result.now c.index_mut.ensures.value c.make_process.new.table (c.in-Err.ensures {u = tt}).same_table c.make_process.new.objects (c.in-Err.ensures {u = tt}).same_objects c.in-Err.refused (c.in-Err.ensures {u = tt}).err

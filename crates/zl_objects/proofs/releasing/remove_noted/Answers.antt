@@ -39,7 +39,11 @@ returns-in-ChannelEnd-clause-goes c =
     let once : length (without c.args.by_koid.now.entries c.args.koid) + 1 ≡ length c.args.by_koid.now.entries =
     one_taken c.args.by_koid.now.entries c.args.koid c.take_unkept.new.by_koid.entries c.take_unkept.result c.in-Some.gone
     c.take_unkept.ensures.left was c.in-Some.is c.take_unkept.ensures.count in
-    unkept_went c.args.by_koid.now.entries c.args.dying.now.items c.args.koid c.in-Some.gone c.let_go_queue.new.by_koid.entries c.let_go_queue.new.dying.items was.there was.unkept once (subst (λ queue. LetsGo (named_in queue) (ending_waits c.args.koid c.in-Some.gone (without c.args.by_koid.now.entries c.args.koid)) (c.args.dying.now.items ++ option_to_list (keeper_of c.in-Some.gone.body)) c.let_go_queue.new.by_koid.entries c.let_go_queue.new.dying.items) (sym (ap queue_of c.in-ChannelEnd.is)) went)
+    unkept_went c.args.by_koid.now.entries c.args.dying.now.items c.args.koid c.in-Some.gone c.let_go_queue.new.by_koid.entries
+    c.let_go_queue.new.dying.items was.there was.unkept once (subst
+    (λ queue. LetsGo (named_in queue) (ending_waits c.args.koid c.in-Some.gone (without c.args.by_koid.now.entries c.args.koid))
+    (c.args.dying.now.items ++ option_to_list (keeper_of c.in-Some.gone.body)) c.let_go_queue.new.by_koid.entries c.let_go_queue.new.dying.items)
+    (sym (ap queue_of c.in-ChannelEnd.is)) went)
 
 pub returns-in-ChannelEnd-clause-less : goal.returns-in-ChannelEnd-clause-less
 returns-in-ChannelEnd-clause-less c =
@@ -65,7 +69,11 @@ returns c =
     c.take_unkept.ensures.left was c.in-Some.is c.take_unkept.ensures.count in
     let empty : queue_of c.in-Some.gone.body ≡ [] = no_queue c.in-Some.gone.body c.in_default-body.not-ChannelEnd in
     rw (ended, noted) (record {
-      goes = unkept_went c.args.by_koid.now.entries c.args.dying.now.items c.args.koid c.in-Some.gone (ending_waits c.args.koid c.in-Some.gone (without c.args.by_koid.now.entries c.args.koid)) (c.args.dying.now.items ++ option_to_list (keeper_of c.in-Some.gone.body)) was.there was.unkept once (rw empty (none_went (ending_waits c.args.koid c.in-Some.gone (without c.args.by_koid.now.entries c.args.koid)) (c.args.dying.now.items ++ option_to_list (keeper_of c.in-Some.gone.body))));
+      goes = unkept_went c.args.by_koid.now.entries c.args.dying.now.items c.args.koid c.in-Some.gone
+          (ending_waits c.args.koid c.in-Some.gone (without c.args.by_koid.now.entries c.args.koid))
+          (c.args.dying.now.items ++ option_to_list (keeper_of c.in-Some.gone.body)) was.there was.unkept once
+          (rw empty (none_went (ending_waits c.args.koid c.in-Some.gone (without c.args.by_koid.now.entries c.args.koid))
+          (c.args.dying.now.items ++ option_to_list (keeper_of c.in-Some.gone.body))));
       less = omega (arith, less_ending c.args.by_koid.now.entries c.args.dying.now.items c.args.koid c.in-Some.gone, fewer_ending c.args.by_koid.now.entries c.args.dying.now.items c.args.koid c.in-Some.gone was.there);
       capacity = c.note_keeper.ensures.capacity;
     })

@@ -5,8 +5,10 @@ use Rattle.zl_calls.proofs.Common.{arith, world_blocked}
 use Rattle.zl_calls.proofs.BootBlocked.{booted_boots, booted_sound, none_blocked}
 use Rattle.zl_calls.proofs.world.World.boot.Goals as goal
 
-boots : (c : goal.After-len-2) → IsBoot c.args.library c.args.boot.now.statements.items (world_blocked c.in_ok-processes.field-0.processes.items c.in_ok-processes.field-0.objects c.in-Ok.blocked.items)
-boots c = booted_boots c.args.library c.args.boot.now.statements.items c.in_ok-processes.field-0.processes.items c.in_ok-processes.field-0.objects c.in-Ok.blocked.items
+boots : (c : goal.After-len-2) → IsBoot c.args.library c.args.boot.now.statements.items
+    (world_blocked c.in_ok-processes.field-0.processes.items c.in_ok-processes.field-0.objects c.in-Ok.blocked.items)
+boots c = booted_boots c.args.library c.args.boot.now.statements.items c.in_ok-processes.field-0.processes.items c.in_ok-processes.field-0.objects
+    c.in-Ok.blocked.items
     c.in_ok-processes.ensures.ok c.in_ok-processes.ensures.unwatched ((c.in-Ok.ensures {u = tt}).items)
 
 pub invariant_of-result : goal.invariant_of-result

@@ -36,8 +36,10 @@ invariant_of-self-2 c = record {
   sound = stepped_sound c.self.inside.library c.self.inside.processes.items c.wake.new.processes.items c.self.inside.objects c.wake.new.objects c.self.inside.blocked.items c.wake.new.blocked.items c.args.pid c.in_ok-item.item (steps c) c.self.invariant.sound;
   are_blocked = c.wake.ensures.list;
   room = omega (arith, c.wake.ensures.count, c.wake.ensures.capacity, c.add_blocked.ensures.capacity, c.act_for.ensures.room);
-  awake = stepped_awake c.self.inside.library c.self.inside.processes.items c.wake.new.processes.items c.self.inside.objects c.wake.new.objects c.self.inside.blocked.items c.wake.new.blocked.items c.args.pid c.in_ok-item.item (steps c);
-  programs = stepped_programs c.self.inside.library c.self.inside.processes.items c.wake.new.processes.items c.self.inside.objects c.wake.new.objects c.self.inside.blocked.items c.wake.new.blocked.items c.args.pid c.in_ok-item.item (steps c) c.self.invariant.programs;
+  awake = stepped_awake c.self.inside.library c.self.inside.processes.items c.wake.new.processes.items c.self.inside.objects c.wake.new.objects
+      c.self.inside.blocked.items c.wake.new.blocked.items c.args.pid c.in_ok-item.item (steps c);
+  programs = stepped_programs c.self.inside.library c.self.inside.processes.items c.wake.new.processes.items c.self.inside.objects c.wake.new.objects
+      c.self.inside.blocked.items c.wake.new.blocked.items c.args.pid c.in_ok-item.item (steps c) c.self.invariant.programs;
 }
 
 -- ---- a local instruction, behind which nothing is due
@@ -46,20 +48,27 @@ pub returns-then-is_local-clause-ran : goal.returns-then-is_local-clause-ran
 returns-then-is_local-clause-ran c =
     let local : is_local c.in_ok-item.item ≡ true = sym c.is_local.ensures ∙ c.if-is_local.true in
     rw (← c.self.view_is)
-    (takes_local c.self.inside.library c.self.inside.processes.items c.self.inside.objects c.self.inside.blocked.items c.args.pid c.act_for.new.processes.items c.act_for.new.objects c.act_for.new.blocked.items c.in_ok-item.item local
+    (takes_local c.self.inside.library c.self.inside.processes.items c.self.inside.objects c.self.inside.blocked.items c.args.pid
+    c.act_for.new.processes.items c.act_for.new.objects c.act_for.new.blocked.items c.in_ok-item.item local
     c.in_ok-item.ensures.acts (c.in_ok-item.ensures.quiet local c.self.invariant.awake))
 
 pub invariant_of-self-then-is_local : goal.invariant_of-self-then-is_local
 invariant_of-self-then-is_local c =
     let local : is_local c.in_ok-item.item ≡ true = sym c.is_local.ensures ∙ c.if-is_local.true in
-    let taken : TakesStep (lab_value c.self.inside.library c.self.inside.processes.items c.self.inside.objects c.self.inside.blocked.items) c.args.pid (lab_value c.self.inside.library c.act_for.new.processes.items c.act_for.new.objects c.act_for.new.blocked.items) c.in_ok-item.item
-    = takes_local c.self.inside.library c.self.inside.processes.items c.self.inside.objects c.self.inside.blocked.items c.args.pid c.act_for.new.processes.items c.act_for.new.objects c.act_for.new.blocked.items c.in_ok-item.item local
+    let taken : TakesStep (lab_value c.self.inside.library c.self.inside.processes.items c.self.inside.objects c.self.inside.blocked.items) c.args.pid
+    (lab_value c.self.inside.library c.act_for.new.processes.items c.act_for.new.objects c.act_for.new.blocked.items) c.in_ok-item.item
+    = takes_local c.self.inside.library c.self.inside.processes.items c.self.inside.objects c.self.inside.blocked.items c.args.pid
+    c.act_for.new.processes.items c.act_for.new.objects c.act_for.new.blocked.items c.in_ok-item.item local
     c.in_ok-item.ensures.acts (c.in_ok-item.ensures.quiet local c.self.invariant.awake) in
     record {
       lab = c.act_for.ensures.lab;
-      sound = stepped_sound c.self.inside.library c.self.inside.processes.items c.act_for.new.processes.items c.self.inside.objects c.act_for.new.objects c.self.inside.blocked.items c.act_for.new.blocked.items c.args.pid c.in_ok-item.item taken c.self.invariant.sound;
-      are_blocked = subst (λ (ks : List ℕ). AreBlocked c.act_for.new.processes.items ks) (local_list c.args.pid c.in_ok-item.item c.act_for.new.blocked.items local) c.in_ok-item.ensures.list;
+      sound = stepped_sound c.self.inside.library c.self.inside.processes.items c.act_for.new.processes.items c.self.inside.objects c.act_for.new.objects
+          c.self.inside.blocked.items c.act_for.new.blocked.items c.args.pid c.in_ok-item.item taken c.self.invariant.sound;
+      are_blocked = subst (λ (ks : List ℕ). AreBlocked c.act_for.new.processes.items ks)
+          (local_list c.args.pid c.in_ok-item.item c.act_for.new.blocked.items local) c.in_ok-item.ensures.list;
       room = c.act_for.ensures.room;
-      awake = stepped_awake c.self.inside.library c.self.inside.processes.items c.act_for.new.processes.items c.self.inside.objects c.act_for.new.objects c.self.inside.blocked.items c.act_for.new.blocked.items c.args.pid c.in_ok-item.item taken;
-      programs = stepped_programs c.self.inside.library c.self.inside.processes.items c.act_for.new.processes.items c.self.inside.objects c.act_for.new.objects c.self.inside.blocked.items c.act_for.new.blocked.items c.args.pid c.in_ok-item.item taken c.self.invariant.programs;
+      awake = stepped_awake c.self.inside.library c.self.inside.processes.items c.act_for.new.processes.items c.self.inside.objects c.act_for.new.objects
+          c.self.inside.blocked.items c.act_for.new.blocked.items c.args.pid c.in_ok-item.item taken;
+      programs = stepped_programs c.self.inside.library c.self.inside.processes.items c.act_for.new.processes.items c.self.inside.objects
+          c.act_for.new.objects c.self.inside.blocked.items c.act_for.new.blocked.items c.args.pid c.in_ok-item.item taken c.self.invariant.programs;
     }

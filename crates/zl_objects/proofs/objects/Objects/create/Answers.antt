@@ -4,4 +4,7 @@ use Rattle.zl_objects.proofs.Kept.{inserted_kept}
 use Rattle.zl_objects.proofs.objects.Objects.create.Goals as goal
 
 pub invariant_of-self-2 : goal.invariant_of-self-2
-invariant_of-self-2 c = inserted_kept c.self.inside.by_koid.entries c.insert.new.self.entries c.self.inside.next_koid (vec_capacity c.self.inside.dying) (vec_capacity c.reserve.new.self) c.self.inside.dying.items c.reserve.new.self.items _ c.self.invariant c.requires.alone c.requires.unreserved (ap (λ (s : SignalState). s.waits) c.new.ensures) c.reserve.ensures.items (omega (arith, c.in_ok-reserve.ensures.ok, c.len.ensures.len)) c.in_ok-insert.ensures.entries
+invariant_of-self-2 c = inserted_kept c.self.inside.by_koid.entries c.insert.new.self.entries c.self.inside.next_koid (vec_capacity c.self.inside.dying)
+    (vec_capacity c.reserve.new.self) c.self.inside.dying.items c.reserve.new.self.items _ c.self.invariant c.requires.alone c.requires.unreserved
+    (ap (λ (s : SignalState). s.waits) c.new.ensures) c.reserve.ensures.items (omega (arith, c.in_ok-reserve.ensures.ok, c.len.ensures.len))
+    c.in_ok-insert.ensures.entries

@@ -53,6 +53,7 @@ pub ends_legal : (lib : Library) (w : World) (turns : List ℕ) (limit : ℕ) (i
 ends_legal lib w turns limit items w2 end.Schedule follows = follows_legal lib w turns items w2 follows
 ends_legal lib w turns limit items w2 end.Limit stops = follows_legal lib w stops.0.taken items w2 stops.0.follows
 ends_legal lib w turns limit items w2 end.Memory stops = follows_legal lib w stops.0.taken items w2 stops.0.follows
+ends_legal lib w turns limit items w2 end.Quiet never = absurd never
 
 -- ---- one step more
 

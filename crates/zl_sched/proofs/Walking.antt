@@ -97,6 +97,7 @@ module _ (s mid s2 : System) (ts us : List ℕ) (first : Walks s ts end.Schedule
       (subst (λ (lib : Library). Follows lib mid.lab.world us ys w2) first.adds.programs follows)
   ends_then end.Limit ys w2 stops = (stops_then ys w2 stops.0, omega (arith, stops.1, counts, first.adds.limit, first.room, length-append first.more ys))
   ends_then end.Memory ys w2 stops = (stops_then ys w2 stops.0, omega (arith, stops.1, counts, first.adds.limit, first.room, length-append first.more ys))
+  ends_then end.Quiet ys w2 never = absurd never
 
   pub walks_then : (e : End) → Walks mid us e s2 → Walks s (ts ++ us) e s2
   walks_then e second = record {
@@ -182,3 +183,4 @@ module _ (s mid s2 : System) (schedule : List (ℕ × ℕ)) (n : ℕ) (default :
       by_end end.Schedule early ts us xs w2 stops = absurd (early refl)
       by_end end.Limit early ts us xs w2 stops = (stops_more s.lab.programs s.lab.world w2 ts us xs stops.0, stops.1)
       by_end end.Memory early ts us xs w2 stops = (stops_more s.lab.programs s.lab.world w2 ts us xs stops.0, stops.1)
+      by_end end.Quiet early ts us xs w2 never = absurd never

@@ -31,8 +31,9 @@ pub record StopsBefore (lib : Library) (w : World) (turns : List ℕ) (items : L
   pub is_ready : IsTrue (is_process w2 is_ready next)
 
 -- Each end where it belongs: every turn was taken; or a turn of a ready process was next, with just as
--- many items as the limit; or with fewer, which is told as a want of memory.
+-- many items as the limit; or with fewer, which is told as a want of memory. No schedule ends by quiet.
 abbrev pub EndsBy : Library → World → List ℕ → ℕ → List TraceItem → World → End → Type 0
 EndsBy lib w turns limit items w2 end.Schedule = Follows lib w turns items w2
 EndsBy lib w turns limit items w2 end.Limit = StopsBefore lib w turns items w2 × (length items ≡ limit)
 EndsBy lib w turns limit items w2 end.Memory = StopsBefore lib w turns items w2 × (length items < limit)
+EndsBy lib w turns limit items w2 end.Quiet = ⊥

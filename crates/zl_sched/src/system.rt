@@ -31,17 +31,20 @@ pub enum Stepped {
     NoMemory,
 }
 
-/// How a run along a schedule ends.
+/// How a run along a schedule ends, or one on threads.
 ///
 /// Source: own profile.
 #[derive(Clone, Copy)]
 pub enum End {
     /// Every turn was taken.
     Schedule,
-    /// The trace is at its limit before a turn of a ready process.
+    /// The trace is at its limit before a turn of a ready process; on threads, it has less than two free
+    /// places.
     Limit,
     /// Memory was refused.
     Memory,
+    /// On threads alone: no process is ready.
+    Quiet,
 }
 
 /// A world, the trace of the steps that led to it from the world that its statements boot, and the

@@ -21,3 +21,9 @@ has_its_text : history_text history ((2, seen.Ended (pos 0)) ∷ []) end.Schedul
     ≡ codes "2 event_create OK\n2 run 1\n2 signal OK\n2 dup OK\n2 close OK\n2 close OK\n2 close OK\n2 process_exit ended 0\nprocess 2 ended 0\nend schedule\n"
 unfolding history_text digits
 has_its_text = refl
+
+-- Run on threads it has the same, but for its last line.
+has_its_quiet_text : history_text history ((2, seen.Ended (pos 0)) ∷ []) end.Quiet
+    ≡ codes "2 event_create OK\n2 run 1\n2 signal OK\n2 dup OK\n2 close OK\n2 close OK\n2 close OK\n2 process_exit ended 0\nprocess 2 ended 0\nend quiet\n"
+unfolding history_text digits
+has_its_quiet_text = refl

@@ -41,6 +41,7 @@ abbrev pub end_line : End → List ℕ
 end_line end.Schedule = codes "end schedule\n"
 end_line end.Limit = codes "end limit\n"
 end_line end.Memory = codes "end memory\n"
+end_line end.Quiet = codes "end quiet\n"
 
 -- the items in their order, then the processes with what each is in, then the end
 unfoldable pub history_text : List TraceItem → List (ℕ × ProcState) → End → List ℕ

@@ -23,12 +23,17 @@ pub fn push_item(text: &mut String, item: TraceItem) -> Result<(), AllocError>
 }
 
 // Part of each turn's line.
+#[tactic(auto, using(std::proofs::lemmas::Fmt::decimal_digit))]
 #[inline(always)]
 fn push_run(text: &mut String, pid: Pid, count: u32) -> Result<(), AllocError>
     ensures { OnOk result (string_bytes text.new
         ≡ string_bytes text.old ++ item_line (TraceItem.Run pid count)) }
 {
     push_number(text, pid)?;
+    if count == 1 {
+        // The item of a step, as one piece.
+        return text.push_str(" run 1\n");
+    }
     text.push_str(" run ")?;
     push_number(text, u64::from(count))?;
     text.push_str("\n")
@@ -98,5 +103,6 @@ pub fn push_end(text: &mut String, end: End) -> Result<(), AllocError>
         End::Schedule => "end schedule\n",
         End::Limit => "end limit\n",
         End::Memory => "end memory\n",
+        End::Quiet => "end quiet\n",
     })
 }

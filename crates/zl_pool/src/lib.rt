@@ -3,15 +3,13 @@
 //! It stands on `zl_sched`, for the system and what workers do to it, and on `zl_interp`, for turns and
 //! bursts. It promises of `run` that the system that it gives back goes on from the one that was handed
 //! in, or else `Mixed`; that `Quiet` comes only where it is idle, and `Limit` only where its trace has
-//! less than two free places. That its trace is a legal history, in which covered processes go well, is
-//! what the type of a system keeps. No clause says that `run` returns, that workers work at once, or that
-//! a burst runs while the lock is free: tests show these.
+//! less than two free places. That its trace is a legal history is what the type of a system keeps, and
+//! that covered processes go well in it `run` says. No clause says that `run` returns, that workers work at once, or that
+//! a burst runs while the lock is free: `zl_pool_tests` shows these.
 #![tactic(auto)]
 
 mod gate;
 mod pool;
-#[cfg(test)]
-mod tests;
 mod worker;
 
 pub use gate::{Direct, Gate};

@@ -1,6 +1,7 @@
 //! A run on worker threads.
 
 ghost use Rattle.zl_sched.specs.Opening.{opening_of};
+ghost use Rattle.zl_sched.specs.System.{AreSafe};
 ghost use Rattle.zl_pool.specs.Pool.{EndsRun};
 
 use crate::gate::Gate;
@@ -34,7 +35,9 @@ const BURST: u32 = 256;
 /// begins with the one that was handed in; where that isn't so the end is `Mixed`, and only there. Else
 /// it is `Quiet` where no process is ready and none is out, or `Limit` where the trace has less than two
 /// free places; that it is `NoMemory` only where memory was refused no clause says. A worker whose
-/// thread can't be started is missing.
+/// thread can't be started is missing. In its trace no process of a program that is listed as checked
+/// is answered BAD_HANDLE, WRONG_TYPE or ACCESS_DENIED, stuck or ended by a policy, and each keeps its
+/// budget, until somebody kills it.
 ///
 /// It may wait, and that it returns no clause says. Where a process is out as it begins and nobody hands
 /// in what it did, all workers wait for ever once the others have come to rest. Source: own profile.
@@ -44,13 +47,19 @@ pub fn run<R: Threads + Wait + Sync, G: Gate>(
     workers: u32,
     gate: &G,
 ) -> (System, RunEnd)
-    ensures { EndsRun (opening_of system) result.1 result.0 }
+    ensures end { EndsRun (opening_of system) result.1 result.0 }
+    ensures safe { AreSafe result.0 }
 {
-    let Ok(opening) = system.opening() else {
-        return (system, RunEnd::NoMemory);
+    let (after, end) = match system.opening() {
+        Ok(opening) => {
+            let after = run_all(rt, system, workers, gate);
+            let end = end_of(&opening, &after);
+            (after, end)
+        }
+        Err(_) => (system, RunEnd::NoMemory),
     };
-    let after = run_all(rt, system, workers, gate);
-    let end = end_of(&opening, &after);
+    // Its clause has what is promised of covered processes.
+    after.items();
     (after, end)
 }
 

@@ -5,5 +5,6 @@ pub mod RunOutput
 pub mod SoundWorlds
 pub mod Answering
 pub mod ReplayFound
+pub mod ThreadRuns
 pub mod RowsFiles
 pub mod ImageFindings

@@ -5,3 +5,4 @@ pub mod Replay
 pub mod Assembling
 pub mod Checking
 pub mod Files
+pub mod Running

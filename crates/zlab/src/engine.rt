@@ -176,7 +176,7 @@ fn cause_of_boot(cause: BootCause) -> Result<Cause, EngineFault>
     }
 }
 
-fn write_refusal<W: Write>(
+pub(crate) fn write_refusal<W: Write>(
     alloc: Global,
     writer: &mut W,
     fault: LineFault,
@@ -187,6 +187,7 @@ fn write_refusal<W: Write>(
     ensures err { OnErr result (AppendsBeginning (W.contents writer.old) (W.contents writer.new)
         (refused_line fault.line (cause_name fault.cause))) }
     ensures fault { IfErr result (λ fault. fault ≢ EngineFault.Read) }
+    ensures mixed { IfErr result (λ fault. fault ≢ EngineFault.Mixed) }
 {
     let mut line = String::new(alloc);
     push_refusal(&mut line, fault.line, fault.cause.name())?;

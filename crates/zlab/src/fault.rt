@@ -18,6 +18,9 @@ pub enum EngineFault {
     /// Memory was refused.
     #[error("out of memory")]
     NoMemory,
+    /// A run on threads gave back another system than the one that it was handed.
+    #[error("the run gave back another system")]
+    Mixed,
 }
 
 impl From<AllocError> for EngineFault {

@@ -8,4 +8,4 @@ mod replay;
 mod run;
 
 pub use replay::{explain_difference, explain_line};
-pub use run::explain_run;
+pub use run::{explain_run, explain_threads};

@@ -1,13 +1,18 @@
-//! The program: its command line, the trace of standard input or of two files, the replay of a
-//! trace, the assembler and the verifier over files, what standard error says, and its exit status.
+//! The program: its command line, the trace of standard input or of two files, that of a run on threads,
+//! the replay of a trace, the assembler and the verifier over files, what standard error says, and its
+//! exit status.
 //!
-//! It stands on `zl_sched` for a run along a schedule and on `zl_trace` for its text, on `zl_scenario` for
-//! what an input says, on `zl_command` for the command line, on `zl_hints` and `zl_asm` for what a person
-//! is told, on `zl_asm` for the assembler, on `zl_verify` for the verifier, on `zl_calls` for the world, on
-//! `zl_interp`, `zl_code`, `zl_rights` and `zl_lines` for what these speak of, and on `thiserror`. It
-//! promises, by the contracts of `step_engine`, `step_files_engine`, `replay_engine`, `asm_engine` and
-//! `check_engine`, that what is written is the answer to what was read.
+//! It stands on `zl_sched` for a run along a schedule, on `zl_pool` for one on threads and on `zl_trace` for
+//! its text, on `zl_scenario` for what an input says, on `zl_command` for the command line, on `zl_hints`
+//! and `zl_asm` for what a person is told, on `zl_asm` for the assembler, on `zl_verify` for the verifier,
+//! on `zl_calls` for the world, on `zl_interp`, `zl_code`, `zl_rights` and `zl_lines` for what these speak
+//! of, and on `thiserror`. It promises, by the contracts of `step_engine`, `step_files_engine`,
+//! `run_engine`, `replay_engine`, `asm_engine` and `check_engine`, that what is written is the answer to
+//! what was read. A run on threads may wait; all else returns.
 #![tactic(auto)]
+
+ghost use Rattle.std.specs.Prelude.{◌≤◌};
+ghost use Rattle.zl_code.specs.Common.{MOST_ITEMS};
 
 mod assembling;
 mod checking;
@@ -17,6 +22,7 @@ mod files;
 mod hints;
 mod input;
 mod replaying;
+mod running;
 mod text;
 mod told;
 
@@ -26,11 +32,14 @@ use engine::step_engine;
 use fault::{EngineFault, Verdict};
 use files::step_files_engine;
 use replaying::replay_engine;
+use running::run_engine;
 use std::alloc::AllocError;
 use std::fs::OpenFile;
 use std::os::unix::fs::MetadataExt;
 use std::process::ExitCode;
 use std::rt::{Env, Files};
+use std::sync::Wait;
+use std::thread::Threads;
 use std::{env, fs, io};
 use thiserror::Error;
 use told::Told;
@@ -80,7 +89,7 @@ fn main(rt: HostRuntime) -> ExitCode {
 
 /// Does what the words ask for. What standard error is to say beside the verdict or the failure is
 /// put into `hints`.
-fn run<R: AllocGlobal + Env + Files + Input + Print>(
+fn run<R: AllocGlobal + Env + Files + Input + Print + Threads + Wait + Sync>(
     rt: &R,
     hints: &mut String,
 ) -> Result<Verdict, Failure> {
@@ -100,6 +109,13 @@ fn run<R: AllocGlobal + Env + Files + Input + Print>(
         Ok(Task::Assemble { text, image }) => Ok(assemble(rt, hints, text, image)?),
         Ok(Task::Check { image }) => Ok(check(rt, hints, image)?),
         Ok(Task::Step { scenario, schedule }) => Ok(step_files(rt, hints, scenario, schedule)?),
+        Ok(
+            Task::Run {
+                scenario,
+                workers,
+                limit,
+            },
+        ) => Ok(run_threads(rt, hints, scenario, workers, limit)?),
         Ok(Task::Replay { scenario, trace }) => Ok(replay(rt, hints, scenario, trace)?),
         Err(fault) => {
             if fault == WordFault::Usage {
@@ -209,6 +225,35 @@ fn step_files<R: AllocGlobal + Files + Print>(
     ended
 }
 
+/// Runs the scenario in the file on so many threads, and answers on standard output.
+fn run_threads<R: AllocGlobal + Files + Print + Threads + Wait + Sync>(
+    rt: &R,
+    hints: &mut String,
+    scenario: &str,
+    workers: u32,
+    limit: u64,
+) -> Result<Verdict, EngineFault>
+    requires { limit ≤ MOST_ITEMS }
+{
+    let mut reader = Told::new(open(rt, hints, scenario)?);
+    let mut writer = Told::new(io::writer(rt));
+    let ended = run_engine(
+        rt,
+        rt.alloc(),
+        &mut reader,
+        &mut writer,
+        hints,
+        workers,
+        limit,
+    );
+    match &ended {
+        Err(EngineFault::Read) => explain_failure(hints, scenario, reader.reason()),
+        Err(EngineFault::Write) => explain_failure(hints, "standard output", writer.reason()),
+        _ => {}
+    }
+    ended
+}
+
 /// Replays the trace in one file from the scenario in the other, and answers on standard output.
 fn replay<R: AllocGlobal + Files + Print>(
     rt: &R,
@@ -270,7 +315,7 @@ fn all_words<R: AllocGlobal + Env>(rt: &R, hints: &mut String) -> Result<Vec<Str
 fn status_of(failure: &Failure) -> u8 {
     match failure {
         Failure::Words(WordFault::Usage) => 2,
-        Failure::Engine(EngineFault::Read | EngineFault::Write) => 3,
+        Failure::Engine(EngineFault::Read | EngineFault::Write | EngineFault::Mixed) => 3,
         Failure::Words(WordFault::NoMemory) | Failure::Engine(EngineFault::NoMemory) => 4,
     }
 }

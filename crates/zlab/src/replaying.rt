@@ -138,7 +138,7 @@ fn compare(alloc: Global, text: &[u8], front: &[u8]) -> Result<Replayed, EngineF
 
 /// The fault of reading where the scenario stands alone: the line of a schedule, if there is one, which
 /// is before the other fault.
-fn alone(schedule_line: Option<u64>, fault: Option<LineFault>) -> Option<LineFault>
+pub(crate) fn alone(schedule_line: Option<u64>, fault: Option<LineFault>) -> Option<LineFault>
     ensures { result ≡ fault_where_alone schedule_line fault }
 {
     match schedule_line {
@@ -151,7 +151,10 @@ fn alone(schedule_line: Option<u64>, fault: Option<LineFault>) -> Option<LineFau
 }
 
 /// The first fault of the scenario's statements, if they have one.
-fn statement_fault(alloc: Global, scenario: Scenario) -> Result<Option<LineFault>, EngineFault>
+pub(crate) fn statement_fault(
+    alloc: Global,
+    scenario: Scenario,
+) -> Result<Option<LineFault>, EngineFault>
     ensures found { IfOk result (λ found. IfSome found (IsStatementFault scenario.library
         scenario.boot.statements.items scenario.boot.limit scenario.lines.items)) }
     ensures none { IfOk result (λ found. IfNone found ((w : WorldValue)

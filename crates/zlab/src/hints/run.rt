@@ -1,4 +1,4 @@
-//! What standard error says of a run along a schedule.
+//! What standard error says of a run.
 
 use std::alloc::{AllocError, Global};
 use zl_asm::hints::Value::{Name, Number};
@@ -31,6 +31,21 @@ pub fn explain_run(
     if pushed.is_err() {
         hints.clear();
     }
+    explain_processes(hints, alloc, system);
+}
+
+/// Adds a line where the trace of a run on threads is full; one for each process that is stuck; and one
+/// where the run ended because nobody can go on.
+pub fn explain_threads(hints: &mut String, alloc: Global, system: &System, end: End) {
+    if matches!(end, End::Limit) && push_nearly_full(hints, system).is_err() {
+        hints.clear();
+    }
+    explain_processes(hints, alloc, system);
+}
+
+/// Adds a line for each process that is stuck, and one where nobody can go on.
+fn explain_processes(hints: &mut String, alloc: Global, system: &System) {
+    let world = system.world();
     for item in system.items() {
         if let TraceItem::Stuck { pid } = item {
             explain_process(hints, alloc, world, *pid);
@@ -39,6 +54,18 @@ pub fn explain_run(
     if system.idle() && push_blocked(hints, world).is_err() {
         hints.clear();
     }
+}
+
+/// Adds that the trace has no room for what a turn on threads may bring.
+fn push_nearly_full(hints: &mut String, system: &System) -> Result<(), AllocError> {
+    let count = system.items().len() as u64;
+    let limit = count.saturating_add(system.free());
+    let text = if limit < Boot::MOST_ITEMS {
+        "zlab: the trace has # of # items, and a turn may bring two; a larger --limit is for more\n"
+    } else {
+        "zlab: the trace has # of # items, a turn may bring two, and no trace has more\n"
+    };
+    push_text(hints, text, &[Number(count), Number(limit)])
 }
 
 /// Adds that the trace, of so many items, is full.

@@ -1,67 +1,21 @@
 -- What clap finds in the words that it takes for the program's commands.
-use Rattle.zl_command.proofs.Common.{◌≡◌, ◌∙◌, ◌&&◌, ◌||◌, Bool, true, false, not, cond, refl, sym, ap, true≢false, List, [], ◌∷◌, ◌++◌, ℕ, codes, Option, Some, None, IfSome, IsSome, is_some, Result, Err, Ok, IfErr, ◌⊎◌, inl, inr, subst, slice_get, find, option_and_then, unwrap_or, App, Shape, built, entered, filled, names_of, rows_at, with_index, fault_of, subcommand_of, IsErrAnd, FaultOf, MayAskForHelp, HasValue, HasValues, commands, needed}
+use Rattle.zl_command.proofs.Common.{◌≡◌, ◌∙◌, ◌&&◌, ◌||◌, Bool, true, false, not, cond, refl, sym, ap, true≢false, List, [], ◌∷◌, ℕ, codes, Option, Some, None}
+use Rattle.zl_command.proofs.Common.{IfSome, is_some, Result, Err, Ok, IfErr, ◌⊎◌, inl, inr, subst, slice_get, unwrap_or, App, Shape, built, entered, filled}
+use Rattle.zl_command.proofs.Common.{names_of, rows_at, with_index, fault_of, subcommand_of, IsErrAnd, FaultOf, MayAskForHelp, HasNumber, HasValue, HasValues}
+use Rattle.zl_command.proofs.Common.{commands, needed, numbered}
 use Rattle.std.proofs.Common.{option_map}
 use Rattle.std.specs.Option.{option_map_or}
 use Rattle.std.specs.Str.{bytes_eq}
 use Rattle.std.proofs.lemmas.Slice.Eq.{bytes_eq-Decides}
-use Rattle.clap.specs.Facts.{explicit_source}
-use Rattle.clap.specs.Walk.{Held, Row, Rule, Text, at_row, more_values, nothing_held, reading_by, rows_after, stop_after, used, with_values, without}
-use Rattle.clap.specs.Takes.{is_given}
+use Rattle.clap.specs.Walk.{Held, Row, Rule, Text, nothing_held, rows_after, stop_after, used}
 use Rattle.clap.specs.Kinds.{IsAmong, Kinds, check_kinds}
 use Rattle.clap.specs.declared.error.kind.ErrorKind.{ErrorKind}
 use Rattle.clap.specs.declared.error.kind.ErrorKind.TheVariants.{DisplayHelp, DisplayVersion, InvalidSubcommand, OutOfMemory}
 use Rattle.zl_command.specs.declared.command.WordFault.{WordFault}
 use Rattle.zl_command.specs.declared.command.WordFault.TheVariants.{NoMemory, Usage}
-use Rattle.clap.specs.Faults.{entered_fault, level_fault, other_fault}
-use Rattle.clap.specs.declared.parser.matches.ValueSource.TheVariants.{CommandLine}
-use Rattle.zl_command.proofs.WalkKeeps.{Each, KeepsRows, found_has, level_fits}
-
--- ---- rows with a value
-
-abbrev pub HasAny : List Text → Type 0
-HasAny [] = ⊥
-HasAny (value ∷ more) = Unit {0}
-
-abbrev pub IsFilled : Row → Type 0
-IsFilled row = HasAny row.values
-
-each_append : (xs ys : List Row) → Each IsFilled xs → Each IsFilled ys → Each IsFilled (xs ++ ys)
-each_append [] ys xs_are ys_are = ys_are
-each_append (x ∷ xs) ys xs_are ys_are = (xs_are.0, each_append xs ys xs_are.1 ys_are)
-
-at_row_filled : (id : Text) (change : Row → List Row) (missing : List Row) (rows : List Row) → ((r : Row) → IsFilled r → Each IsFilled (change r)) → Each IsFilled missing
-    → Each IsFilled rows → Each IsFilled (at_row id change missing rows)
-at_row_filled id change missing [] changed new filled = new
-at_row_filled id change missing (r ∷ rs) changed new filled = go (bytes_eq r.id id) (at_row_filled id change missing rs changed new filled.1)
-  where
-    go : (b : Bool) → Each IsFilled (at_row id change missing rs) → Each IsFilled (cond b (change r ++ rs) (r ∷ at_row id change missing rs))
-    go true later = each_append (change r) rs (changed r filled.0) filled.1
-    go false later = (filled.0, later)
-
-more_filled : (values more : List Text) → HasAny values → HasAny (values ++ more)
-more_filled [] more h = absurd h
-more_filled (v ∷ vs) more h = tt
-
--- a use of a word that must be there
-needed_keeps : (rules : List Rule) (again : Bool) (name : Text) (place : ℕ) → KeepsRows rules again IsFilled (with_index place (filled (needed name)))
-needed_keeps rules again name place [] rows e filled_rows = cc
-needed_keeps rules again name place (v ∷ vs) rows e filled_rows =
-    let a = with_index place (filled (needed name)) in
-    at_row_filled name (more_values CommandLine (v ∷ vs)) (with_values name (reading_by a) CommandLine (v ∷ vs) []) (without name rows) (λ r h. let both : IsFilled (record r { values = r.values ++ (v ∷ vs) }) × Unit {0} = (more_filled r.values (v ∷ vs) h, tt) in both) (tt, tt)
-    (at_row_filled name (λ _. []) [] rows (λ r h. tt) tt filled_rows)
-
--- what was given has a value
-given_first : (name : Text) (rows : List Row) → Each IsFilled rows → is_given name rows ≡ true → HasValue rows name
-given_first name rows filled_rows given = go (find (λ r. bytes_eq r.id name) rows) (λ row is. found_has IsFilled _ rows row filled_rows is) given
-  where
-    first : (values : List Text) → HasAny values → IsSome (slice_get values 0)
-    first [] h = absurd h
-    first (v ∷ vs) h = refl
-
-    go : (found : Option Row) → ((row : Row) → found ≡ Some row → IsFilled row) → option_map_or (λ r. explicit_source r.source) found false ≡ true
-        → IsSome (option_and_then (λ r. slice_get r.values 0) found)
-    go None filled_row e = absurd (true≢false (sym e))
-    go (Some row) filled_row e = first row.values (filled_row row refl)
+use Rattle.clap.specs.Faults.{check_fault, entered_fault, level_fault, other_fault}
+use Rattle.zl_command.proofs.WalkKeeps.{Each, KeepsRows, level_fits}
+use Rattle.zl_command.proofs.ValueRows.{IsFilled, IsNumberRow, given_first, given_number, needed_keeps, number_keeps, option_keeps, other_keeps}
 
 -- ---- the subcommand's level
 
@@ -80,8 +34,11 @@ step_shape = shape_at 2
 abbrev replay_shape : Shape
 replay_shape = shape_at 3
 
+abbrev run_shape : Shape
+run_shape = shape_at 4
+
 abbrev help_shape : Shape
-help_shape = shape_at 4
+help_shape = shape_at 5
 
 asm_filled : Each (KeepsRows asm_shape.rules asm_shape.args_override_self IsFilled) asm_shape.rules
 asm_filled = (needed_keeps asm_shape.rules asm_shape.args_override_self (codes "IN") 1, (needed_keeps asm_shape.rules asm_shape.args_override_self (codes "OUT") 2, ((λ values rows e filled_rows. filled_rows), tt)))
@@ -95,10 +52,55 @@ step_filled = (needed_keeps step_shape.rules step_shape.args_override_self (code
 replay_filled : Each (KeepsRows replay_shape.rules replay_shape.args_override_self IsFilled) replay_shape.rules
 replay_filled = (needed_keeps replay_shape.rules replay_shape.args_override_self (codes "SCENARIO") 1, (needed_keeps replay_shape.rules replay_shape.args_override_self (codes "TRACE") 2, ((λ values rows e filled_rows. filled_rows), tt)))
 
+abbrev scenario_rule : Rule
+scenario_rule = with_index 1 (filled (needed (codes "SCENARIO")))
+
+abbrev workers_rule : Rule
+workers_rule = with_index 2 (filled (numbered (codes "workers") 1 64))
+
+abbrev limit_rule : Rule
+limit_rule = with_index 2 (filled (numbered (codes "limit") 0 1000000))
+
+-- each argument of `run` keeps the fact of rows
+abbrev RunKeeps : (Row → Type 0) → Type 0
+RunKeeps R = Each (KeepsRows run_shape.rules run_shape.args_override_self R) run_shape.rules
+
+run_filled : RunKeeps IsFilled
+run_filled =
+    let rules = run_shape.rules in
+    let again = run_shape.args_override_self in
+    let workers = option_keeps rules again (codes "workers") 1 64 2 in
+    let limit = option_keeps rules again (codes "limit") 0 1000000 2 in
+    (needed_keeps rules again (codes "SCENARIO") 1, (workers, (limit, ((λ values rows e filled_rows. filled_rows), tt))))
+
+run_workers : RunKeeps (IsNumberRow (codes "workers") 1 64)
+run_workers =
+    let rules = run_shape.rules in
+    let again = run_shape.args_override_self in
+    let scenario = other_keeps rules again (codes "workers") 1 64 scenario_rule refl refl refl in
+    let workers = number_keeps rules again (codes "workers") 1 64 2 in
+    let limit = other_keeps rules again (codes "workers") 1 64 limit_rule refl refl refl in
+    (scenario, (workers, (limit, ((λ values rows e each. each), tt))))
+
+run_limit : RunKeeps (IsNumberRow (codes "limit") 0 1000000)
+run_limit =
+    let rules = run_shape.rules in
+    let again = run_shape.args_override_self in
+    let scenario = other_keeps rules again (codes "limit") 0 1000000 scenario_rule refl refl refl in
+    let workers = other_keeps rules again (codes "limit") 0 1000000 workers_rule refl refl refl in
+    let limit = number_keeps rules again (codes "limit") 0 1000000 2 in
+    (scenario, (workers, (limit, ((λ values rows e each. each), tt))))
+
 both_given : (a b : Bool) → check_kinds false false (not a || (not b || false)) ≡ [] → (a ≡ true) × (b ≡ true)
 both_given true true e = (refl, refl)
 both_given true false e = cc
 both_given false b e = cc
+
+three_given : (a b c : Bool) → check_kinds false false (not a || (not b || (not c || false))) ≡ [] → (a ≡ true) × (b ≡ true) × (c ≡ true)
+three_given true true true e = (refl, refl, refl)
+three_given true true false e = cc
+three_given true false c e = cc
+three_given false b c e = cc
 
 one_given : (a : Bool) → check_kinds false false (not a || false) ≡ [] → a ≡ true
 one_given true e = refl
@@ -126,6 +128,24 @@ replay_values words e =
     let end = level_fits replay_shape [] IsFilled replay_filled (λ _. Unit {0}) (λ name word h none. tt) words false [] (refl, (refl, (refl, tt))) e in
     let given = both_given _ _ end.3 in
     (given_first (codes "SCENARIO") _ end.0 given.0, given_first (codes "TRACE") _ end.0 given.1)
+
+-- what a level of `run` with no fault has of a fact of rows
+run_fits : (R : Row → Type 0) → RunKeeps R → (words : List Text) → level_fault run_shape [] nothing_held words false [] ≡ []
+    → Each R (rows_after run_shape.rules [] words) × (check_fault run_shape (rows_after run_shape.rules [] words) false ≡ [])
+run_fits R each words e =
+    let end = level_fits run_shape [] R each (λ _. Unit {0}) (λ name word h none. tt) words false [] (refl, (refl, (refl, (refl, tt)))) e in
+    (end.0, end.3)
+
+run_values : (words : List Text) → level_fault run_shape [] nothing_held words false [] ≡ [] → HasValue (rows_after run_shape.rules [] words) (codes "SCENARIO")
+    × HasNumber (rows_after run_shape.rules [] words) (codes "workers") 1 64 × HasNumber (rows_after run_shape.rules [] words) (codes "limit") 0 1000000
+run_values words e =
+    let filled_rows = run_fits IsFilled run_filled words e in
+    let given = three_given _ _ _ filled_rows.1 in
+    let workers = run_fits (IsNumberRow (codes "workers") 1 64) run_workers words e in
+    let limit = run_fits (IsNumberRow (codes "limit") 0 1000000) run_limit words e in
+    let workers_is = given_number (codes "workers") 1 64 _ workers.0 given.1 in
+    let limit_is = given_number (codes "limit") 0 1000000 _ limit.0 given.2 in
+    (given_first (codes "SCENARIO") _ filled_rows.0 given.0, workers_is, limit_is)
 
 -- ---- the program's level
 
@@ -158,28 +178,39 @@ any_row : (rules : List Rule) (again : Bool) (all : List Rule) → Each (KeepsRo
 any_row rules again [] = tt
 any_row rules again (a ∷ rest) = ((λ values rows e r. no_fact (used a values rows)), any_row rules again rest)
 
-abbrev found_shape : (is_asm is_check is_step is_replay is_help : Bool) → Option Shape
-found_shape is_asm is_check is_step is_replay is_help = cond is_asm (Some asm_shape) (cond is_check (Some check_shape) (cond is_step (Some step_shape) (cond is_replay (Some replay_shape) (cond is_help (Some help_shape) None))))
+abbrev found_shape : (is_asm is_check is_step is_replay is_run is_help : Bool) → Option Shape
+found_shape is_asm is_check is_step is_replay is_run is_help =
+    let others = cond is_replay (Some replay_shape) (cond is_run (Some run_shape) (cond is_help (Some help_shape) None)) in
+    cond is_asm (Some asm_shape) (cond is_check (Some check_shape) (cond is_step (Some step_shape) others))
 
-entered_values : (stop : Option (Text × List Text)) → IfSome stop (λ p. IsNoHelp p.0) → entered_fault (built commands) stop ≡ [] → HasValues (entered (built commands) stop)
+abbrev names : Text → Text → Bool
+names word name = bytes_eq name word || false
+
+entered_values : (stop : Option (Text × List Text)) → IfSome stop (λ p. IsNoHelp p.0) → entered_fault (built commands) stop ≡ []
+    → HasValues (entered (built commands) stop)
 entered_values None named e = tt
-entered_values (Some p) named e = go (bytes_eq (codes "asm") p.0 || false) (bytes_eq (codes "check") p.0 || false) (bytes_eq (codes "step") p.0 || false) (bytes_eq (codes "replay") p.0 || false) (bytes_eq (codes "help") p.0 || false) named e
+entered_values (Some p) named e =
+    let asm = names p.0 (codes "asm") in
+    go asm (names p.0 (codes "check")) (names p.0 (codes "step")) (names p.0 (codes "replay")) (names p.0 (codes "run")) (names p.0 (codes "help")) named e
   where
-    go : (is_asm is_check is_step is_replay is_help : Bool) → is_help ≡ false
-        → option_map_or (λ s. level_fault s [] nothing_held p.1 false []) (found_shape is_asm is_check is_step is_replay is_help) [] ≡ []
-        → HasValues (option_map (λ s. rows_at s p.1) (found_shape is_asm is_check is_step is_replay is_help))
-    go true is_check is_step is_replay is_help none e =
+    go : (is_asm is_check is_step is_replay is_run is_help : Bool) → is_help ≡ false
+        → option_map_or (λ s. level_fault s [] nothing_held p.1 false []) (found_shape is_asm is_check is_step is_replay is_run is_help) [] ≡ []
+        → HasValues (option_map (λ s. rows_at s p.1) (found_shape is_asm is_check is_step is_replay is_run is_help))
+    go true is_check is_step is_replay is_run is_help none e =
         let values = asm_values p.1 e in
         inl (refl, values.0, values.1)
-    go false true is_step is_replay is_help none e = inr (inl (refl, check_values p.1 e))
-    go false false true is_replay is_help none e =
+    go false true is_step is_replay is_run is_help none e = inr (inl (refl, check_values p.1 e))
+    go false false true is_replay is_run is_help none e =
         let values = step_values p.1 e in
         inr (inr (inl (refl, values.0, values.1)))
-    go false false false true is_help none e =
+    go false false false true is_run is_help none e =
         let values = replay_values p.1 e in
-        inr (inr (inr (refl, values.0, values.1)))
-    go false false false false true none e = absurd (true≢false none)
-    go false false false false false none e = tt
+        inr (inr (inr (inl (refl, values.0, values.1))))
+    go false false false false true is_help none e =
+        let values = run_values p.1 e in
+        inr (inr (inr (inr (refl, values.0, values.1, values.2))))
+    go false false false false false true none e = absurd (true≢false none)
+    go false false false false false false none e = tt
 
 -- where clap finds no fault, a subcommand that it finds has its values
 pub found_values : (words : List Text) → fault_of commands words ≡ [] → HasValues (subcommand_of commands words)

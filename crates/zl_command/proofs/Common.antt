@@ -3,5 +3,7 @@ pub use Rattle.std.proofs.Common.{ap, ap₂, cond, inl, inr, refl, subst, sym, t
 pub use Rattle.std.specs.List.{find}
 pub use Rattle.clap.specs.Simple.{App, Shape, app_of_fields, built, entered, filled, names_of, on_top, rows_at, with_index}
 pub use Rattle.clap.specs.Words.{Text, app_of, fault_of, first_of, found_of, is_simple, is_simple_and_free, subcommand_of, takes, with_rule, with_subcommand}
-pub use Rattle.std.specs.Prelude.{Bool, Err, IfErr, IfSome, IsErrAnd, IsSome, List, None, Ok, Option, Result, Some, [], codes, drop, encode_utf8, false, fold, is_some, length, map, not, option_and_then, slice_get, suc, true, unwrap_or, zero, ℕ, ◌&&◌, ◌++◌, ◌||◌, ◌∷◌, ◌≡◌, ◌⊎◌}
-pub use Rattle.zl_command.specs.Words.{FaultOf, HasValue, HasValues, MayAskForHelp, assembling, checking, commands, needed, program, replaying, stepping}
+pub use Rattle.std.specs.Prelude.{Bool, Err, IfErr, IfSome, IsErrAnd, IsSome, List, None, Ok, Option, Result, Some, [], codes, drop, encode_utf8, false, fold}
+pub use Rattle.std.specs.Prelude.{is_some, length, map, not, option_and_then, slice_get, suc, true, unwrap_or, zero, ℕ, ◌&&◌, ◌++◌, ◌||◌, ◌∷◌, ◌≡◌, ◌⊎◌}
+pub use Rattle.zl_command.specs.Words.{FaultOf, HasNumber, HasValue, HasValues, MayAskForHelp, assembling, checking, commands, needed, number, number_of}
+pub use Rattle.zl_command.specs.Words.{numbered, program, replaying, running, stepping}

@@ -1,4 +1,5 @@
 pub mod Common
 pub mod WalkKeeps
+pub mod ValueRows
 pub mod CommandLine
 pub mod RowsWords

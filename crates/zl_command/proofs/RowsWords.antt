@@ -1,5 +1,6 @@
 -- Command lines, as clap's definitions read them.
-use Rattle.zl_command.proofs.Common.{◌≡◌, refl, true, [], ◌∷◌, List, Option, Some, None, codes, Text, fault_of, first_of, is_simple_and_free, subcommand_of, takes, commands}
+use Rattle.zl_command.proofs.Common.{◌≡◌, refl, true, [], ◌∷◌, List, Option, Some, None, codes, Text, fault_of, first_of, is_simple_and_free, subcommand_of}
+use Rattle.zl_command.proofs.Common.{takes, commands, ℕ, number_of}
 use Rattle.std.proofs.Common.{option_map}
 use Rattle.clap.specs.declared.error.kind.ErrorKind.TheVariants as kind
 use Rattle.clap.proofs.OnLiterals.{clap_on_literals}
@@ -15,6 +16,17 @@ turns words = option_map (λ found. (found.0, first_of (codes "SCENARIO") found.
 
 abbrev history : List Text → Option (Text × Option Text × Option Text)
 history words = option_map (λ found. (found.0, first_of (codes "SCENARIO") found.1, first_of (codes "TRACE") found.1)) (subcommand_of commands words)
+
+abbrev threads : List Text → Option (Text × Option Text × Option ℕ × Option ℕ)
+threads words = option_map (λ found. (found.0, first_of (codes "SCENARIO") found.1, number_of (codes "workers") found.1, number_of (codes "limit") found.1))
+    (subcommand_of commands words)
+
+abbrev with_both : Text → Text → List Text
+with_both workers limit = codes "run" ∷ codes "a" ∷ codes "--workers" ∷ workers ∷ codes "--limit" ∷ limit ∷ []
+
+-- the words are taken, for a run of the scenario `a` on so many threads up to this limit
+abbrev Runs : List Text → ℕ → ℕ → Type 0
+Runs words workers limit = (takes commands words ≡ true) × (threads words ≡ Some (codes "run", Some (codes "a"), Some workers, Some limit))
 
 clap_defines_them : is_simple_and_free commands ≡ true
 clap_defines_them = refl
@@ -63,9 +75,9 @@ two_schedules : fault_of commands (codes "step" ∷ codes "a" ∷ codes "b" ∷ 
 unfolding clap_on_literals
 two_schedules = refl
 
-not_built : fault_of commands (codes "run" ∷ codes "a" ∷ []) ≡ kind.UnknownArgument ∷ kind.InvalidSubcommand ∷ []
+an_unknown_word : fault_of commands (codes "walk" ∷ codes "a" ∷ []) ≡ kind.UnknownArgument ∷ kind.InvalidSubcommand ∷ []
 unfolding clap_on_literals
-not_built = refl
+an_unknown_word = refl
 
 asks_help : (fault_of commands (codes "--help" ∷ []) ≡ kind.DisplayHelp ∷ []) × (fault_of commands (codes "asm" ∷ codes "-h" ∷ []) ≡ kind.DisplayHelp ∷ [])
 unfolding clap_on_literals
@@ -82,3 +94,75 @@ a_trace = refl
 no_trace : fault_of commands (codes "replay" ∷ codes "a" ∷ []) ≡ kind.MissingRequiredArgument ∷ []
 unfolding clap_on_literals
 no_trace = refl
+
+on_threads : Runs (with_both (codes "4") (codes "1000")) 4 1000
+unfolding clap_on_literals
+on_threads = (refl, refl)
+
+limit_first : Runs (codes "run" ∷ codes "--limit" ∷ codes "1000" ∷ codes "--workers" ∷ codes "4" ∷ codes "a" ∷ []) 4 1000
+unfolding clap_on_literals
+limit_first = (refl, refl)
+
+behind_equals_signs : Runs (codes "run" ∷ codes "--workers=4" ∷ codes "a" ∷ codes "--limit=1000" ∷ []) 4 1000
+unfolding clap_on_literals
+behind_equals_signs = (refl, refl)
+
+the_least : Runs (with_both (codes "1") (codes "0")) 1 0
+unfolding clap_on_literals
+the_least = (refl, refl)
+
+the_most : Runs (with_both (codes "64") (codes "1000000")) 64 1000000
+unfolding clap_on_literals
+the_most = (refl, refl)
+
+a_plus_and_zeros : Runs (with_both (codes "+4") (codes "007")) 4 7
+unfolding clap_on_literals
+a_plus_and_zeros = (refl, refl)
+
+no_thread : fault_of commands (with_both (codes "0") (codes "1000")) ≡ kind.ValueValidation ∷ []
+unfolding clap_on_literals
+no_thread = refl
+
+one_thread_too_many : fault_of commands (with_both (codes "65") (codes "1000")) ≡ kind.ValueValidation ∷ []
+unfolding clap_on_literals
+one_thread_too_many = refl
+
+one_item_too_many : fault_of commands (with_both (codes "4") (codes "1000001")) ≡ kind.ValueValidation ∷ []
+unfolding clap_on_literals
+one_item_too_many = refl
+
+no_number : (fault_of commands (with_both (codes "four") (codes "1000")) ≡ kind.ValueValidation ∷ [])
+    × (fault_of commands (with_both (codes "4") []) ≡ kind.ValueValidation ∷ [])
+unfolding clap_on_literals
+no_number = (refl, refl)
+
+no_value : fault_of commands (codes "run" ∷ codes "a" ∷ codes "--limit" ∷ codes "1000" ∷ codes "--workers" ∷ []) ≡ kind.InvalidValue ∷ []
+unfolding clap_on_literals
+no_value = refl
+
+no_workers : fault_of commands (codes "run" ∷ codes "a" ∷ codes "--limit" ∷ codes "1000" ∷ []) ≡ kind.MissingRequiredArgument ∷ []
+unfolding clap_on_literals
+no_workers = refl
+
+no_limit : fault_of commands (codes "run" ∷ codes "a" ∷ codes "--workers" ∷ codes "4" ∷ []) ≡ kind.MissingRequiredArgument ∷ []
+unfolding clap_on_literals
+no_limit = refl
+
+workers_twice : fault_of commands (codes "run" ∷ codes "a" ∷ codes "--workers" ∷ codes "4" ∷ codes "--limit" ∷ codes "1000" ∷ codes "--workers=4" ∷ [])
+    ≡ kind.ArgumentConflict ∷ []
+unfolding clap_on_literals
+workers_twice = refl
+
+limit_twice : fault_of commands (codes "run" ∷ codes "a" ∷ codes "--workers" ∷ codes "4" ∷ codes "--limit" ∷ codes "1000" ∷ codes "--limit=9" ∷ [])
+    ≡ kind.ArgumentConflict ∷ []
+unfolding clap_on_literals
+limit_twice = refl
+
+no_scenario : fault_of commands (codes "run" ∷ codes "--workers" ∷ codes "4" ∷ codes "--limit" ∷ codes "1000" ∷ []) ≡ kind.MissingRequiredArgument ∷ []
+unfolding clap_on_literals
+no_scenario = refl
+
+two_scenarios : fault_of commands (codes "run" ∷ codes "a" ∷ codes "b" ∷ codes "--workers" ∷ codes "4" ∷ codes "--limit" ∷ codes "1000" ∷ [])
+    ≡ kind.UnknownArgument ∷ []
+unfolding clap_on_literals
+two_scenarios = refl

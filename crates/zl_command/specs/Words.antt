@@ -1,16 +1,27 @@
 -- The command line: the command set as `clap` defines one, and what its words ask for.
-use Rattle.std.specs.Prelude.{◌≡◌, ◌⊎◌, true, codes, Option, Some, None, IsSome, List, [], ◌∷◌, fold}
-use Rattle.clap.specs.Words.{App, IsAmong, Kinds, Row, Rule, Text, first_of, new_app, new_rule, with_rule, with_subcommand}
+use Rattle.std.specs.Prelude.{◌≡◌, ◌≤◌, ◌⊎◌, true, codes, Option, Some, None, IsSome, IsSomeAnd, option_and_then, ℕ, List, [], ◌∷◌, fold, if◌then◌else◌}
+use Rattle.std.specs.Str.Parse.{digits_value, without_leading_plus}
+use Rattle.clap.specs.ValueTests.{is_numeral}
+use Rattle.clap.specs.Words.{App, IsAmong, Kinds, Row, Rule, Text, first_of, new_app, new_rule, one_of, with_rule, with_subcommand}
+use Rattle.clap.specs.declared.builder.value_parser.ValueParser.TheVariants.{Unsigned}
 use Rattle.clap.specs.declared.error.kind.ErrorKind.{ErrorKind}
 use Rattle.clap.specs.declared.error.kind.ErrorKind.TheVariants.{DisplayHelp, DisplayVersion, OutOfMemory}
 use Rattle.zl_command.specs.declared.command.Task.{Task}
-use Rattle.zl_command.specs.declared.command.Task.TheVariants.{Assemble, Check, Input, Step, Replay}
+use Rattle.zl_command.specs.declared.command.Task.TheVariants.{Assemble, Check, Input, Step, Replay, Run}
 use Rattle.zl_command.specs.declared.command.WordFault.{WordFault}
 use Rattle.zl_command.specs.declared.command.WordFault.TheVariants.{Usage, NoMemory}
 
 -- a word that must be there, told by its place
 abbrev pub needed : Text → Rule
 needed word = record (new_rule word) { required = true }
+
+-- an option that must be there, whose value is a number from least to most
+abbrev pub numbered : Text → ℕ → ℕ → Rule
+numbered word least most = record (needed word) {
+  long = Some word;
+  value_names = 1;
+  parser = Some (Unsigned least most);
+}
 
 -- a command of this name, whose words must all be there
 abbrev pub command_of : Text → List Text → App
@@ -39,13 +50,29 @@ stepping = command_of (codes "step") (codes "SCENARIO" ∷ codes "SCHEDULE" ∷ 
 abbrev pub replaying : App
 replaying = command_of (codes "replay") (codes "SCENARIO" ∷ codes "TRACE" ∷ [])
 
+-- run SCENARIO --workers N --limit M
+abbrev pub running : App
+running = with_rule (with_rule (command_of (codes "run") (codes "SCENARIO" ∷ [])) (numbered (codes "workers") 1 64)) (numbered (codes "limit") 0 1000000)
+
 -- the command set: no words, or those of one of the commands
 abbrev pub commands : App
-commands = with_subcommand (with_subcommand (with_subcommand (with_subcommand program assembling.top) checking.top) stepping.top) replaying.top
+commands = fold (λ made command. with_subcommand made command.top) program (assembling ∷ checking ∷ stepping ∷ replaying ∷ running ∷ [])
 
 -- clap finds a value of this name
 abbrev pub HasValue : List Row → Text → Type 0
 HasValue rows name = IsSome (first_of name rows)
+
+-- the number that a text has in decimal digits, where a + may stand first
+abbrev pub number : Text → Option ℕ
+number text = if is_numeral (without_leading_plus text) then Some (digits_value 10 (without_leading_plus text)) else None
+
+-- the number that clap reads of this name
+abbrev pub number_of : Text → List Row → Option ℕ
+number_of name rows = option_and_then number (one_of name rows)
+
+-- clap reads a number of this name, from least to most
+abbrev pub HasNumber : List Row → Text → ℕ → ℕ → Type 0
+HasNumber rows name least most = IsSomeAnd (number_of name rows) (λ n. (least ≤ n) × (n ≤ most))
 
 -- the command of this name has its values
 abbrev pub HasItsValues : Text → List Row → Type 0
@@ -53,7 +80,8 @@ HasItsValues name rows =
     ((name ≡ codes "asm") × HasValue rows (codes "IN") × HasValue rows (codes "OUT"))
     ⊎ (((name ≡ codes "check") × HasValue rows (codes "IMAGE"))
     ⊎ (((name ≡ codes "step") × HasValue rows (codes "SCENARIO") × HasValue rows (codes "SCHEDULE"))
-    ⊎ ((name ≡ codes "replay") × HasValue rows (codes "SCENARIO") × HasValue rows (codes "TRACE"))))
+    ⊎ (((name ≡ codes "replay") × HasValue rows (codes "SCENARIO") × HasValue rows (codes "TRACE"))
+    ⊎ ((name ≡ codes "run") × HasValue rows (codes "SCENARIO") × HasNumber rows (codes "workers") 1 64 × HasNumber rows (codes "limit") 0 1000000))))
 
 -- clap finds no subcommand, or one of the command set with its values
 abbrev pub HasValues : Option (Text × List Row) → Type 0
@@ -74,6 +102,10 @@ AsksFor (Some found) (Step scenario schedule) = (found.0 ≡ codes "step")
 AsksFor (Some found) (Replay scenario trace) = (found.0 ≡ codes "replay")
     × (first_of (codes "SCENARIO") found.1 ≡ Some scenario.now)
     × (first_of (codes "TRACE") found.1 ≡ Some trace.now)
+AsksFor (Some found) (Run scenario workers limit) = (found.0 ≡ codes "run")
+    × (first_of (codes "SCENARIO") found.1 ≡ Some scenario.now)
+    × (number_of (codes "workers") found.1 ≡ Some workers) × (1 ≤ workers) × (workers ≤ 64)
+    × (number_of (codes "limit") found.1 ≡ Some limit) × (limit ≤ 1000000)
 AsksFor _ _ = ⊥
 
 -- what an error of clap is to the program

@@ -1,12 +1,14 @@
 //! The command line, read with `clap`: what its words ask for, and its help.
-ghost use Rattle.std.specs.Prelude.{◌≡◌, ◌≢◌, Some, IsSome, IfOk, IfErr, map, false, [], ◌∷◌};
+ghost use Rattle.std.specs.Prelude.{◌≡◌, ◌≢◌, ◌≤◌, Some, IsSome, IfOk, IfErr, map, codes, false, [], ◌∷◌};
 ghost use Rattle.clap.specs.Takes.{takes};
 ghost use Rattle.clap.specs.Words.{app_of, fault_of, first_of, found_of, kind_of, rows_of, rule_of, subcommand_of, subcommand_rows_of};
-ghost use Rattle.zl_command.specs.Words.{AsksFor, FaultOf, HasItsValues, HasValue, HasValues, MayAskForHelp, assembling, checking, commands, needed, replaying, stepping};
+ghost use Rattle.zl_command.specs.Words.{AsksFor, FaultOf, HasItsValues, HasNumber, HasValue, HasValues, MayAskForHelp, commands, needed, number_of};
+ghost use Rattle.zl_command.specs.Words.{assembling, checking, replaying, running, stepping};
 ghost use Rattle.zl_command.specs.declared.command.WordFault.TheVariants.{NoMemory, Usage};
 
 mod texts;
 
+use clap::builder::ValueParser;
 use clap::error::ErrorKind;
 use clap::{Arg, ArgMatches, Command};
 use std::alloc::{AllocError, Global};
@@ -43,6 +45,16 @@ pub enum Task<'a> {
         scenario: &'a str,
         /// The path of the trace.
         trace: &'a str,
+    },
+    /// `run SCENARIO --workers N --limit M`: a scenario runs on so many threads, and its trace is
+    /// written.
+    Run {
+        /// The path of the scenario.
+        scenario: &'a str,
+        /// How many threads, 1 to 64.
+        workers: u32,
+        /// How many items the trace has at most, 0 to 1,000,000.
+        limit: u64,
     },
 }
 
@@ -123,6 +135,12 @@ fn task_of_command<'a>(name: &str, values: &ArgMatches<'a>) -> Task<'a>
             scenario: value(values, "SCENARIO"),
             trace: value(values, "TRACE"),
         }
+    } else if name == "run" {
+        Task::Run {
+            scenario: value(values, "SCENARIO"),
+            workers: workers(values),
+            limit: limit(values),
+        }
     } else {
         Task::Check {
             image: value(values, "IMAGE"),
@@ -138,6 +156,24 @@ fn value<'a>(matches: &ArgMatches<'a>, name: &str) -> &'a str
     matches.get_str(name).unwrap()
 }
 
+/// The number of threads, which `run` can't be without.
+fn workers<'a>(matches: &ArgMatches<'a>) -> u32
+    requires { HasNumber (rows_of (found_of matches.now)) (codes "workers") 1 64 }
+    ensures value { number_of (codes "workers") (rows_of (found_of matches.now)) ≡ Some result }
+    ensures within { (1 ≤ result) × (result ≤ 64) }
+{
+    matches.get_one("workers").unwrap()
+}
+
+/// The limit of the trace, which `run` can't be without.
+fn limit<'a>(matches: &ArgMatches<'a>) -> u64
+    requires { HasNumber (rows_of (found_of matches.now)) (codes "limit") 0 1000000 }
+    ensures value { number_of (codes "limit") (rows_of (found_of matches.now)) ≡ Some result }
+    ensures within { result ≤ 1000000 }
+{
+    matches.get_one("limit").unwrap()
+}
+
 /// The command set, with what the help says of it.
 fn command<'a>(alloc: Global) -> Result<Command<'a>, AllocError>
     ensures { IfOk result (λ made. app_of made ≡ commands) }
@@ -151,7 +187,8 @@ fn command<'a>(alloc: Global) -> Result<Command<'a>, AllocError>
         .subcommand(assembling(alloc)?)?
         .subcommand(checking(alloc)?)?
         .subcommand(stepping(alloc)?)?
-        .subcommand(replaying(alloc)?)
+        .subcommand(replaying(alloc)?)?
+        .subcommand(running(alloc)?)
 }
 
 fn assembling<'a>(alloc: Global) -> Result<Command<'a>, AllocError>
@@ -189,6 +226,24 @@ fn replaying<'a>(alloc: Global) -> Result<Command<'a>, AllocError>
         )
         .arg(needed(alloc, "SCENARIO", "The file of the scenario"))?
         .arg(needed(alloc, "TRACE", "The file of the trace"))
+}
+
+fn running<'a>(alloc: Global) -> Result<Command<'a>, AllocError>
+    ensures { IfOk result (λ made. app_of made ≡ running) }
+{
+    let workers = needed(alloc, "workers", "The number of threads, 1 to 64")
+        .long("workers")
+        .value_name("N")
+        .value_parser(ValueParser::unsigned(1, 64));
+    let limit = needed(alloc, "limit", "The most items of the trace, 0 to 1000000")
+        .long("limit")
+        .value_name("M")
+        .value_parser(ValueParser::unsigned(0, 1_000_000));
+    Command::new(alloc, "run")
+        .about("Runs the scenario in the file SCENARIO on N threads")
+        .arg(needed(alloc, "SCENARIO", "The file of the scenario"))?
+        .arg(workers)?
+        .arg(limit)
 }
 
 /// A word that must be there.

@@ -1,4 +1,5 @@
-use Rattle.zl_command.proofs.Common.{ap, ◌≡◌, ◌∙◌, true, ap₂, app_of, with_subcommand, app_of_fields, on_top, assembling, checking, program, replaying, stepping}
+use Rattle.zl_command.proofs.Common.{ap, ◌≡◌, ◌∙◌, true, ap₂, app_of, with_subcommand, app_of_fields, on_top}
+use Rattle.zl_command.proofs.Common.{assembling, checking, program, replaying, running, stepping}
 use Rattle.std.proofs.lemmas.Result.{IfOk-weaker}
 use Rattle.clap.proofs.SimpleLemmas.{plain_fields}
 use Rattle.zl_command.proofs.command.command.Goals as goal
@@ -12,14 +13,18 @@ returns c =
     let told : app_of c.after_help.result ≡ app_of c.version.result = ap app_of_fields c.after_help.ensures ∙ ap app_of_fields c.about.ensures in
     let program_is : app_of c.after_help.result ≡ program = told ∙ (versioned ∙ ap (on_top (λ s. record s { has_version = true })) (called ∙ (unnamed ∙ ap (on_top (λ s. record s { no_binary_name = true })) c.new.ensures.app))) in
     let local = (plain_fields c.in_ok-assembling.field-0 (ap (λ a. a.top.is_plain) assembling_is)).globals in
-    let first : app_of c.in_ok-subcommand.field-0 ≡ with_subcommand program assembling.top = c.in_ok-subcommand.ensures.shape local ∙ ap₂ with_subcommand program_is (ap (λ a. a.top) assembling_is) in
+    let first : app_of c.in_ok-subcommand.field-0 ≡ with_subcommand program assembling.top
+    = c.in_ok-subcommand.ensures.shape local ∙ ap₂ with_subcommand program_is (ap (λ a. a.top) assembling_is) in
     let checking_is : app_of c.in_ok-checking.field-0 ≡ checking = c.in_ok-checking.ensures in
     let local_too = (plain_fields c.in_ok-checking.field-0 (ap (λ a. a.top.is_plain) checking_is)).globals in
-    let second : app_of c.in_ok-subcommand-2.field-0 ≡ with_subcommand (with_subcommand program assembling.top) checking.top = c.in_ok-subcommand-2.ensures.shape local_too ∙ ap₂ with_subcommand first (ap (λ a. a.top) checking_is) in
+    let second = c.in_ok-subcommand-2.ensures.shape local_too ∙ ap₂ with_subcommand first (ap (λ a. a.top) checking_is) in
     let stepping_is : app_of c.in_ok-stepping.field-0 ≡ stepping = c.in_ok-stepping.ensures in
     let local_third = (plain_fields c.in_ok-stepping.field-0 (ap (λ a. a.top.is_plain) stepping_is)).globals in
-    let third : app_of c.in_ok-subcommand-3.field-0 ≡ with_subcommand (with_subcommand (with_subcommand program assembling.top) checking.top) stepping.top
-    = c.in_ok-subcommand-3.ensures.shape local_third ∙ ap₂ with_subcommand second (ap (λ a. a.top) stepping_is) in
+    let third = c.in_ok-subcommand-3.ensures.shape local_third ∙ ap₂ with_subcommand second (ap (λ a. a.top) stepping_is) in
     let replaying_is : app_of c.in_ok-replaying.field-0 ≡ replaying = c.in_ok-replaying.ensures in
-    let local_last = (plain_fields c.in_ok-replaying.field-0 (ap (λ a. a.top.is_plain) replaying_is)).globals in
-    IfOk-weaker c.subcommand-4.result _ _ (λ made added. added.shape local_last ∙ ap₂ with_subcommand third (ap (λ a. a.top) replaying_is)) c.subcommand-4.ensures
+    let local_fourth = (plain_fields c.in_ok-replaying.field-0 (ap (λ a. a.top.is_plain) replaying_is)).globals in
+    let fourth = c.in_ok-subcommand-4.ensures.shape local_fourth ∙ ap₂ with_subcommand third (ap (λ a. a.top) replaying_is) in
+    let running_is : app_of c.in_ok-running.field-0 ≡ running = c.in_ok-running.ensures in
+    let local_last = (plain_fields c.in_ok-running.field-0 (ap (λ a. a.top.is_plain) running_is)).globals in
+    IfOk-weaker c.subcommand-5.result _ _ (λ made added. added.shape local_last ∙ ap₂ with_subcommand fourth (ap (λ a. a.top) running_is))
+    c.subcommand-5.ensures

@@ -1,0 +1,17 @@
+use Rattle.zl_command.proofs.Common.{codes, found_of}
+use Rattle.std.proofs.Common.{arith}
+use Rattle.std.specs.Str.Parse.{ExplainsUnsignedError, HasUnsignedDigitsIfOk, ParsesUnsigned}
+use Rattle.zl_command.proofs.ValueRows.{reads_number, reads_some}
+use Rattle.zl_command.proofs.command.limit.Goals as goal
+
+pub unwrap-requires : goal.unwrap-requires
+unwrap-requires c =
+    reads_some _ (λ t r. ParsesUnsigned 64 10 t r × ExplainsUnsignedError 10 t r × HasUnsignedDigitsIfOk t r) 64 0 1000000 (λ t r gives. gives.0)
+    (omega arith) (found_of c.args.matches.now) (codes "limit") c.get_one.result c.get_one.ensures.value c.requires
+
+pub returns : goal.returns
+returns c =
+    let read = reads_number _ (λ t r. ParsesUnsigned 64 10 t r × ExplainsUnsignedError 10 t r × HasUnsignedDigitsIfOk t r) 64 0 1000000
+    (λ t r gives. gives.0) (omega arith) (found_of c.args.matches.now) (codes "limit") c.get_one.result c.get_one.ensures.value c.requires
+    c.unwrap.result c.unwrap.ensures in
+    record { value = read.0; within = read.2 }

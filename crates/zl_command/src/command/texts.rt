@@ -2,8 +2,8 @@
 
 /// What the program is.
 pub const ABOUT: &str = "\
-A lab for small processes on a model of Zircon's handles: it runs their programs under a schedule,
-and writes every system call with its answer, in the order in which they were made.";
+A lab for small processes on a model of Zircon's handles: it runs their programs under a schedule
+or on threads, and writes every system call with its answer, in the order in which they were made.";
 
 /// The forms of the command line, and the exit statuses.
 pub const FORMS: &str = "\
@@ -16,6 +16,12 @@ The forms of a command line:
       Does the same with the scenario and the schedule in two files, joined by a line `--`; lines are
       counted in what is joined.
       Example: zlab step pair.zls turns.txt
+  zlab run SCENARIO --workers N --limit M
+      Runs the scenario in the file SCENARIO, which has no schedule, on N threads, for at most M
+      items of trace in place of the scenario's limit; N is 1 to 64, and M 0 to 1000000. Writes the
+      trace that came about, with `end quiet` where no process is ready at the end, `end limit` or
+      `end memory`, or `refused LINE CAUSE`.
+      Example: zlab run pair.zls --workers 4 --limit 1000
   zlab replay SCENARIO TRACE
       Does the steps of the trace in the file TRACE again, from the scenario in the file SCENARIO,
       which has no schedule. Writes `replayed N` for the number of its items, `differs N` for the
@@ -29,11 +35,6 @@ The forms of a command line:
       Writes what the verifier says of the image in the file IMAGE: `accepted`,
       `refused AT CAUSE` with the number of an instruction, or `undecodable FAULT`.
       Example: zlab check ping.zli
-
-Not built yet (a wrong command line for now):
-  zlab run SCENARIO --workers N --limit M
-      Runs the scenario on N threads, for at most M items of trace.
-      Example: zlab run pair.zls --workers 4 --limit 1000
 
 Exit status:
   0  the trace, the image or the help is written, the trace replayed, or the image accepted

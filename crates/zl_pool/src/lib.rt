@@ -5,11 +5,13 @@
 //! in, or else `Mixed`; that `Quiet` comes only where it is idle, and `Limit` only where its trace has
 //! less than two free places. That its trace is a legal history is what the type of a system keeps, and
 //! that covered processes go well in it `run` says. No clause says that `run` returns, that workers work at once, or that
-//! a burst runs while the lock is free: `zl_pool_tests` shows these.
+//! a burst runs while the lock is free: tests show these.
 #![tactic(auto)]
 
 mod gate;
 mod pool;
+#[cfg(test)]
+mod tests;
 mod worker;
 
 pub use gate::{Direct, Gate};

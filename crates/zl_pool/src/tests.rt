@@ -1,20 +1,34 @@
 //! What no contract says: that a run gets somewhere, that two workers are at work at once, and that a
 //! worker ends where memory is refused. Each test asserts what every order of workers gives.
 
-use crate::systems::{EXITS, FIRST, KILLS, boot, booted, library};
+use crate::{Desk, Direct, Gate, RunEnd, run, work};
 use std::alloc::Global;
-use std::sync::Wait;
 use std::sync::atomic::{AtomicU64, Ordering};
 use std::test::*;
 use std::thread;
-use std::thread::Threads;
 use std::time::{Clock, Duration};
-use zl_code::{ProcState, TraceItem};
-use zl_interp::{Done, Turn, burst};
-use zl_pool::{Desk, Direct, Gate, RunEnd, run, work};
-use zl_rights::Pid;
-use zl_sched::{End, Fake, System};
-use zl_trace::{empty_block, replay, text};
+use zl_asm::assemble_bytes;
+use zl_code::{Boot, CallName, Grant, Grants, Outcome, ProcState, Statement, TraceItem};
+use zl_interp::{Done, Library, Program, Turn, burst};
+use zl_rights::{Koid, Pid, Status};
+use zl_sched::{Fake, System};
+
+const ROOT: Koid = 1;
+
+const FIRST: Pid = 2;
+
+const SECOND: Pid = 3;
+
+/// Exits with the word.
+const EXITS: &str = ".raw
+process_exit r1
+";
+
+/// Kills the process of its handle, and exits with the word.
+const KILLS: &str = ".raw
+task_kill r2, r0
+process_exit r1
+";
 
 /// Counts down from the word by two local instructions a round, with a call before and a call behind,
 /// and exits.
@@ -34,6 +48,38 @@ close r2, r3
 close r2, r3
 process_exit r3
 ";
+
+/// A system of a process for each text, with the word; each but the first has a handle to the first.
+fn booted(alloc: Global, texts: &[&str], words: &[u64], limit: u64) -> Result<System, Fail> {
+    let mut library = Library::new(alloc);
+    let mut statements = Vec::new(alloc);
+    for (program, text) in texts.iter().enumerate() {
+        let image = assemble_bytes(alloc, text.as_bytes())
+            .ok()
+            .ok_or("the text is a program")?;
+        if library.push(Program::Raw(image)).is_err() {
+            return Err(Fail::from("memory was refused"));
+        }
+        let mut handles = Grants::new(alloc);
+        let first = Grant {
+            koid: FIRST,
+            rights: None,
+        };
+        if program > 0 && handles.push(first).is_err() {
+            return Err(Fail::from("memory was refused"));
+        }
+        statements.push(Statement::Process {
+            job: ROOT,
+            program: program as u64,
+            word: words.get(program).copied().unwrap_or(0),
+            handles,
+        })?;
+    }
+    match System::boot(alloc, library, Boot { statements, limit }) {
+        Ok(system) => Ok(system),
+        Err(_) => Err(Fail::from("the boot is refused")),
+    }
+}
 
 /// A gate that holds the burst of the first process until that of the second was begun twice, and the
 /// second burst of the second until that of the first was begun; each for so many sleeps at most.
@@ -68,57 +114,37 @@ impl<'a, R: Clock + Sync> Gate for Crossing<'a, R> {
     }
 }
 
-/// What a run under the gate leaves.
-#[derive(Drop)]
-struct Crossed {
-    is_late: bool,
-    end: RunEnd,
-    text: Vec<u8>,
-    is_replayed: bool,
-}
-
-/// A run of two workers under the gate: the second process kills the first, whose burst is held until
-/// that is done.
-fn crossed<R: AllocGlobal + Clock + Threads + Wait + Sync>(rt: &R) -> Result<Crossed, Fail> {
-    let alloc = rt.alloc();
-    let texts: &[&str] = &[EXITS, KILLS];
-    let words: &[u64] = &[5, 0];
+#[test]
+fn two_workers_are_at_work_at_once(rt: HostRuntime) -> Result<(), Fail> {
+    let system = booted(rt.alloc(), &[EXITS, KILLS], &[5, 0], 100)?;
     let gate = Crossing {
-        rt,
+        rt: &rt,
         first: AtomicU64::new(0),
         second: AtomicU64::new(0),
         late: AtomicU64::new(0),
     };
-    let (system, end) = run(rt, booted(alloc, texts, words, 100)?, 2, &gate);
-    let mut written = Vec::new(alloc);
-    let mut block = empty_block(alloc)?;
-    if text(&system, End::Quiet, &mut block, &mut written).is_err() {
-        return Err(Fail::from("memory was refused"));
-    }
-    let again = replay(
-        alloc,
-        library(alloc, texts)?,
-        boot(alloc, words, 100)?,
-        system.items(),
+    let (system, end) = run(&rt, system, 2, &gate);
+    assert_eq!(rt;
+        gate.late.load(Ordering::SeqCst),
+        0,
+        "a worker waited in vain"
     );
-    Ok(Crossed {
-        is_late: gate.late.load(Ordering::SeqCst) != 0,
-        end,
-        text: written,
-        is_replayed: again.is_ok(),
-    })
-}
-
-#[test]
-fn two_workers_are_at_work_at_once(rt: HostRuntime) -> Result<(), Fail> {
-    let crossed = crossed(&rt)?;
-    assert!(rt; !crossed.is_late, "a worker waited in vain");
-    assert_eq!(rt; crossed.end, RunEnd::Quiet);
-    // The first process was out as it was killed, so its burst is Gone: nothing tells of it.
-    let wanted =
-        "3 task_kill OK\n3 process_exit ended 0\nprocess 2 ended -1024\nprocess 3 ended 0\nend quiet\n";
-    assert_eq!(rt; str::from_utf8(crossed.text.as_slice()), Ok(wanted));
-    assert!(rt; crossed.is_replayed);
+    assert_eq!(rt; end, RunEnd::Quiet);
+    let killed = TraceItem::Call {
+        pid: SECOND,
+        call: CallName::TaskKill,
+        outcome: Outcome::Answered(Status::Ok),
+    };
+    let exited = TraceItem::Call {
+        pid: SECOND,
+        call: CallName::ProcessExit,
+        outcome: Outcome::Ended(0),
+    };
+    assert_eq!(rt; system.items().len(), 2);
+    assert!(rt; system.items()[0].is_same(killed));
+    assert!(rt; system.items()[1].is_same(exited));
+    assert!(rt; matches!(system.world().state_of(FIRST), ProcState::Ended(-1024)));
+    assert!(rt; matches!(system.world().state_of(SECOND), ProcState::Ended(0)));
     Ok(())
 }
 

@@ -161,7 +161,7 @@ fn push_statement(
         [name, rest @ ..] if is(name, b"program") => push_opening(hint, alloc, rest),
         [name, ..] if is_among(name, &OBJECTS) && cause == "Limit" => { push_no_koid(hint, above) }
         [name] if is(name, b"--") => {
-            hint.push_str("a scenario that a trace is replayed from has no schedule")
+            hint.push_str("-- begins a schedule, and run and replay take none")
         }
         [name, ..] if is(name, b"--") || is_among(name, &OBJECTS) => {
             write!(hint, "{} stands alone on its line", Word(name))

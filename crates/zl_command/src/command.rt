@@ -221,9 +221,7 @@ fn replaying<'a>(alloc: Global) -> Result<Command<'a>, AllocError>
     ensures { IfOk result (λ made. app_of made ≡ replaying) }
 {
     Command::new(alloc, "replay")
-        .about(
-            "Says whether the scenario in the file SCENARIO can have the trace in the file TRACE",
-        )
+        .about("Says whether the lab's own steps from SCENARIO give the trace in the file TRACE")
         .arg(needed(alloc, "SCENARIO", "The file of the scenario"))?
         .arg(needed(alloc, "TRACE", "The file of the trace"))
 }

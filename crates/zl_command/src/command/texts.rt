@@ -25,7 +25,8 @@ The forms of a command line:
   zlab replay SCENARIO TRACE
       Does the steps of the trace in the file TRACE again, from the scenario in the file SCENARIO,
       which has no schedule. Writes `replayed N` for the number of its items, `differs N` for the
-      first that can't come, or `refused LINE CAUSE`, with `trace` before the line of a trace.
+      first that the lab's own steps don't give, or `refused LINE CAUSE`, with `trace` before the
+      line of a trace.
       Example: zlab replay pair.zls pair.trace
   zlab asm IN OUT
       Assembles the text in the file IN, and writes the image to the file OUT, or
@@ -38,7 +39,7 @@ The forms of a command line:
 
 Exit status:
   0  the trace, the image or the help is written, the trace replayed, or the image accepted
-  1  the input is refused, and its first faulty line, item or instruction named
+  1  the input is refused and its first faulty line or instruction named, or an item differs
   2  the words are in none of the forms
   3  reading or writing failed
   4  memory was refused

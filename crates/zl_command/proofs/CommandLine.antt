@@ -41,16 +41,25 @@ abbrev help_shape : Shape
 help_shape = shape_at 5
 
 asm_filled : Each (KeepsRows asm_shape.rules asm_shape.args_override_self IsFilled) asm_shape.rules
-asm_filled = (needed_keeps asm_shape.rules asm_shape.args_override_self (codes "IN") 1, (needed_keeps asm_shape.rules asm_shape.args_override_self (codes "OUT") 2, ((λ values rows e filled_rows. filled_rows), tt)))
+asm_filled = (
+  needed_keeps asm_shape.rules asm_shape.args_override_self (codes "IN") 1,
+  (needed_keeps asm_shape.rules asm_shape.args_override_self (codes "OUT") 2, ((λ values rows e filled_rows. filled_rows), tt)),
+)
 
 check_filled : Each (KeepsRows check_shape.rules check_shape.args_override_self IsFilled) check_shape.rules
 check_filled = (needed_keeps check_shape.rules check_shape.args_override_self (codes "IMAGE") 1, ((λ values rows e filled_rows. filled_rows), tt))
 
 step_filled : Each (KeepsRows step_shape.rules step_shape.args_override_self IsFilled) step_shape.rules
-step_filled = (needed_keeps step_shape.rules step_shape.args_override_self (codes "SCENARIO") 1, (needed_keeps step_shape.rules step_shape.args_override_self (codes "SCHEDULE") 2, ((λ values rows e filled_rows. filled_rows), tt)))
+step_filled = (
+  needed_keeps step_shape.rules step_shape.args_override_self (codes "SCENARIO") 1,
+  (needed_keeps step_shape.rules step_shape.args_override_self (codes "SCHEDULE") 2, ((λ values rows e filled_rows. filled_rows), tt)),
+)
 
 replay_filled : Each (KeepsRows replay_shape.rules replay_shape.args_override_self IsFilled) replay_shape.rules
-replay_filled = (needed_keeps replay_shape.rules replay_shape.args_override_self (codes "SCENARIO") 1, (needed_keeps replay_shape.rules replay_shape.args_override_self (codes "TRACE") 2, ((λ values rows e filled_rows. filled_rows), tt)))
+replay_filled = (
+  needed_keeps replay_shape.rules replay_shape.args_override_self (codes "SCENARIO") 1,
+  (needed_keeps replay_shape.rules replay_shape.args_override_self (codes "TRACE") 2, ((λ values rows e filled_rows. filled_rows), tt)),
+)
 
 abbrev scenario_rule : Rule
 scenario_rule = with_index 1 (filled (needed (codes "SCENARIO")))
@@ -106,24 +115,28 @@ one_given : (a : Bool) → check_kinds false false (not a || false) ≡ [] → a
 one_given true e = refl
 one_given false e = cc
 
-asm_values : (words : List Text) → level_fault asm_shape [] nothing_held words false [] ≡ [] → HasValue (rows_after asm_shape.rules [] words) (codes "IN") × HasValue (rows_after asm_shape.rules [] words) (codes "OUT")
+asm_values : (words : List Text) → level_fault asm_shape [] nothing_held words false [] ≡ []
+    → HasValue (rows_after asm_shape.rules [] words) (codes "IN") × HasValue (rows_after asm_shape.rules [] words) (codes "OUT")
 asm_values words e =
     let end = level_fits asm_shape [] IsFilled asm_filled (λ _. Unit {0}) (λ name word h none. tt) words false [] (refl, (refl, (refl, tt))) e in
     let given = both_given _ _ end.3 in
     (given_first (codes "IN") _ end.0 given.0, given_first (codes "OUT") _ end.0 given.1)
 
-check_values : (words : List Text) → level_fault check_shape [] nothing_held words false [] ≡ [] → HasValue (rows_after check_shape.rules [] words) (codes "IMAGE")
+check_values : (words : List Text) → level_fault check_shape [] nothing_held words false [] ≡ []
+    → HasValue (rows_after check_shape.rules [] words) (codes "IMAGE")
 check_values words e =
     let end = level_fits check_shape [] IsFilled check_filled (λ _. Unit {0}) (λ name word h none. tt) words false [] (refl, (refl, tt)) e in
     given_first (codes "IMAGE") _ end.0 (one_given _ end.3)
 
-step_values : (words : List Text) → level_fault step_shape [] nothing_held words false [] ≡ [] → HasValue (rows_after step_shape.rules [] words) (codes "SCENARIO") × HasValue (rows_after step_shape.rules [] words) (codes "SCHEDULE")
+step_values : (words : List Text) → level_fault step_shape [] nothing_held words false [] ≡ []
+    → HasValue (rows_after step_shape.rules [] words) (codes "SCENARIO") × HasValue (rows_after step_shape.rules [] words) (codes "SCHEDULE")
 step_values words e =
     let end = level_fits step_shape [] IsFilled step_filled (λ _. Unit {0}) (λ name word h none. tt) words false [] (refl, (refl, (refl, tt))) e in
     let given = both_given _ _ end.3 in
     (given_first (codes "SCENARIO") _ end.0 given.0, given_first (codes "SCHEDULE") _ end.0 given.1)
 
-replay_values : (words : List Text) → level_fault replay_shape [] nothing_held words false [] ≡ [] → HasValue (rows_after replay_shape.rules [] words) (codes "SCENARIO") × HasValue (rows_after replay_shape.rules [] words) (codes "TRACE")
+replay_values : (words : List Text) → level_fault replay_shape [] nothing_held words false [] ≡ []
+    → HasValue (rows_after replay_shape.rules [] words) (codes "SCENARIO") × HasValue (rows_after replay_shape.rules [] words) (codes "TRACE")
 replay_values words e =
     let end = level_fits replay_shape [] IsFilled replay_filled (λ _. Unit {0}) (λ name word h none. tt) words false [] (refl, (refl, (refl, tt))) e in
     let given = both_given _ _ end.3 in
@@ -215,7 +228,9 @@ entered_values (Some p) named e =
 -- where clap finds no fault, a subcommand that it finds has its values
 pub found_values : (words : List Text) → fault_of commands words ≡ [] → HasValues (subcommand_of commands words)
 found_values words e =
-    let end = level_fits (built commands).top (names_of (built commands)) (λ _. Unit {0}) (any_row (built commands).top.rules (built commands).top.args_override_self (built commands).top.rules) IsNoHelp no_help words _ _ (refl, (refl, tt)) e in
+    let end = level_fits (built commands).top (names_of (built commands)) (λ _. Unit {0})
+    (any_row (built commands).top.rules (built commands).top.args_override_self (built commands).top.rules)
+    IsNoHelp no_help words _ _ (refl, (refl, tt)) e in
     entered_values (stop_after (built commands).top.rules (names_of (built commands)) words) end.1 end.2
 
 -- ---- a refusal
@@ -243,13 +258,15 @@ mapped_some f (Some x) = refl
 pub kinds_of_set : (app : App) (words : List Text) → app ≡ commands → fault_of app words ≡ fault_of commands words
 kinds_of_set app words is = ap (λ a. fault_of a words) is
 
-pub asks_for_help : (kinds : Kinds) (kind asked : ErrorKind) → (kind ≡ OutOfMemory) ⊎ IsAmong kind kinds → asked ≡ kind → (asked ≡ DisplayHelp) ⊎ (asked ≡ DisplayVersion) → MayAskForHelp kinds
+pub asks_for_help : (kinds : Kinds) (kind asked : ErrorKind) → (kind ≡ OutOfMemory) ⊎ IsAmong kind kinds → asked ≡ kind
+    → (asked ≡ DisplayHelp) ⊎ (asked ≡ DisplayVersion) → MayAskForHelp kinds
 asks_for_help kinds kind asked (inl memory) same (inl help) = cc
 asks_for_help kinds kind asked (inl memory) same (inr version) = cc
 asks_for_help kinds kind asked (inr among) same (inl help) = inl (subst (λ k. IsAmong k kinds) (sym same ∙ help) among)
 asks_for_help kinds kind asked (inr among) same (inr version) = inr (subst (λ k. IsAmong k kinds) (sym same ∙ version) among)
 
-pub asks_nothing : (kinds : Kinds) (kind asked wanted : ErrorKind) → (kind ≡ OutOfMemory) ⊎ IsAmong kind kinds → asked ≡ kind → (asked ≡ OutOfMemory → ⊥) → (asked ≡ wanted → ⊥) → kinds ≡ wanted ∷ []
+pub asks_nothing : (kinds : Kinds) (kind asked wanted : ErrorKind) → (kind ≡ OutOfMemory) ⊎ IsAmong kind kinds → asked ≡ kind
+    → (asked ≡ OutOfMemory → ⊥) → (asked ≡ wanted → ⊥) → kinds ≡ wanted ∷ []
     → false ≡ true
 asks_nothing kinds kind asked wanted (inl memory) same no_memory other is = absurd (no_memory (same ∙ memory))
 asks_nothing kinds kind asked wanted (inr among) same no_memory other is = go (subst (IsAmong kind) is among)

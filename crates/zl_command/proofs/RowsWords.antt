@@ -35,7 +35,8 @@ no_words : (takes commands [] ≡ true) × (subcommand_of commands [] ≡ None)
 unfolding clap_on_literals
 no_words = (refl, refl)
 
-two_files : (takes commands (codes "asm" ∷ codes "a" ∷ codes "b" ∷ []) ≡ true) × (files (codes "asm" ∷ codes "a" ∷ codes "b" ∷ []) ≡ Some (codes "asm", Some (codes "a"), Some (codes "b")))
+two_files : (takes commands (codes "asm" ∷ codes "a" ∷ codes "b" ∷ []) ≡ true)
+    × (files (codes "asm" ∷ codes "a" ∷ codes "b" ∷ []) ≡ Some (codes "asm", Some (codes "a"), Some (codes "b")))
 unfolding clap_on_literals
 two_files = (refl, refl)
 

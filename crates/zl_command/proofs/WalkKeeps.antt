@@ -1,11 +1,19 @@
 -- What a parse with no fault keeps, word by word: a fact of each row, and one of the subcommand's name.
-use Rattle.zl_command.proofs.Common.{◌≡◌, ◌∙◌, ◌&&◌, ℕ, Bool, true, false, cond, zero, suc, refl, sym, ap, subst, List, [], ◌∷◌, length, drop, Option, Some, None, IfSome, is_some, slice_get, fold, find, encode_utf8, Shape}
+use Rattle.zl_command.proofs.Common.{◌≡◌, ◌∙◌, ◌&&◌, ℕ, Bool, true, false, cond, zero, suc, refl, sym, ap, subst}
+use Rattle.zl_command.proofs.Common.{List, [], ◌∷◌, length, drop, Option, Some, None, IfSome, is_some, slice_get, fold, find, encode_utf8, Shape}
 use Rattle.std.specs.Str.{bytes_eq, chars}
 use Rattle.clap.specs.Lexer.{long_of, short_of}
-use Rattle.clap.specs.Walk.{Held, Names, Outcome, Row, Rule, Step, Text, Waiting, Walk, after_flag, after_step, arg_by_id, arg_by_index, arg_by_long, arg_by_short, attached_value, flag_met, bundle_met, bundle_step, done, has_row, default_rows, reading_by, nothing_held, rows_after, stop_after, walk_from, is_pending, long_met, next, option_met, plain, plain_word, option_word, positional_held, reacted, refused, settled, settled_rows, short_met, subcommand, subcommand_met, subcommand_or_other, takes_several, takes_values, to_positional, trailing, used, used_by_id, value, waits, walk, walked, walked_from, with_default, word_met, long_or_other, short_or_plain, idle, option, positional}
+use Rattle.clap.specs.Walk.{Held, Names, Outcome, Row, Rule, Step, Text, Waiting, Walk, after_flag, after_step, arg_by_id, arg_by_index, arg_by_long}
+use Rattle.clap.specs.Walk.{arg_by_short, attached_value, flag_met, bundle_met, bundle_step, done, has_row, default_rows}
+use Rattle.clap.specs.Walk.{reading_by, nothing_held, rows_after, stop_after, walk_from, is_pending, long_met, next, option_met, plain}
+use Rattle.clap.specs.Walk.{plain_word, option_word, positional_held, reacted, refused, settled, settled_rows}
+use Rattle.clap.specs.Walk.{short_met, subcommand, subcommand_met, subcommand_or_other, takes_several, takes_values, to_positional, trailing}
+use Rattle.clap.specs.Walk.{used, used_by_id, value, waits, walk, walked, walked_from, with_default, word_met}
+use Rattle.clap.specs.Walk.{long_or_other, short_or_plain, idle, option, positional}
 use Rattle.clap.specs.Kinds.{Kinds, or_else}
 use Rattle.clap.specs.declared.error.kind.ErrorKind.TheVariants.{TooManyValues}
-use Rattle.clap.specs.Faults.{bundle_step_fault, check_fault, level_fault, stray_fault, flags_fault, long_fault, option_fault, other_fault, positional_fault, react_fault, settle_fault, short_fault, step_fault, turn_fault, use_fault, walk_fault, word_fault, flag_word_fault}
+use Rattle.clap.specs.Faults.{bundle_step_fault, check_fault, level_fault, stray_fault, flags_fault, long_fault, option_fault, other_fault, positional_fault}
+use Rattle.clap.specs.Faults.{react_fault, settle_fault, short_fault, step_fault, turn_fault, use_fault, walk_fault, word_fault, flag_word_fault}
 use Rattle.std.specs.Option.{option_map_or}
 
 -- each item has the fact
@@ -54,23 +62,27 @@ module _ (c : List Rule) (again : Bool) (R : Row → Type 0) where
 
   module _ (each : Each KeepsRows c) where
     settled_by : (pending : Option (Text × List Text)) (rows : List Row)
-        → option_map_or (λ p. option_map_or (λ a. use_fault again a p.1 rows) (arg_by_id c p.0) []) pending [] ≡ [] → Each R rows → Each R (settled_rows c pending rows)
+        → option_map_or (λ p. option_map_or (λ a. use_fault again a p.1 rows) (arg_by_id c p.0) []) pending [] ≡ []
+        → Each R rows → Each R (settled_rows c pending rows)
     settled_by None rows e r = r
     settled_by (Some p) rows e r = used_by (arg_by_id c p.0) (keeping _ each) p.1 rows e r
 
     pub settled_keeps : (h : Held) → settle_fault c again h ≡ [] → Each R h.rows → Each R (settled c h).rows
     settled_keeps h e r = settled_by h.pending h.rows e r
 
-    reacted_keeps : (a : Rule) → KeepsRows a → (values : List Text) (h : Held) → react_fault c again a values h ≡ [] → Each R h.rows → Each R (reacted c a values h).rows
+    reacted_keeps : (a : Rule) → KeepsRows a → (values : List Text) (h : Held) → react_fault c again a values h ≡ []
+        → Each R h.rows → Each R (reacted c a values h).rows
     reacted_keeps a keep values h e r =
         let both = none_of _ _ e in
         keep values (settled c h).rows both.1 (settled_keeps h both.0 r)
 
-    option_keeps : (a : Rule) → KeepsRows a → (v : Option Text) (h : Held) → option_fault c again a v h ≡ [] → Each R h.rows → Each R (option_met c a v h).0.rows
+    option_keeps : (a : Rule) → KeepsRows a → (v : Option Text) (h : Held) → option_fault c again a v h ≡ []
+        → Each R h.rows → Each R (option_met c a v h).0.rows
     option_keeps a keep (Some v) h e r = reacted_keeps a keep (v ∷ []) h e r
     option_keeps a keep None h e r = settled_keeps h e r
 
-    long_keeps : (found : Option Rule) → Keeping found → (v : Option Text) (h : Held) → long_fault c again found v h ≡ [] → Each R h.rows → Each R (long_met c found v h).0.rows
+    long_keeps : (found : Option Rule) → Keeping found → (v : Option Text) (h : Held) → long_fault c again found v h ≡ []
+        → Each R h.rows → Each R (long_met c found v h).0.rows
     long_keeps None keep v h e r = cc
     long_keeps (Some a) keep (Some v) h e r = go (takes_values a) e
       where
@@ -79,7 +91,8 @@ module _ (c : List Rule) (again : Bool) (R : Row → Type 0) where
         go false e = cc
     long_keeps (Some a) keep None h e r = go (takes_values a) e
       where
-        go : (b : Bool) → cond b (option_fault c again a None h) (react_fault c again a [] h) ≡ [] → Each R (cond b (option_met c a None h) (flag_met c a None h)).0.rows
+        go : (b : Bool) → cond b (option_fault c again a None h) (react_fault c again a [] h) ≡ []
+            → Each R (cond b (option_met c a None h) (flag_met c a None h)).0.rows
         go true e = option_keeps a (keep a refl) None h e r
         go false e = reacted_keeps a (keep a refl) [] h e r
 
@@ -99,7 +112,8 @@ module _ (c : List Rule) (again : Bool) (R : Row → Type 0) where
             let both = none_of _ _ e in
             goes (reacted c a [] h) both.1 (reacted_keeps a (keep a refl) [] h both.0 r)
 
-    step_keeps : (first : Option ℕ) (flags : Text) (skip : ℕ) (so_far : Outcome) (h : Held) (fault : Text → ℕ → Held → Kinds) (met : Text → ℕ → Outcome → Held → Held × Outcome)
+    step_keeps : (first : Option ℕ) (flags : Text) (skip : ℕ) (so_far : Outcome) (h : Held) (fault : Text → ℕ → Held → Kinds)
+        (met : Text → ℕ → Outcome → Held → Held × Outcome)
         → ((rest : Text) (skip : ℕ) (so_far : Outcome) → Goes (fault rest skip) (met rest skip so_far))
         → bundle_step_fault c again first flags skip h fault ≡ [] → Each R h.rows → Each R (bundle_step c first flags skip so_far h met).0.rows
     step_keeps None flags skip so_far h fault met goes e r = r
@@ -112,7 +126,8 @@ module _ (c : List Rule) (again : Bool) (R : Row → Type 0) where
     unfolding flags_fault bundle_met
     bundle_keeps zero flags skip so_far h e r = r
     bundle_keeps (suc k) flags skip so_far h e r =
-        step_keeps (slice_get (chars flags) 0) flags skip so_far h (flags_fault c again k) (bundle_met c k) (λ rest skip so_far. bundle_keeps k rest skip so_far) e r
+        step_keeps (slice_get (chars flags) 0) flags skip so_far h (flags_fault c again k) (bundle_met c k)
+        (λ rest skip so_far. bundle_keeps k rest skip so_far) e r
 
     -- ---- one word
 
@@ -167,13 +182,15 @@ module _ (s : Shape) (names : Names) (R : Row → Type 0) (each : Each (KeepsRow
       go None = plain_named waiting word h
       go (Some flags) = after_named waiting word _ _
 
-  word_keeps : (is_trailing : Bool) (waiting : Waiting) (position : ℕ) (word : Text) (h : Held) → word_fault s names is_trailing waiting word h ≡ [] → Each R h.rows
+  word_keeps : (is_trailing : Bool) (waiting : Waiting) (position : ℕ) (word : Text) (h : Held) → word_fault s names is_trailing waiting word h ≡ []
+      → Each R h.rows
       → Each R (word_met s.rules names is_trailing waiting position word h).0.rows × Named (word_met s.rules names is_trailing waiting position word h).1
   word_keeps true waiting position word h e r = (r, tt)
   word_keeps false waiting position word h e r = go (subcommand_met names waiting word) e
     where
       other : (b : Bool) → cond b [] (flag_word_fault s.rules s.args_override_self (long_of word) word h) ≡ []
-          → Each R (cond b (h, trailing position) (long_or_other s.rules waiting word (long_of word) h)).0.rows × Named (cond b (h, trailing position) (long_or_other s.rules waiting word (long_of word) h)).1
+          → Each R (cond b (h, trailing position) (long_or_other s.rules waiting word (long_of word) h)).0.rows
+          × Named (cond b (h, trailing position) (long_or_other s.rules waiting word (long_of word) h)).1
       other true e = (r, tt)
       other false e = (flag_keeps s.rules s.args_override_self R each waiting word h (long_of word) e r, flag_named waiting word h (long_of word))
 
@@ -182,7 +199,8 @@ module _ (s : Shape) (names : Names) (R : Row → Type 0) (each : Each (KeepsRow
       go (Some name) e = (r, named name word h e)
       go None e = other (bytes_eq word (45 ∷ 45 ∷ [])) e
 
-  positional_keeps : (a : Rule) (word : Text) (h : Held) → positional_fault s.rules s.args_override_self a h ≡ [] → Each R h.rows → Each R (positional_held s.rules a word h).rows
+  positional_keeps : (a : Rule) (word : Text) (h : Held) → positional_fault s.rules s.args_override_self a h ≡ []
+      → Each R h.rows → Each R (positional_held s.rules a word h).rows
   positional_keeps a word h e r = go (is_pending a h.pending && takes_several a) e
     where
       go : (b : Bool) → cond b [] (settle_fault s.rules s.args_override_self h) ≡ [] → Each R (cond b h (settled s.rules h)).rows
@@ -193,14 +211,16 @@ module _ (s : Shape) (names : Names) (R : Row → Type 0) (each : Each (KeepsRow
   abbrev Fits : Walk → Type 0
   Fits w = Each R w.held.rows × IfSome w.stopped (λ p. Q p.0)
 
-  step_fits : (w : Walk) (word : Text) (h : Held) (step : Step) → step_fault s w.position h step ≡ [] → IfSome w.stopped (λ p. Q p.0) → Each R h.rows → Named step
+  step_fits : (w : Walk) (word : Text) (h : Held) (step : Step) → step_fault s w.position h step ≡ [] → IfSome w.stopped (λ p. Q p.0)
+      → Each R h.rows → Named step
       → Fits (after_step s.rules word w h step)
   step_fits w word h (next waiting) e q r n = (r, q)
   step_fits w word h (trailing position) e q r n = (r, q)
   step_fits w word h (subcommand name) e q r n = (r, n)
   step_fits w word h value e q r n = go (arg_by_index s.rules w.position) e
     where
-      go : (found : Option Rule) → option_map_or (λ a. positional_fault s.rules s.args_override_self a h) found (stray_fault s) ≡ [] → Fits (to_positional s.rules found word w h)
+      go : (found : Option Rule) → option_map_or (λ a. positional_fault s.rules s.args_override_self a h) found (stray_fault s) ≡ []
+          → Fits (to_positional s.rules found word w h)
       go None e = (r, q)
       go (Some a) e = (positional_keeps a word h e r, tt)
 
@@ -212,7 +232,8 @@ module _ (s : Shape) (names : Names) (R : Row → Type 0) (each : Each (KeepsRow
   turn_fits w word e fits = go w.stopped e fits.1
     where
       go : (stopped : Option (Text × List Text))
-          → cond (is_some stopped) [] (or_else (word_fault s names w.is_trailing w.waiting word w.held) (step_fault s w.position (met_by w word).0 (met_by w word).1)) ≡ []
+          → cond (is_some stopped) [] (or_else (word_fault s names w.is_trailing w.waiting word w.held)
+          (step_fault s w.position (met_by w word).0 (met_by w word).1)) ≡ []
           → IfSome stopped (λ p. Q p.0) → Fits (walked_from s.rules names stopped w word)
       go (Some p) e q = (fits.0, q)
       go None e q =
@@ -228,8 +249,10 @@ module _ (s : Shape) (names : Names) (R : Row → Type 0) (each : Each (KeepsRow
       walk_fits rest (walked s.rules names w word) both.1 (turn_fits w word both.0 fits)
 
   -- what a level with no fault has at its end
-  pub level_fits : (words : List Text) (has : Bool) (below : Kinds) → Each (λ a. a.defaults ≡ []) s.rules → level_fault s names nothing_held words has below ≡ []
-      → Each R (rows_after s.rules names words) × IfSome (stop_after s.rules names words) (λ p. Q p.0) × (below ≡ []) × (check_fault s (rows_after s.rules names words) has ≡ [])
+  pub level_fits : (words : List Text) (has : Bool) (below : Kinds) → Each (λ a. a.defaults ≡ []) s.rules
+      → level_fault s names nothing_held words has below ≡ []
+      → Each R (rows_after s.rules names words) × IfSome (stop_after s.rules names words) (λ p. Q p.0) × (below ≡ [])
+      × (check_fault s (rows_after s.rules names words) has ≡ [])
   level_fits words has below bare e =
       let first = none_of _ _ e in
       let second = none_of below _ first.1 in

@@ -7,11 +7,15 @@ use Rattle.zl_command.proofs.command.command.Goals as goal
 pub returns : goal.returns
 returns c =
     let assembling_is : app_of c.in_ok-assembling.field-0 ≡ assembling = c.in_ok-assembling.ensures in
-    let unnamed : app_of c.no_binary_name.result ≡ on_top (λ s. record s { no_binary_name = true }) (app_of c.new.result) = ap app_of_fields c.no_binary_name.ensures in
+    let unnamed : app_of c.no_binary_name.result ≡ on_top (λ s. record s { no_binary_name = true }) (app_of c.new.result)
+    = ap app_of_fields c.no_binary_name.ensures in
     let called : app_of c.in_ok-bin_name.field-0 ≡ app_of c.no_binary_name.result = ap app_of_fields c.in_ok-bin_name.ensures.0 in
-    let versioned : app_of c.version.result ≡ on_top (λ s. record s { has_version = true }) (app_of c.in_ok-bin_name.field-0) = ap app_of_fields c.version.ensures in
+    let versioned : app_of c.version.result ≡ on_top (λ s. record s { has_version = true }) (app_of c.in_ok-bin_name.field-0)
+    = ap app_of_fields c.version.ensures in
     let told : app_of c.after_help.result ≡ app_of c.version.result = ap app_of_fields c.after_help.ensures ∙ ap app_of_fields c.about.ensures in
-    let program_is : app_of c.after_help.result ≡ program = told ∙ (versioned ∙ ap (on_top (λ s. record s { has_version = true })) (called ∙ (unnamed ∙ ap (on_top (λ s. record s { no_binary_name = true })) c.new.ensures.app))) in
+    let program_is : app_of c.after_help.result ≡ program
+    = told ∙ (versioned ∙ ap (on_top (λ s. record s { has_version = true }))
+    (called ∙ (unnamed ∙ ap (on_top (λ s. record s { no_binary_name = true })) c.new.ensures.app))) in
     let local = (plain_fields c.in_ok-assembling.field-0 (ap (λ a. a.top.is_plain) assembling_is)).globals in
     let first : app_of c.in_ok-subcommand.field-0 ≡ with_subcommand program assembling.top
     = c.in_ok-subcommand.ensures.shape local ∙ ap₂ with_subcommand program_is (ap (λ a. a.top) assembling_is) in

@@ -18,7 +18,8 @@ pub returns-in-DisplayHelp-clause-other : goal.returns-in-DisplayHelp-clause-oth
 returns-in-DisplayHelp-clause-other g c some =
     let app = c.in_ok-command.ensures in
     let texts = map g.S.AsStr.text c.args.words.now in
-    subst MayAskForHelp (kinds_of_set _ texts app) (asks_for_help _ _ c.kind.result (c.in-Err.ensures.kinds (ap is_simple_and_free app)) c.kind.ensures c.in-DisplayHelp.is)
+    subst MayAskForHelp (kinds_of_set _ texts app)
+    (asks_for_help _ _ c.kind.result (c.in-Err.ensures.kinds (ap is_simple_and_free app)) c.kind.ensures c.in-DisplayHelp.is)
 
 pub returns : goal.returns
 returns g c =

@@ -1,4 +1,5 @@
-use Rattle.zl_command.proofs.Common.{◌≡◌, ◌∙◌, sym, subst, ap, map, true, [], app_of, fault_of, is_simple_and_free, is_simple, subcommand_of, HasValues, commands}
+use Rattle.zl_command.proofs.Common.{◌≡◌, ◌∙◌, sym, subst, ap, map, true, []}
+use Rattle.zl_command.proofs.Common.{app_of, fault_of, is_simple_and_free, is_simple, subcommand_of, HasValues, commands}
 use Rattle.clap.specs.Takes.{takes}
 use Rattle.zl_command.proofs.CommandLine.{found_values, refused_by}
 use Rattle.zl_command.proofs.command.words.Goals as goal
@@ -23,4 +24,5 @@ returns-in_err-matches-clause-usage g c =
     let app = c.in_ok-command.ensures in
     let texts = map g.S.AsStr.text c.args.words.now in
     let passes = c.in_err-matches.ensures.passes in
-    refused_by c.from_residual-in_err-matches.result (takes commands texts) _ c.from_residual-in_err-matches.ensures.1 (λ taken. passes (ap (λ a. takes a texts) app ∙ taken))
+    refused_by c.from_residual-in_err-matches.result (takes commands texts) _ c.from_residual-in_err-matches.ensures.1
+    (λ taken. passes (ap (λ a. takes a texts) app ∙ taken))

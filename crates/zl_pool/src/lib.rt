@@ -4,14 +4,12 @@
 //! bursts. It promises of `run` that the system that it gives back goes on from the one that was handed
 //! in, or else `Mixed`; that `Quiet` comes only where it is idle, and `Limit` only where its trace has
 //! less than two free places. That its trace is a legal history is what the type of a system keeps, and
-//! that covered processes go well in it `run` says. No clause says that `run` returns, that workers work at once, or that
-//! a burst runs while the lock is free: tests show these.
+//! that covered processes go well in it `run` says. No clause says that `run` returns, that workers work
+//! at once, or that a burst runs while the lock is free: tests of `zl_pool_tests` show these.
 #![tactic(auto)]
 
 mod gate;
 mod pool;
-#[cfg(test)]
-mod tests;
 mod worker;
 
 pub use gate::{Direct, Gate};

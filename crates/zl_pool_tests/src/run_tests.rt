@@ -1,0 +1,202 @@
+//! Runs on worker threads. Each test asserts what every order of workers gives.
+
+use crate::systems::{CALLS, COUNTS, EXITS, FIRST, KILLS, booted, library, statements};
+use std::alloc::Global;
+use std::sync::Wait;
+use std::sync::atomic::{AtomicU64, Ordering};
+use std::test::*;
+use std::thread;
+use std::thread::Threads;
+use std::time::{Clock, Duration};
+use zl_code::{Boot, ProcState, TraceItem};
+use zl_interp::{Done, Turn, burst};
+use zl_pool::{Desk, Direct, Gate, RunEnd, run, work};
+use zl_rights::Pid;
+use zl_sched::{End, Fake, HandIn, System};
+use zl_trace::{empty_block, replay, text};
+
+/// A gate that holds the burst of the first process until that of the second was begun twice, and the
+/// second burst of the second until that of the first was begun; each for so many sleeps at most.
+#[derive(Drop)]
+struct Crossing<'a, R: Clock> {
+    rt: &'a R,
+    first: AtomicU64,
+    second: AtomicU64,
+    late: AtomicU64,
+}
+
+/// Waits until so many were begun, and notes it where that doesn't come.
+fn hold<R: Clock>(rt: &R, begun: &AtomicU64, count: u64, late: &AtomicU64) {
+    for _ in 0..10_000 {
+        if begun.load(Ordering::SeqCst) >= count {
+            return;
+        }
+        thread::sleep(rt, Duration::from_millis(1));
+    }
+    late.store(1, Ordering::SeqCst);
+}
+
+impl<'a, R: Clock + Sync> Gate for Crossing<'a, R> {
+    fn burst(&self, turn: Turn, most: u32) -> Done {
+        if turn.pid() == FIRST {
+            self.first.fetch_add(1, Ordering::SeqCst);
+            hold(self.rt, &self.second, 2, &self.late);
+        } else if self.second.fetch_add(1, Ordering::SeqCst) == 1 {
+            hold(self.rt, &self.first, 1, &self.late);
+        }
+        burst(turn, most)
+    }
+}
+
+/// The texts of two processes of which the second kills the first, and their words.
+const MEETING: (&[&str], &[u64]) = (&[EXITS, KILLS], &[5, 0]);
+
+/// The system of two processes of which the second kills the first, behind the gate that crosses their
+/// bursts.
+fn run_crossing<R: Threads + Wait + Clock + Sync>(
+    rt: &R,
+    alloc: Global,
+) -> Result<(System, End), Fail> {
+    let system = booted(alloc, MEETING.0, MEETING.1, 100)?;
+    let gate = Crossing {
+        rt,
+        first: AtomicU64::new(0),
+        second: AtomicU64::new(0),
+        late: AtomicU64::new(0),
+    };
+    let (system, end) = run(rt, system, 2, &gate);
+    if gate.late.load(Ordering::SeqCst) != 0 {
+        return Err(Fail::from("a worker waited in vain"));
+    }
+    match end {
+        RunEnd::Quiet => Ok((system, End::Quiet)),
+        RunEnd::Limit | RunEnd::NoMemory | RunEnd::Mixed => Err(Fail::from("the run isn't quiet")),
+    }
+}
+
+#[test]
+fn two_workers_are_at_work_at_once(rt: HostRuntime) -> Result<(), Fail> {
+    let (system, end) = run_crossing(&rt, rt.alloc())?;
+    let mut written = Vec::new(rt.alloc());
+    text(&system, end, &mut empty_block(rt.alloc())?, &mut written)
+        .ok()
+        .ok_or("memory was refused")?;
+    let wanted: &str = "3 task_kill OK
+3 process_exit ended 0
+process 2 ended -1024
+process 3 ended 0
+end quiet
+";
+    assert_eq!(rt; written.as_slice(), wanted.as_bytes());
+    Ok(())
+}
+
+#[test]
+fn what_workers_did_is_replayed(rt: HostRuntime) -> Result<(), Fail> {
+    let (system, _) = run_crossing(&rt, rt.alloc())?;
+    let boot = Boot {
+        statements: statements(rt.alloc(), 2, MEETING.1)?,
+        limit: 100,
+    };
+    let programs = library(rt.alloc(), MEETING.0)?;
+    assert!(rt; replay(rt.alloc(), programs, boot, system.items()).is_ok());
+    Ok(())
+}
+
+/// How many local instructions of the process the items tell of.
+fn steps_of(items: &[TraceItem], of: Pid) -> u64 {
+    let mut steps: u64 = 0;
+    for item in items {
+        if let TraceItem::Run { pid, count } = item {
+            if *pid == of {
+                steps = steps.saturating_add(u64::from(*count));
+            }
+        }
+    }
+    steps
+}
+
+/// What so many workers make of three processes that count: how it ended, how many items there are, and
+/// how many local instructions each did that ended with 0.
+fn counted<R: Threads + Wait + Sync>(
+    rt: &R,
+    alloc: Global,
+    workers: u32,
+) -> Result<(RunEnd, usize, [u64; 3]), Fail> {
+    let texts: &[&str] = &[COUNTS, COUNTS, COUNTS];
+    let system = booted(alloc, texts, &[500, 1, 300], 100)?;
+    let (system, end) = run(rt, system, workers, &Direct);
+    let mut steps: [u64; 3] = [0; 3];
+    for (index, slot) in steps.iter_mut().enumerate() {
+        let pid = FIRST + index as u64;
+        if matches!(system.world().state_of(pid), ProcState::Ended(0)) {
+            *slot = steps_of(system.items(), pid);
+        }
+    }
+    Ok((end, system.items().len(), steps))
+}
+
+#[test]
+fn each_number_of_workers_does_the_same_work(rt: HostRuntime) -> Result<(), Fail> {
+    for workers in [0, 1, 2, 8] {
+        // Of each process one item before the first call, three calls, and one for each 256 of its rounds.
+        assert_eq!(rt;
+            counted(&rt, rt.alloc(), workers)?,
+            (RunEnd::Quiet, 20, [1001, 3, 601]),
+            "{workers} workers"
+        );
+    }
+    Ok(())
+}
+
+/// How a run of calls alone ends at the limit, with how many items, and whether a process is ready then.
+fn limited<R: Threads + Wait + Sync>(
+    rt: &R,
+    alloc: Global,
+    limit: u64,
+    workers: u32,
+) -> Result<(RunEnd, usize, bool), Fail> {
+    let system = booted(alloc, &[CALLS], &[0], limit)?;
+    let (system, end) = run(rt, system, workers, &Direct);
+    Ok((end, system.items().len(), !system.idle()))
+}
+
+#[test]
+fn runs_end_at_the_limit(rt: HostRuntime) -> Result<(), Fail> {
+    for (limit, count) in [(0, 0), (1, 1), (2, 2)] {
+        for workers in [1, 2] {
+            assert_eq!(rt;
+                limited(&rt, rt.alloc(), limit, workers)?,
+                (RunEnd::Limit, count, true)
+            );
+        }
+    }
+    Ok(())
+}
+
+/// What a worker leaves of a process of calls alone where memory is refused behind so many requests: how
+/// many items, and whether nothing is ready.
+fn refused<R: Wait>(rt: &R, alloc: Global, calls: u32) -> Result<(usize, bool), Fail> {
+    let system = booted(alloc, &[CALLS], &[0], 100)?;
+    let desk = Desk::new(Fake { system, calls });
+    work(rt, &desk, &Direct, 256);
+    let fake = desk.kernel.into_inner();
+    Ok((fake.system.items().len(), fake.system.idle()))
+}
+
+#[test]
+fn a_worker_ends_where_memory_is_refused(rt: HostRuntime) -> Result<(), Fail> {
+    for (calls, left) in [
+        (0, (0, false)),
+        (1, (0, false)),
+        (2, (1, false)),
+        (3, (1, false)),
+        (4, (2, false)),
+        (5, (2, false)),
+        (6, (3, true)),
+        (7, (3, true)),
+    ] {
+        assert_eq!(rt; refused(&rt, rt.alloc(), calls)?, left, "{calls} calls");
+    }
+    Ok(())
+}

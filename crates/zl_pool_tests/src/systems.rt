@@ -1,0 +1,98 @@
+//! Systems of processes that run programs of texts.
+
+use std::alloc::Global;
+use std::test::*;
+use zl_asm::assemble_bytes;
+use zl_code::{Boot, Grant, Grants, Statement};
+use zl_interp::{Library, Program};
+use zl_rights::{Koid, Pid};
+use zl_sched::System;
+
+const ROOT: Koid = 1;
+
+pub const FIRST: Pid = 2;
+
+pub const SECOND: Pid = 3;
+
+/// Exits with the word.
+pub const EXITS: &str = ".raw
+process_exit r1
+";
+
+/// Kills the process of its handle, and exits with the word.
+pub const KILLS: &str = ".raw
+task_kill r2, r0
+process_exit r1
+";
+
+/// Counts down from the word by two local instructions a round, with a call before and a call behind,
+/// and exits.
+pub const COUNTS: &str = ".raw
+const r4, 1
+close r2, r3
+loop:
+sub r1, r1, r4
+jnz r1, loop
+close r2, r3
+process_exit r3
+";
+
+/// Three calls; by the third it exits.
+pub const CALLS: &str = ".raw
+close r2, r3
+close r2, r3
+process_exit r3
+";
+
+/// Makes an event, and waits for SIGNALED of it, which nobody raises.
+pub const WAITS: &str = ".raw
+event_create r2, r3
+const r4, 8
+wait_one r2, r3, r4, r5
+process_exit r1
+";
+
+/// The programs of the texts, all raw.
+pub fn library(alloc: Global, texts: &[&str]) -> Result<Library, Fail> {
+    let mut library = Library::new(alloc);
+    for text in texts {
+        let image = assemble_bytes(alloc, text.as_bytes())
+            .ok()
+            .ok_or("the text is a program")?;
+        if library.push(Program::Raw(image)).is_err() {
+            return Err(Fail::from("memory was refused"));
+        }
+    }
+    Ok(library)
+}
+
+/// A process for each of so many programs, with the word; each but the first has a handle to the first.
+pub fn statements(alloc: Global, programs: u64, words: &[u64]) -> Result<Vec<Statement>, Fail> {
+    let mut statements = Vec::new(alloc);
+    for program in 0..programs {
+        let mut handles = Grants::new(alloc);
+        let first = Grant {
+            koid: FIRST,
+            rights: None,
+        };
+        if program > 0 && handles.push(first).is_err() {
+            return Err(Fail::from("memory was refused"));
+        }
+        statements.push(Statement::Process {
+            job: ROOT,
+            program,
+            word: words.get(program as usize).copied().unwrap_or(0),
+            handles,
+        })?;
+    }
+    Ok(statements)
+}
+
+/// A system of a process for each text, with the word; each but the first has a handle to the first.
+pub fn booted(alloc: Global, texts: &[&str], words: &[u64], limit: u64) -> Result<System, Fail> {
+    let statements = statements(alloc, texts.len() as u64, words)?;
+    match System::boot(alloc, library(alloc, texts)?, Boot { statements, limit }) {
+        Ok(system) => Ok(system),
+        Err(_) => Err(Fail::from("the boot is refused")),
+    }
+}

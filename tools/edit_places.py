@@ -10,6 +10,11 @@ FUNCTION = re.compile(r"^( *)(?:pub(?:\([^)]*\))? )?(?:(?:const|final) )*fn (\w+
 VERDICT = re.compile(r"^fn (\S+): (proved|not proved|no proof)(.*)$", re.M)
 # What isn't proved only because a function that it calls isn't.
 BY_OTHERS = re.compile(r"it calls|it passes|a call of")
+# A goal that is left open, and an error in a file, with the goal or lemma that it is about.
+OPEN = re.compile(r"note: \S+:\d+:\d+: .*?\(`([^`]+)`\)")
+ERROR = re.compile(r"(?:note: )?(?:\./)?((?:src|specs|proofs)/[^\s:]+):\d+:\d+: error[^:]*: (?:`([^`]+)`)?(.*)")
+# What a proof file says where it names what an edit took away.
+LOST = re.compile(r"has no field|is not in scope|has no `|was not admitted")
 
 
 def parts_of(edit):
@@ -91,7 +96,51 @@ def refused_in(output, places):
         found.setdefault(name, is_refused)
     refused = set()
     for module, function in places:
-        named = [name for name in found if name.startswith(module + "::") and name.split("::")[-1] == function]
+        named = called(found, module, function)
         if len(named) == 1 and found[named[0]]:
             refused.add((module, function))
     return refused
+
+
+def called(names, module, function):
+    """Those of the names that the function of the module can have."""
+    return [name for name in names if name.startswith(module + "::") and name.split("::")[-1] == function]
+
+
+def goals_in(output):
+    """The goals of each function that isn't proved by itself, by what the check said.
+
+    A goal has a `?` behind it where only a proof file says so, as it names what an edit took away. A
+    function without a goal has what was said of it instead.
+    """
+    errors, goals, opened = errors_in(output), {}, []
+    for line in output.splitlines():
+        opened += OPEN.findall(line) if OPEN.match(line) else []
+        if not re.match(r"\w+ \S+: (proved|not proved|no proof)", line):
+            continue
+        name, ends, why = VERDICT.match(line).groups() if line.startswith("fn ") else ("", "proved", "")
+        if ends != "proved" and not BY_OTHERS.search(why):
+            there = opened + re.findall(r"`([^`]+)`", why.partition("did not prove")[2])
+            there += errors.get("proofs/" + "/".join(name.split("::")[1:]), [])
+            goals.setdefault(name, list(dict.fromkeys(there)) or [ends + why.partition(",")[0]])
+        opened = []
+    return goals
+
+
+def errors_in(output):
+    """What the errors of the check are about, by the folders of their files."""
+    found = {}
+    for line in output.splitlines():
+        error = ERROR.match(line)
+        if error:
+            file, name, why = error.groups()
+            lost = file.startswith("proofs/") and LOST.search(why)
+            found.setdefault(str(Path(file).parent), []).append((name or file) + "?" * bool(lost))
+    return found
+
+
+def is_told(output):
+    """Whether the check read the code and the definitions, and left a goal open for more than a lost name."""
+    is_read = not any(folder.startswith(("src", "specs")) for folder in errors_in(output))
+    return is_read and any(not goal.endswith("?") and " " not in goal
+                           for goals in goals_in(output).values() for goal in goals)

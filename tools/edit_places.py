@@ -6,12 +6,13 @@ body, that function is proved with the edit or isn't, whatever other bodies are 
 import re
 from pathlib import Path
 
-FUNCTION = re.compile(r"^( *)(?:pub(?:\([^)]*\))? )?(?:(?:const|final) )*fn (\w+)")
+from contracts import functions_of
+
 VERDICT = re.compile(r"^fn (\S+): (proved|not proved|no proof)(.*)$", re.M)
 # What isn't proved only because a function that it calls isn't.
 BY_OTHERS = re.compile(r"it calls|it passes|a call of")
-# A goal that is left open, and an error in a file, with the goal or lemma that it is about.
-OPEN = re.compile(r"note: \S+:\d+:\d+: .*?\(`([^`]+)`\)")
+# A goal that is left open, with what more is known of it; an error in a file, with the goal or lemma that it is about.
+OPEN = re.compile(r"note: \S+:\d+:\d+: .*?\(`([^`]+)`\)(.*)")
 ERROR = re.compile(r"(?:note: )?(?:\./)?((?:src|specs|proofs)/[^\s:]+):\d+:\d+: error[^:]*: (?:`([^`]+)`)?(.*)")
 # What a proof file says where it names what an edit took away.
 LOST = re.compile(r"has no field|is not in scope|has no `|was not admitted")
@@ -26,47 +27,26 @@ def parts_of(edit):
     return file, list(zip(old, new))
 
 
-def function_at(lines, number):
-    """The name of the function in whose body the line of this number stands, if it stands in one."""
-    for first in range(number, -1, -1):
-        found = FUNCTION.match(lines[first])
-        if found:
-            break
-    else:
-        return None
-    indent, name = found.groups()
-    for opened in range(first, number):
-        line = lines[opened]
-        if line.endswith("{") and (opened == first or line.startswith(indent) and line[len(indent)] in "{)"):
-            return name
-    return None
-
-
-def place_of(crate, edit):
-    """The module and the name of the function whose body the edit changes, if it changes one body alone."""
+def place_of(crate, functions, edit):
+    """The name of the function whose body the edit changes, if it changes one body alone."""
     file, pairs = parts_of(edit)
-    path = Path(file)
-    if path.suffix != ".rt" or not (crate / file).is_file():
+    if not any(function.file == file for function in functions.values()):
         return None
     text = (crate / file).read_text()
     names = set()
     for old, _ in pairs:
         if text.count(old) != 1:
             return None
-        names.add(function_at(text.splitlines(), text.count("\n", 0, text.index(old))))
-    if len(names) != 1 or None in names:
-        return None
-    modules = [*path.parts[1:-1], path.stem]
-    if modules[-1] in ["lib", "main"]:
-        modules.pop()
-    return "::".join([crate.name, *modules]), names.pop()
+        line = text.count("\n", 0, text.index(old))
+        names |= {name for name, function in functions.items() if function.file == file and function.has(line)} or {None}
+    return names.pop() if len(names) == 1 else None
 
 
 def rounds_of(crate, edits):
     """The edits of bodies in rounds, in each of which no function has two, and the edits that are left."""
-    rounds, left = [], []
+    rounds, left, functions = [], [], functions_of(crate)
     for edit in edits:
-        place = place_of(crate, edit)
+        place = place_of(crate, functions, edit)
         if place is None:
             left.append(edit)
             continue
@@ -89,38 +69,31 @@ def apply(crate, edits):
 
 
 def refused_in(output, places):
-    """Of these places those whose function isn't proved by itself, by what the check said."""
+    """Of these functions those that aren't proved by themselves, by what the check said."""
     found = {}
     for name, verdict, why in VERDICT.findall(output):
-        is_refused = verdict != "proved" and not BY_OTHERS.search(why)
-        found.setdefault(name, is_refused)
-    refused = set()
-    for module, function in places:
-        named = called(found, module, function)
-        if len(named) == 1 and found[named[0]]:
-            refused.add((module, function))
-    return refused
-
-
-def called(names, module, function):
-    """Those of the names that the function of the module can have."""
-    return [name for name in names if name.startswith(module + "::") and name.split("::")[-1] == function]
+        found.setdefault(name, verdict != "proved" and not BY_OTHERS.search(why))
+    return {place for place in places if found.get(place)}
 
 
 def goals_in(output):
     """The goals of each function that isn't proved by itself, by what the check said.
 
-    A goal has a `?` behind it where only a proof file says so, as it names what an edit took away. A
-    function without a goal has what was said of it instead.
+    A goal has a `!` behind it where the check knows values at which it is false, and a `?` where only a
+    proof file says so, as it names what an edit took away. A function without a goal has what was said of
+    it instead.
     """
     errors, goals, opened = errors_in(output), {}, []
     for line in output.splitlines():
-        opened += OPEN.findall(line) if OPEN.match(line) else []
+        left_open = OPEN.match(line)
+        if left_open:
+            opened.append(left_open[1] + "!" * ("goal is false" in left_open[2]))
         if not re.match(r"\w+ \S+: (proved|not proved|no proof)", line):
             continue
         name, ends, why = VERDICT.match(line).groups() if line.startswith("fn ") else ("", "proved", "")
         if ends != "proved" and not BY_OTHERS.search(why):
-            there = opened + re.findall(r"`([^`]+)`", why.partition("did not prove")[2])
+            named = re.findall(r"`([^`]+)`", why.partition("did not prove")[2].partition(";")[0])
+            there = opened + [goal for goal in named if goal + "!" not in opened]
             there += errors.get("proofs/" + "/".join(name.split("::")[1:]), [])
             goals.setdefault(name, list(dict.fromkeys(there)) or [ends + why.partition(",")[0]])
         opened = []

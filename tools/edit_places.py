@@ -81,7 +81,7 @@ def goals_in(output):
 
     A goal has a `!` behind it where the check knows values at which it is false, and a `?` where only a
     proof file says so, as it names what an edit took away. A function without a goal has what was said of
-    it instead.
+    it instead. Behind the functions come the files of lemmas, each with those that don't hold.
     """
     errors, goals, opened = errors_in(output), {}, []
     for line in output.splitlines():
@@ -94,26 +94,27 @@ def goals_in(output):
         if ends != "proved" and not BY_OTHERS.search(why):
             named = re.findall(r"`([^`]+)`", why.partition("did not prove")[2].partition(";")[0])
             there = opened + [goal for goal in named if goal + "!" not in opened]
-            there += errors.get("proofs/" + "/".join(name.split("::")[1:]), [])
+            folder = "proofs/" + "/".join(name.split("::")[1:])
+            there += [goal for file, named in errors.items() if str(Path(file).parent) == folder for goal in named]
             goals.setdefault(name, list(dict.fromkeys(there)) or [ends + why.partition(",")[0]])
         opened = []
-    return goals
+    return {**goals, **{file: named for file, named in errors.items() if str(Path(file).parent) == "proofs"}}
 
 
 def errors_in(output):
-    """What the errors of the check are about, by the folders of their files."""
+    """What the errors of the check are about, by their files."""
     found = {}
     for line in output.splitlines():
         error = ERROR.match(line)
         if error:
             file, name, why = error.groups()
             lost = file.startswith("proofs/") and LOST.search(why)
-            found.setdefault(str(Path(file).parent), []).append((name or file) + "?" * bool(lost))
+            found.setdefault(file, []).append((name or file) + "?" * bool(lost))
     return found
 
 
 def is_told(output):
     """Whether the check read the code and the definitions, and left a goal open for more than a lost name."""
-    is_read = not any(folder.startswith(("src", "specs")) for folder in errors_in(output))
+    is_read = not any(file.startswith(("src", "specs")) for file in errors_in(output))
     return is_read and any(not goal.endswith("?") and " " not in goal
                            for goals in goals_in(output).values() for goal in goals)

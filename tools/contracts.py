@@ -6,7 +6,7 @@ import re
 from pathlib import Path
 
 FUNCTION = re.compile(r"( *)(pub(?:\([^)]*\))? )?(?:(?:const|final) )*fn (\w+)")
-OWNER = re.compile(r"(?:pub )?(?:impl|trait)(?:<[^>]*>)? (?:([\w:]+)(?:<([\w:]+).*?>+)? for )?([\w:]+)")
+OWNER = re.compile(r"(?:pub )?(?:impl|trait)(?:<[^>]*>)? (?:([\w:]+)(?:<([\w:]+).*?>+)? for )?(\w+(?:::\w+)*)")
 TYPE = re.compile(r"^(?:pub(?:\([^)]*\))? )?(?:struct|enum|trait) (\w+)", re.MULTILINE)
 CLAUSE = re.compile(r" *ensures (?:(\w+) )?\{(.*)")
 
@@ -59,7 +59,7 @@ def module_of(crate, file):
 
 
 def functions_of(crate):
-    """The functions of the crate by their names. A method stands in the module of its type."""
+    """The functions of the crate by their names. A method stands in the module of its type, but for one of a trait."""
     files = {str(path.relative_to(crate)): path.read_text(encoding="utf-8") for path in crate.glob("src/**/*.rt")}
     homes = {name: module_of(crate, file) for file, text in files.items() for name in TYPE.findall(text)}
     found = {}
@@ -71,8 +71,8 @@ def functions_of(crate):
                 owner = OWNER.match(line) if line.endswith("{") else None
             if FUNCTION.match(line):
                 function = Function(file, lines, number)
-                parts = [here] if owner is None else [{**homes, **own}.get(last(owner[3]), here), named(owner)]
-                found["::".join([*parts, function.own])] = function
+                home = here if owner is None or owner[1] else {**homes, **own}.get(last(owner[3]), here)
+                found["::".join([home, *([named(owner)] if owner else []), function.own])] = function
     return found
 
 

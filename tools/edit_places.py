@@ -8,7 +8,7 @@ from pathlib import Path
 
 from contracts import functions_of
 
-VERDICT = re.compile(r"^fn (\S+): (proved|not proved|no proof)(.*)$", re.M)
+VERDICT = re.compile(r"fn (\S+): (proved|not proved|no proof)(.*)")
 # What isn't proved only because a function that it calls isn't.
 BY_OTHERS = re.compile(r"it calls|it passes|a call of")
 # A goal that is left open, with what more is known of it; an error in a file, with the goal or lemma that it is about.
@@ -69,11 +69,9 @@ def apply(crate, edits):
 
 
 def refused_in(output, places):
-    """Of these functions those that aren't proved by themselves, by what the check said."""
-    found = {}
-    for name, verdict, why in VERDICT.findall(output):
-        found.setdefault(name, verdict != "proved" and not BY_OTHERS.search(why))
-    return {place for place in places if found.get(place)}
+    """Of these functions those that aren't proved by themselves, for more than a name that an edit took away."""
+    goals = goals_in(output)
+    return {place for place in places if any(not goal.endswith("?") for goal in goals.get(place, []))}
 
 
 def goals_in(output):
@@ -111,6 +109,15 @@ def errors_in(output):
             lost = file.startswith("proofs/") and LOST.search(why)
             found.setdefault(file, []).append((name or file) + "?" * bool(lost))
     return found
+
+
+def blamed(said):
+    """The file and the goal that the toolchain names where it refuses an edit."""
+    error, left_open = ERROR.search(said), OPEN.search(said)
+    if error:
+        file, name, _ = error.groups()
+        return file, (name or file) + "?" * ("only because a proof file" in said)
+    return "-", left_open[1] if left_open else "-"
 
 
 def is_told(output):

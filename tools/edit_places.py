@@ -18,27 +18,17 @@ ERROR = re.compile(r"(?:note: )?(?:\./)?((?:src|specs|proofs)/[^\s:]+):\d+:\d+: 
 LOST = re.compile(r"has no field|is not in scope|has no `|was not admitted")
 
 
-def parts_of(edit):
-    """The file that the edit changes, and its pairs of old and new text."""
-    lines = edit.read_text().splitlines()
-    file = next(line[6:] for line in lines if line.startswith("file: "))
-    old = [line[5:] for line in lines if line.startswith("old: ")]
-    new = [line[5:] for line in lines if line.startswith("new: ")]
-    return file, list(zip(old, new))
-
-
 def place_of(crate, functions, edit):
     """The name of the function whose body the edit changes, if it changes one body alone."""
-    file, pairs = parts_of(edit)
-    if not any(function.file == file for function in functions.values()):
-        return None
-    text = (crate / file).read_text()
+    there = {name: function for name, function in functions.items() if function.file == edit.file}
+    text = (crate / edit.file).read_text(encoding="utf-8") if there else ""
     names = set()
-    for old, _ in pairs:
+    for old, _ in edit.pairs:
         if text.count(old) != 1:
             return None
-        line = text.count("\n", 0, text.index(old))
-        names |= {name for name, function in functions.items() if function.file == file and function.has(line)} or {None}
+        first = text.count("\n", 0, text.index(old))
+        last = first + old.count("\n")
+        names |= {name for name, it in there.items() if it.has(first) and it.has(last)} or {None}
     return names.pop() if len(names) == 1 else None
 
 
@@ -59,13 +49,22 @@ def rounds_of(crate, edits):
 
 
 def apply(crate, edits):
-    """Changes the files of the crate as the edits say."""
+    """Changes bodies of the crate, no two of one function, as the edits say."""
+    places = {}
     for edit in edits:
-        file, pairs = parts_of(edit)
-        text = (crate / file).read_text()
-        for old, new in pairs:
-            text = text.replace(old, new)
-        (crate / file).write_text(text)
+        text = (crate / edit.file).read_text(encoding="utf-8")
+        places.setdefault(edit.file, []).extend((text.index(old), old, new) for old, new in edit.pairs)
+    for file, found in places.items():
+        text = (crate / file).read_text(encoding="utf-8")
+        for at, old, new in sorted(found, reverse=True):
+            text = text[:at] + new + text[at + len(old):]
+        (crate / file).write_text(text, encoding="utf-8")
+
+
+def apply_alone(crate, edit):
+    """Changes the crate as the edit says, whatever that is."""
+    path = crate / edit.file
+    path.write_text(edit.changed(path.read_text(encoding="utf-8")), encoding="utf-8")
 
 
 def refused_in(output, places):

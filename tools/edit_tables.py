@@ -1,0 +1,147 @@
+"""Wrong bodies, as the tables in edits/ have them, and in the form of the toolchain.
+
+A table is the file edits/CRATE/FUNCTION.edits. It names the function, the file in which that stands and,
+where the contract is one clause without a name, what this says, in words. Then come the wrong bodies: the
+name of each says what is wrong, its lines with - the old text, and those with + what stands there instead.
+
+    function: job::Job::below
+    file: src/job.rt
+    clause: a new job in this one, whose koid is given
+
+    job_is_made_at_depth_17
+    - if self.depth >= Job::MOST_DEPTH {
+    + if self.depth > Job::MOST_DEPTH {
+
+Behind a name stand the clauses that the body breaks, as `policy_is_set_relatively: ok`, or words for what has
+no name. The old text stands once in its file: a part of a line, or several lines without comments. More lines
+with - and + apply to what those before them made. A line `file: ..` below a name is of this body alone. Empty
+lines mean nothing, nor do those that begin with #.
+
+What changes a definition stands with the law that refuses it, or in a table edits/CRATE/FILE.edits that names
+no function, but a file of definitions.
+
+The toolchain reads a file for each, in which each text is one line:
+
+    file: src/job.rt
+    old: if self.depth >= Job::MOST_DEPTH {
+    new: if self.depth > Job::MOST_DEPTH {
+"""
+import re
+from fnmatch import fnmatch
+from pathlib import Path
+
+TOP = Path(__file__).resolve().parent.parent
+PART = re.compile(r"(?P<key>function|file|clause): (?P<value>.+)\n"
+                  r"|(?P<old>(?:-(?: .*)?\n)+)(?P<new>(?:\+(?: .*)?\n)+)"
+                  r"|(?P<name>[A-Za-z0-9_]+)(?:: (?P<clause>.+))?\n")
+COMMENT = re.compile(r"//|(?<!\S)--(?!\S)")
+
+
+class Unreadable(Exception):
+    """What is wrong with a table or with one of its edits."""
+
+
+class Edit:
+    """A wrong body of a crate: what it changes, and the clauses of a function that it has to break."""
+
+    def __init__(self, crate, path, name, function="", file="", clause=""):
+        self.crate, self.path, self.name = crate, path, name
+        self.function, self.file, self.clause = function, file, clause
+        self.is_of_head, self.pairs = True, []
+
+    def __str__(self):
+        return f"{self.crate}/{self.name}"
+
+    def is_called(self, word):
+        """Whether the word names it: its crate, or behind that and a / its own name or that of its table."""
+        pattern = word if "/" in word else word + "/*"
+        return any(fnmatch(f"{self.crate}/{name}", pattern) for name in [self.name, self.path.stem])
+
+    def is_long(self):
+        """Whether one of its texts has several lines, which the toolchain's form can't have."""
+        return any("\n" in text for pair in self.pairs for text in pair)
+
+    def changed(self, text):
+        """The text of its file with the change."""
+        was = text
+        for old, new in self.pairs:
+            if text.count(old) != 1:
+                raise Unreadable(f"{self}: its old text is in {self.file} {text.count(old)} times: {flat(old)}")
+            text = text.replace(old, new)
+        if text == was:
+            raise Unreadable(f"{self}: it changes nothing")
+        return text
+
+
+def in_table(path):
+    """The edits of a table."""
+    head, edits, at = {}, [], 0
+    lines = [line for line in path.read_text(encoding="utf-8").split("\n") if line.strip() and not line.startswith("#")]
+    text = "".join(f"{line}\n" for line in lines)
+    while at < len(text):
+        part = PART.match(text, at)
+        where = f"edits/{path.parent.name}/{path.name}"
+        if not part or part["old"] and not edits or part["key"] and edits and part["key"] != "file":
+            line, *_ = text[at:].split("\n")
+            raise Unreadable(f"{where}: this can't stand here: {line}")
+        if part["old"]:
+            edits[-1].pairs.append((text_of(part["old"], where), text_of(part["new"], where)))
+        elif part["key"] and edits:
+            edits[-1].file = part["value"]
+        elif part["key"]:
+            head[part["key"]] = part["value"]
+        else:
+            edits.append(Edit(path.parent.name, path, part["name"], **head))
+            edits[-1].clause = part["clause"] or edits[-1].clause
+            edits[-1].is_of_head = not part["clause"]
+        at = part.end()
+    return edits
+
+
+def text_of(lines, where):
+    """The text that lines with a sign say."""
+    lines = [line[2:] for line in lines.rstrip("\n").split("\n")]
+    if any(COMMENT.search(line) for line in lines[:-1]):
+        raise Unreadable(f"{where}: a text of several lines has a comment: {lines[0]}")
+    return "\n".join(lines)
+
+
+def in_file(path, crate):
+    """The edit of a file in the toolchain's form."""
+    lines = path.read_text(encoding="utf-8").split("\n")
+    edit = Edit(crate, path, path.stem, file=next(line[6:] for line in lines if line.startswith("file: ")))
+    old = [line[5:] for line in lines if line.startswith("old: ")]
+    new = [line[5:] for line in lines if line.startswith("new:")]
+    edit.pairs = list(zip(old, new))
+    return edit
+
+
+def edits_of(crate):
+    """The edits of the crate that stand outside of the gate."""
+    folder = TOP / "edits" / crate
+    return [*(in_file(path, crate) for path in sorted(folder.glob("*.edit"))),
+            *(edit for path in sorted(folder.glob("*.edits")) for edit in in_table(path))]
+
+
+def edits_in_gate(crate):
+    return [in_file(path, crate) for path in sorted((TOP / "crates" / crate / "must-fail").glob("*.edit"))]
+
+
+def flat(text):
+    """The text on one line."""
+    return re.sub(r"\s*\n\s*", " ", text)
+
+
+def write_file(edit, crate):
+    """Writes the edit in the toolchain's form into a copy of its crate, where its old texts become one line."""
+    path = crate / edit.file
+    text = path.read_text(encoding="utf-8")
+    lines = [f"file: {edit.file}"]
+    for old, new in edit.pairs:
+        text = text.replace(old, flat(old))
+        lines += [f"old: {flat(old)}", f"new: {flat(new)}"]
+    if edit.is_long():
+        path.write_text(text, encoding="utf-8")
+    folder = crate / "must-fail"
+    folder.mkdir(exist_ok=True)
+    (folder / f"{edit.name}.edit").write_text("".join(f"{line}\n" for line in lines), encoding="utf-8")

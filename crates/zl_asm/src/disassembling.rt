@@ -212,21 +212,16 @@ fn push_row(
     row: Row,
     bytes: [u8; Instr::LEN],
 ) -> Result<(), AllocError>
-    requires { row.registers ≤ most_registers }
+    requires { length row.fields.now ≤ most_registers }
     ensures { Adds result text.old text.new
-        (laid_out count row.name.now row.registers row.ending bytes) }
+        (laid_out count row.name.now (length row.fields.now) row.ending bytes) }
 {
     let parts = InstrBytes::split(bytes);
+    let registers = row.registers();
     text.push_str(row.name)?;
     text.push_str(" ")?;
-    push_registers(text, &parts.registers[..row.registers])?;
-    push_tail(
-        text,
-        separator_behind(row.registers),
-        count,
-        row.ending,
-        bytes,
-    )?;
+    push_registers(text, &parts.registers[..registers])?;
+    push_tail(text, separator_behind(registers), count, row.ending, bytes)?;
     Ok(())
 }
 

@@ -138,15 +138,17 @@ fn tail_of<'a>(ending: Ending, operands: &[&'a [u8]]) -> Result<Tail<'a>, AsmCau
 
 /// The instruction of the row with these operands, its registers first.
 pub(crate) fn source_of<'a>(row: &Row, operands: &[&'a [u8]]) -> Result<Source<'a>, AsmCause>
-    requires { row.now.registers ≤ most_registers }
+    requires { length row.now.fields.now ≤ most_registers }
     ensures { option_map source_value (result_ok result) ≡ source_with row.now.opcode
-        (registers_of row.now.registers (take row.now.registers (texts operands.now)))
-        (tail_of row.now.ending (drop row.now.registers (texts operands.now))) }
+        (registers_of (length row.now.fields.now)
+        (take (length row.now.fields.now) (texts operands.now)))
+        (tail_of row.now.ending (drop (length row.now.fields.now) (texts operands.now))) }
 {
-    if operands.len() < row.registers {
+    let count = row.registers();
+    if operands.len() < count {
         return Err(AsmCause::Operand);
     }
-    let (registers, rest) = operands.split_at(row.registers);
+    let (registers, rest) = operands.split_at(count);
     let mut places = [0; InstrBytes::REGISTERS];
     put_registers(&mut places, registers)?;
     let tail = tail_of(row.ending, rest)?;

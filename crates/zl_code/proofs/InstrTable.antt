@@ -1,5 +1,9 @@
 -- The rows of the table, by opcode and by name.
-use Rattle.zl_code.proofs.Common.{◌≡◌, ◌≢◌, ℕ, ◌+◌, ◌<◌, ◌≤◌, Bool, true, false, ◌==◌, ◌&&◌, not, nat_lt, List, [], ◌∷◌, Option, Some, None, refl, ap, sym, subst, ◌∙◌, inl, inr, arith, find, list_all, option_map, cases_Bool, and_parts, and_from, eqb-true, ltb-true, Row, row_of, row_named, rows, row_among, eq-eqb}
+use Rattle.zl_code.proofs.Common.{◌≡◌, ◌≢◌, ℕ, ◌+◌, ◌<◌, ◌≤◌, Bool, true, false, ◌==◌, ◌&&◌, not, nat_lt, List, [], ◌∷◌, Option, Some, None, refl, ap, sym}
+use Rattle.zl_code.proofs.Common.{subst, ◌∙◌, inl, inr, arith, find, list_all, option_map, cases_Bool, and_parts, and_from, eqb-true, ltb-true, Row, row_of}
+use Rattle.zl_code.proofs.Common.{row_named, rows, row_among, eq-eqb, same_Some, length, length-map}
+use Rattle.zl_code.specs.Instructions.{layout, field_of, row_value}
+use Rattle.zl_code.specs.declared.layout.Row.{Row as RowInCode}
 use Rattle.std.specs.Cmp.Lexicographic.{pointwise}
 
 -- the fact holds of each row
@@ -94,41 +98,15 @@ row_of-named name r e = (row_again (λ x. pointwise ◌==◌ x.name name) rows r
 
 -- ---- going over the opcodes
 
-opcode_among : (rs : List Row) (opcode : ℕ) (r : Row) → row_among rs opcode ≡ Some r → r.opcode ≡ opcode
-opcode_among [] opcode r e = absurd cc
-opcode_among (x ∷ rs) opcode r e =
-    elim (cases_Bool (x.opcode == opcode)) as (λ _. r.opcode ≡ opcode) [
-      | inl here ↦ let same : x ≡ r = cc in sym (ap (λ (y : Row). y.opcode) same) ∙ eqb-true x.opcode opcode here
-      | inr apart ↦ opcode_among rs opcode r cc
-    ]
+-- the row of an opcode that has the name is the row of the name
+pub row_by_name : (r : Row) (name : List ℕ) (opcode : ℕ) → Some r ≡ row_of opcode → true ≡ pointwise ◌==◌ r.name name → Some r ≡ row_named name
+row_by_name r name opcode has same = sym (row_named-of opcode r (sym has)) ∙ ap row_named (same_names r.name name (sym same))
 
--- each row has the opcode at which it is found
-opcode_of-row : (opcode : ℕ) (r : Row) → row_of opcode ≡ Some r → r.opcode ≡ opcode
-unfolding row_of
-opcode_of-row opcode r e = opcode_among rows opcode r e
-
--- the row of the opcode has the name n, and n is the name that is looked for
-pub record IsFound (name : List ℕ) (opcode : ℕ) (n : List ℕ) : Type 0 where
-  pub has : Some n ≡ option_map (λ (r : Row). r.name) (row_of opcode)
-  pub same : true ≡ pointwise ◌==◌ n name
-
--- what the row of the opcode says, the row of its name says
-pub same_by_name : {X : Type 0} (f : Row → X) (x : X) (name : List ℕ) (opcode : ℕ) (n : List ℕ) → IsFound name opcode n → Some x ≡ option_map f (row_of opcode) → Some x ≡ option_map f (row_named name)
-same_by_name {X} f x name opcode n found e = by (row_of opcode) refl found.has e
-  where
-    by : (o : Option Row) → row_of opcode ≡ o → Some n ≡ option_map (λ (r : Row). r.name) o → Some x ≡ option_map f o → Some x ≡ option_map f (row_named name)
-    by None at h v = absurd cc
-    by (Some r) at h v =
-        let same : n ≡ name = same_names n name (sym found.same) in
-        let named : name ≡ r.name = cc in
-        v ∙ sym (ap (option_map f) (ap row_named named ∙ row_named-of opcode r at))
-
-pub opcode_by_name : (name : List ℕ) (opcode : ℕ) (n : List ℕ) → IsFound name opcode n → Some opcode ≡ option_map (λ (r : Row). r.opcode) (row_named name)
-opcode_by_name name opcode n found = same_by_name (λ (r : Row). r.opcode) opcode name opcode n found (by (row_of opcode) refl found.has)
-  where
-    by : (o : Option Row) → row_of opcode ≡ o → Some n ≡ option_map (λ (r : Row). r.name) o → Some opcode ≡ option_map (λ (r : Row). r.opcode) o
-    by None at h = absurd cc
-    by (Some r) at h = ap Some (sym (opcode_of-row opcode r at))
+-- the layout of a row in code
+pub laid_out : (row : RowInCode) (o : Option Row) → Some (row_value row) ≡ o
+    → Some (layout (length row.fields.now) row.ending) ≡ option_map (λ r. layout (length r.fields) r.ending) o
+laid_out row o e = ap (λ n. Some (layout n row.ending)) (sym (length-map row.fields.now field_of))
+    ∙ ap (option_map (λ r. layout (length r.fields) r.ending)) e
 
 -- opcodes below have other names, and so has this one
 pub not_here : (name : List ℕ) (opcode : ℕ) → ((r : Row) → row_named name ≡ Some r → opcode ≤ r.opcode) → ((r : Row) → row_of opcode ≡ Some r → r.name ≢ name) → (r : Row) → row_named name ≡ Some r → opcode + 1 ≤ r.opcode
@@ -139,13 +117,15 @@ not_here name opcode below other r e =
       | inr apart ↦ let le : opcode ≤ r.opcode = below r e in grind arith
     ]
 
-pub no_row : {X : Type 0} (f : Row → X) (opcode : ℕ) (r : Row) (name : List ℕ) → None ≡ option_map f (row_of opcode) → row_of opcode ≡ Some r → r.name ≢ name
-no_row f opcode r name none e same = absurd cc
+pub no_row : (opcode : ℕ) (r : Row) (name : List ℕ) → None ≡ row_of opcode → row_of opcode ≡ Some r → r.name ≢ name
+no_row opcode r name none e same = absurd cc
 
-pub other_name : (n name : List ℕ) (opcode : ℕ) (r : Row) → Some n ≡ option_map (λ (x : Row). x.name) (row_of opcode) → false ≡ pointwise ◌==◌ n name → row_of opcode ≡ Some r → r.name ≢ name
-other_name n name opcode r has apart e same =
-    let named : n ≡ name = cc in
-    absurd (different (sym (same_refl name) ∙ sym (ap (λ (m : List ℕ). pointwise ◌==◌ m name) named) ∙ sym apart))
+pub other_name : (n : Row) (name : List ℕ) (opcode : ℕ) (r : Row) → Some n ≡ row_of opcode
+    → false ≡ pointwise ◌==◌ n.name name → row_of opcode ≡ Some r → r.name ≢ name
+other_name n name opcode r has differs e same =
+    let found : n ≡ r = same_Some n r (has ∙ e) in
+    let named : n.name ≡ name = ap (λ (x : Row). x.name) found ∙ same in
+    absurd (different (sym (same_refl name) ∙ sym (ap (λ (m : List ℕ). pointwise ◌==◌ m name) named) ∙ sym differs))
   where
     different : true ≡ false → ⊥
     different h = absurd cc

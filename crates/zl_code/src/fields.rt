@@ -1,6 +1,6 @@
 //! The 16 bytes of an instruction, field by field.
 
-ghost use Rattle.std.specs.Prelude.{◌≡◌, ◌<◌, ◌≤◌, ◌==◌, true, false, IfOk, IfErr, OnOk, drop, slice_index};
+ghost use Rattle.std.specs.Prelude.{◌≡◌, ◌<◌, ◌≤◌, ◌==◌, true, false, IfOk, IfErr, OnOk, drop, length, slice_index};
 ghost use Rattle.std.specs.List.{list_all};
 ghost use Rattle.zl_code.specs.declared.image.DecodeFault.TheVariants as faults;
 ghost use Rattle.zl_code.specs.Limits.{register_count, most_registers, no_register};
@@ -134,12 +134,12 @@ fn is_ending_clear(ending: Ending, fields: &Fields) -> bool
 
 /// Whether the fields that the row doesn't use are 0.
 pub(crate) fn is_unused_zero(row: Row, fields: &Fields) -> bool
-    requires { row.registers ≤ most_registers }
-    ensures { result ≡
-        is_unused_zero (layout_with row.registers row.ending) (read_in fields.now) }
+    requires { length row.fields.now ≤ most_registers }
+    ensures { result ≡ is_unused_zero
+        (layout_with (length row.fields.now) row.ending) (read_in fields.now) }
 {
     let registers: &[Register] = &[
         fields.a, fields.b, fields.c, fields.d, fields.e, fields.f, fields.g,
     ];
-    are_zero(&registers[row.registers..]) && is_ending_clear(row.ending, fields)
+    are_zero(&registers[row.registers()..]) && is_ending_clear(row.ending, fields)
 }

@@ -5,6 +5,7 @@ ghost use Rattle.zl_code.specs.Limits.{most_registers};
 ghost use Rattle.zl_code.specs.Spells.{bytes_of, seven, instr_bytes, local_bytes, call_bytes, fields, number_at, registers_at};
 
 use crate::instr::{CallInstr, HandleList, Instr, LocalInstr};
+use crate::parts::{CallParts, seven};
 use crate::register::Register;
 
 /// The 16 bytes of an instruction, by their parts. Own profile.
@@ -90,17 +91,21 @@ impl InstrBytes {
     }
 }
 
-/// The numbers of the registers that are used, and 0 behind them.
+/// The numbers of the registers.
 #[inline(always)]
-fn seven(used: &[Register]) -> [u8; InstrBytes::REGISTERS]
-    requires { length used.now ≤ most_registers }
-    ensures { result ≡ seven used.now }
+fn numbers(registers: [Register; InstrBytes::REGISTERS]) -> [u8; InstrBytes::REGISTERS]
+    ensures { result ≡ registers }
 {
-    let mut registers = [0; InstrBytes::REGISTERS];
-    for (place, register) in used.iter().enumerate() {
-        registers[place] = register.number();
-    }
-    registers
+    let [a, b, c, d, e, f, g] = registers;
+    [
+        a.number(),
+        b.number(),
+        c.number(),
+        d.number(),
+        e.number(),
+        f.number(),
+        g.number(),
+    ]
 }
 
 /// The bytes of an instruction with these registers, a number and a target.
@@ -113,23 +118,8 @@ fn with_registers<const N: usize>(
     requires { N ≤ most_registers }
     ensures { result ≡ fields opcode used.entry imm target }
 {
-    let registers = seven(&used);
+    let registers = numbers(seven(&used));
     let last = InstrBytes::numbers(imm, target);
-    InstrBytes {
-        opcode,
-        registers,
-        last,
-    }
-    .join()
-}
-
-/// The bytes of an instruction with these registers and a list of handles.
-fn with_handles(opcode: u8, used: &[Register], handles: HandleList) -> [u8; Instr::LEN]
-    requires { length used.now ≤ most_registers }
-    ensures { result ≡ opcode ∷ (seven used.now ++ handles.places) }
-{
-    let registers = seven(used);
-    let last = handles.places;
     InstrBytes {
         opcode,
         registers,
@@ -258,140 +248,20 @@ fn local_bytes(local: LocalInstr) -> [u8; Instr::LEN]
 }
 
 /// The 16 bytes of the system call.
-#[tactic(auto, unfolding(crate::specs::Spells::call_parts))]
 fn call_bytes(call: CallInstr) -> [u8; Instr::LEN]
     ensures { result ≡ call_bytes call }
 {
-    match call {
-        CallInstr::Close { status, handle } => with_registers(64, [status, handle], 0, 0),
-        CallInstr::Dup {
-            status,
-            handle,
-            copy,
-            rights,
-        } => with_registers(65, [status, handle, copy], rights, 0),
-        CallInstr::Replace {
-            status,
-            handle,
-            replacement,
-            rights,
-        } => with_registers(66, [status, handle, replacement], rights, 0),
-        CallInstr::ChanCreate {
-            status,
-            first,
-            second,
-        } => with_registers(67, [status, first, second], 0, 0),
-        CallInstr::ChanWrite {
-            status,
-            channel,
-            address,
-            length,
-            handles,
-        } => with_handles(68, &[status, channel, address, length], handles),
-        CallInstr::ChanReadEtc {
-            status,
-            channel,
-            address,
-            room,
-            bytes,
-            handles,
-            first,
-            places,
-        } => with_registers(
-            69,
-            [status, channel, address, room, bytes, handles, first],
-            places,
-            0,
-        ),
-        CallInstr::EventCreate { status, event } => with_registers(70, [status, event], 0, 0),
-        CallInstr::Signal {
-            status,
-            handle,
-            clear,
-            set,
-        } => with_registers(71, [status, handle, clear, set], 0, 0),
-        CallInstr::SignalPeer {
-            status,
-            handle,
-            clear,
-            set,
-        } => with_registers(72, [status, handle, clear, set], 0, 0),
-        CallInstr::WaitOne {
-            status,
-            handle,
-            mask,
-            observed,
-        } => with_registers(73, [status, handle, mask, observed], 0, 0),
-        CallInstr::WaitPoll {
-            status,
-            handle,
-            mask,
-            observed,
-        } => with_registers(74, [status, handle, mask, observed], 0, 0),
-        CallInstr::WaitAsync {
-            status,
-            handle,
-            port,
-            key,
-            mask,
-        } => with_registers(75, [status, handle, port, key, mask], 0, 0),
-        CallInstr::PortCreate { status, port } => with_registers(76, [status, port], 0, 0),
-        CallInstr::PortQueue {
-            status,
-            port,
-            key,
-            value,
-        } => with_registers(77, [status, port, key, value], 0, 0),
-        CallInstr::PortWait {
-            status,
-            port,
-            key,
-            kind,
-            trigger,
-            observed,
-        } => with_registers(78, [status, port, key, kind, trigger, observed], 0, 0),
-        CallInstr::PortPoll {
-            status,
-            port,
-            key,
-            kind,
-            trigger,
-            observed,
-        } => with_registers(79, [status, port, key, kind, trigger, observed], 0, 0),
-        CallInstr::PortCancel {
-            status,
-            port,
-            source,
-            key,
-        } => with_registers(80, [status, port, source, key], 0, 0),
-        CallInstr::ProcessCreate {
-            status,
-            job,
-            program,
-            process,
-        } => with_registers(81, [status, job, program, process], 0, 0),
-        CallInstr::ProcessStart {
-            status,
-            process,
-            handle,
-            word,
-        } => with_registers(82, [status, process, handle, word], 0, 0),
-        CallInstr::ProcessExit { code } => with_registers(83, [code], 0, 0),
-        CallInstr::TaskKill { status, task } => with_registers(84, [status, task], 0, 0),
-        CallInstr::JobCreate { status, job, child } => with_registers(
-            85,
-            [status, job, child],
-            0,
-            0,
-        ),
-        CallInstr::JobSetPolicy {
-            status,
-            job,
-            mode,
-            condition,
-            action,
-        } => with_registers(86, [status, job, mode, condition, action], 0, 0),
+    let CallParts {
+        opcode,
+        registers,
+        last,
+    } = call.parts();
+    InstrBytes {
+        opcode,
+        registers: numbers(registers),
+        last: last.bytes(),
     }
+    .join()
 }
 
 impl Instr {

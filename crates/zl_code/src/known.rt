@@ -13,11 +13,8 @@ ghost use Rattle.zl_code.specs.Fields.{read_in};
 use crate::fields::{Fields, fields_of, is_unused_zero, names_registers};
 use crate::image::DecodeFault;
 use crate::instr::{CallInstr, HandleList, Instr, LocalInstr};
-use crate::layout::Row;
+use crate::layout::{FIRST_CALL, Row};
 use std::alloc::Global;
-
-/// The least opcode of a system call.
-const FIRST_CALL: u8 = 64;
 
 /// The instruction of a known opcode below 64.
 #[tactic(auto, unfolding(crate::specs::Instructions::row_of, crate::specs::Spells::local_parts))]

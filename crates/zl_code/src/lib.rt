@@ -12,6 +12,7 @@
 mod boot;
 pub mod boot_laws;
 mod building;
+mod columns;
 mod comparing;
 mod declarations;
 mod decoding;
@@ -24,6 +25,7 @@ mod instr_bytes;
 mod known;
 pub mod laws;
 mod layout;
+mod parts;
 mod register;
 
 pub use boot::{Boot, BootCause, BootFault, Grant, Grants, Statement};
@@ -33,5 +35,6 @@ pub use history::{CallName, Outcome, ProcState, TraceItem, are_same_items};
 pub use image::{DecodeFault, Image, SlotArray, Start};
 pub use instr::{CallInstr, HandleList, Instr, LocalInstr};
 pub use instr_bytes::InstrBytes;
-pub use layout::{Ending, Row};
+pub use layout::{Ending, Field, Kinds, Row};
+pub use parts::{CallParts, Last};
 pub use register::Register;

@@ -35,6 +35,13 @@ impl Register {
         }
     }
 
+    /// Register 0.
+    pub(crate) fn zero() -> Register
+        ensures { result ≡ 0 }
+    {
+        Register { number: 0 }
+    }
+
     /// The number of the register, 0 to 31.
     pub fn number(self) -> u8
         ensures value { result ≡ self }

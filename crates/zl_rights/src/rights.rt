@@ -54,6 +54,9 @@ impl Flags for Rights {
 }
 
 impl Rights {
+    /// No right.
+    pub const NONE: Rights = Rights(0);
+
     /// The number that asks for just the rights that a handle has.
     pub const SAME_RIGHTS: u32 = 0x8000_0000;
 

@@ -140,7 +140,7 @@ fn rows_by_name(rt: HostRuntime) {
             Row::named(b"chan_write"),
             Some(Row {
                 opcode: 68,
-                registers: 4,
+                fields: [_, _, _, _],
                 ending: Ending::Handles,
                 ..
             })

@@ -352,7 +352,7 @@ fn is_wrongly_used(row: &Row, bytes: &[u8], place: usize) -> bool {
 /// Whether the instruction has no use for the byte in this place.
 fn is_unused(row: &Row, bytes: &[u8], place: usize) -> bool {
     if place < 8 {
-        return place > row.registers;
+        return place > row.registers();
     }
     match row.ending {
         Ending::Nothing => true,
@@ -366,7 +366,7 @@ fn is_unused(row: &Row, bytes: &[u8], place: usize) -> bool {
 /// Whether a register should stand in this place, and doesn't.
 fn is_no_register(row: &Row, bytes: &[u8], place: usize) -> bool {
     let byte = byte_at(bytes, place);
-    if place <= row.registers {
+    if place <= row.registers() {
         byte > 31
     } else {
         place >= 8 && matches!(row.ending, Ending::Handles) && byte > 31 && byte != HandleList::NONE

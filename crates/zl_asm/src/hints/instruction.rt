@@ -70,7 +70,7 @@ pub fn push_instruction_operand(
         return Ok(());
     };
     let count = words.len().div_ceil(2);
-    let least = row.registers.saturating_add(ending_count(row.ending));
+    let least = row.registers().saturating_add(ending_count(row.ending));
     let most = match row.ending {
         Ending::Handles => least.saturating_add(HandleList::MOST),
         _ => least,
@@ -98,7 +98,7 @@ pub fn push_instruction_operand(
 
 /// Adds how many operands there are, and how many the instruction takes.
 fn push_count(hint: &mut String, row: &Row, count: usize, least: usize) -> Result<(), AllocError> {
-    let text = match row.registers {
+    let text = match row.registers() {
         0 => "# has # operand# and takes ##: a target",
         _ => "# has # operand# and takes ##: # register##",
     };
@@ -112,8 +112,8 @@ fn push_count(hint: &mut String, row: &Row, count: usize, least: usize) -> Resul
         Name(plural(count)),
         Number(least as u64),
         Name(most),
-        Number(row.registers as u64),
-        Name(plural(row.registers)),
+        Number(row.registers() as u64),
+        Name(plural(row.registers())),
         Name(ending_text(row.ending)),
     ];
     push_text(hint, text, &values)
@@ -124,8 +124,8 @@ const TARGET: &str = "a label or a number";
 
 /// What is wanted in place of the word, where it isn't that.
 fn wanted_for(row: &Row, index: usize, word: &[u8]) -> Option<&'static str> {
-    let is_behind = index >= row.registers;
-    let is_last = index > row.registers;
+    let is_behind = index >= row.registers();
+    let is_last = index > row.registers();
     match row.ending {
         Ending::Target if is_behind => no_target(word),
         Ending::Both if is_last => no_target(word),

@@ -1,9 +1,0 @@
-use Rattle.zl_code.proofs.Common.{◌≡◌, length, take, drop}
-use Rattle.zl_code.proofs.instr_bytes.seven.Given as goal
-
-abbrev pub invariant-loop-place : goal.invariant-loop-place
-invariant-loop-place l = record {
-  front : take l.place l.registers ≡ take l.place l.used;
-  behind : drop l.place l.registers ≡ drop l.place l.initial.registers;
-  size : length l.registers ≡ 7;
-}

@@ -1,0 +1,9 @@
+use Rattle.zl_code.proofs.Common.{◌≡◌, length, take, drop, replicate}
+use Rattle.zl_code.proofs.parts.seven.Given as goal
+
+abbrev pub invariant-loop-place : goal.invariant-loop-place
+invariant-loop-place l = record {
+  front : take l.place l.registers ≡ take l.place l.used;
+  behind : drop l.place l.registers ≡ drop l.place (replicate 7 0);
+  size : length l.registers ≡ 7;
+}

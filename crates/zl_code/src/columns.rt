@@ -1,0 +1,370 @@
+//! What each instruction does with its registers and the last eight bytes, under its name; local
+//! instructions that have the same stand under the name of the first of them.
+
+use crate::layout::{Ending, Field, Kinds};
+use zl_rights::{Condition, Kind, Rights};
+
+/// What a row has beside opcode and name.
+#[derive(Clone, Copy)]
+pub(crate) struct Columns {
+    pub fields: &'static [Field],
+    pub ending: Ending,
+    pub condition: Option<Condition>,
+    pub grows: bool,
+    pub in_list: Option<Field>,
+}
+
+pub(crate) const CONST: Columns = Columns {
+    fields: &[Field::Writes],
+    ending: Ending::Number,
+    condition: None,
+    grows: false,
+    in_list: None,
+};
+
+pub(crate) const MOV: Columns = Columns {
+    fields: &[Field::Writes, Field::Reads],
+    ending: Ending::Nothing,
+    condition: None,
+    grows: false,
+    in_list: None,
+};
+
+pub(crate) const ADD: Columns = Columns {
+    fields: &[Field::Writes, Field::Reads, Field::Reads],
+    ending: Ending::Nothing,
+    condition: None,
+    grows: false,
+    in_list: None,
+};
+
+pub(crate) const ADDI: Columns = Columns {
+    fields: &[Field::Writes, Field::Reads],
+    ending: Ending::Number,
+    condition: None,
+    grows: false,
+    in_list: None,
+};
+
+pub(crate) const TAKE: Columns = Columns {
+    fields: &[Field::Writes, Field::Changes],
+    ending: Ending::Nothing,
+    condition: None,
+    grows: false,
+    in_list: None,
+};
+
+pub(crate) const SWAP: Columns = Columns {
+    fields: &[Field::Changes, Field::Reads],
+    ending: Ending::Number,
+    condition: None,
+    grows: false,
+    in_list: None,
+};
+
+pub(crate) const ST8: Columns = Columns {
+    fields: &[Field::Reads, Field::Reads],
+    ending: Ending::Number,
+    condition: None,
+    grows: false,
+    in_list: None,
+};
+
+pub(crate) const JMP: Columns = Columns {
+    fields: &[],
+    ending: Ending::Target,
+    condition: None,
+    grows: false,
+    in_list: None,
+};
+
+pub(crate) const JZ: Columns = Columns {
+    fields: &[Field::Reads],
+    ending: Ending::Target,
+    condition: None,
+    grows: false,
+    in_list: None,
+};
+
+pub(crate) const JEQ: Columns = Columns {
+    fields: &[Field::Reads],
+    ending: Ending::Both,
+    condition: None,
+    grows: false,
+    in_list: None,
+};
+
+pub(crate) const CLOSE: Columns = Columns {
+    fields: &[Field::Writes, Field::Closes],
+    ending: Ending::Nothing,
+    condition: None,
+    grows: false,
+    in_list: None,
+};
+
+pub(crate) const DUP: Columns = Columns {
+    fields: &[
+        Field::Writes,
+        Field::Names(Kinds::Any, Rights::DUPLICATE),
+        Field::Writes,
+    ],
+    ending: Ending::Number,
+    condition: None,
+    grows: true,
+    in_list: None,
+};
+
+pub(crate) const REPLACE: Columns = Columns {
+    fields: &[
+        Field::Writes,
+        Field::Consumes(Kinds::Any, Rights::NONE),
+        Field::Writes,
+    ],
+    ending: Ending::Number,
+    condition: None,
+    grows: false,
+    in_list: None,
+};
+
+pub(crate) const CHAN_CREATE: Columns = Columns {
+    fields: &[Field::Writes, Field::Writes, Field::Writes],
+    ending: Ending::Nothing,
+    condition: Some(Condition::NewChannel),
+    grows: true,
+    in_list: None,
+};
+
+pub(crate) const CHAN_WRITE: Columns = Columns {
+    fields: &[
+        Field::Writes,
+        Field::Names(Kinds::Only(Kind::Channel), Rights::WRITE),
+        Field::Reads,
+        Field::Reads,
+    ],
+    ending: Ending::Handles,
+    condition: None,
+    grows: true,
+    in_list: Some(Field::Consumes(Kinds::Any, Rights::TRANSFER)),
+};
+
+pub(crate) const CHAN_READ_ETC: Columns = Columns {
+    fields: &[
+        Field::Writes,
+        Field::Names(Kinds::Only(Kind::Channel), Rights::READ),
+        Field::Reads,
+        Field::Reads,
+        Field::Writes,
+        Field::Writes,
+        Field::Triples,
+    ],
+    ending: Ending::Room,
+    condition: None,
+    grows: true,
+    in_list: None,
+};
+
+pub(crate) const EVENT_CREATE: Columns = Columns {
+    fields: &[Field::Writes, Field::Writes],
+    ending: Ending::Nothing,
+    condition: Some(Condition::NewEvent),
+    grows: true,
+    in_list: None,
+};
+
+pub(crate) const SIGNAL: Columns = Columns {
+    fields: &[
+        Field::Writes,
+        Field::Names(Kinds::Any, Rights::SIGNAL),
+        Field::Reads,
+        Field::Reads,
+    ],
+    ending: Ending::Nothing,
+    condition: None,
+    grows: false,
+    in_list: None,
+};
+
+pub(crate) const SIGNAL_PEER: Columns = Columns {
+    fields: &[
+        Field::Writes,
+        Field::Names(Kinds::Only(Kind::Channel), Rights::SIGNAL_PEER),
+        Field::Reads,
+        Field::Reads,
+    ],
+    ending: Ending::Nothing,
+    condition: None,
+    grows: false,
+    in_list: None,
+};
+
+pub(crate) const WAIT_ONE: Columns = Columns {
+    fields: &[
+        Field::Writes,
+        Field::Names(Kinds::Any, Rights::WAIT),
+        Field::Reads,
+        Field::Writes,
+    ],
+    ending: Ending::Nothing,
+    condition: None,
+    grows: false,
+    in_list: None,
+};
+
+pub(crate) const WAIT_POLL: Columns = Columns {
+    fields: &[
+        Field::Writes,
+        Field::Names(Kinds::Any, Rights::WAIT),
+        Field::Reads,
+        Field::Writes,
+    ],
+    ending: Ending::Nothing,
+    condition: None,
+    grows: false,
+    in_list: None,
+};
+
+pub(crate) const WAIT_ASYNC: Columns = Columns {
+    fields: &[
+        Field::Writes,
+        Field::Names(Kinds::Any, Rights::WAIT),
+        Field::Names(Kinds::Only(Kind::Port), Rights::WRITE),
+        Field::Reads,
+        Field::Reads,
+    ],
+    ending: Ending::Nothing,
+    condition: None,
+    grows: true,
+    in_list: None,
+};
+
+pub(crate) const PORT_CREATE: Columns = Columns {
+    fields: &[Field::Writes, Field::Writes],
+    ending: Ending::Nothing,
+    condition: Some(Condition::NewPort),
+    grows: true,
+    in_list: None,
+};
+
+pub(crate) const PORT_QUEUE: Columns = Columns {
+    fields: &[
+        Field::Writes,
+        Field::Names(Kinds::Only(Kind::Port), Rights::WRITE),
+        Field::Reads,
+        Field::Reads,
+    ],
+    ending: Ending::Nothing,
+    condition: None,
+    grows: true,
+    in_list: None,
+};
+
+pub(crate) const PORT_WAIT: Columns = Columns {
+    fields: &[
+        Field::Writes,
+        Field::Names(Kinds::Only(Kind::Port), Rights::READ),
+        Field::Writes,
+        Field::Writes,
+        Field::Writes,
+        Field::Writes,
+    ],
+    ending: Ending::Nothing,
+    condition: None,
+    grows: false,
+    in_list: None,
+};
+
+pub(crate) const PORT_POLL: Columns = Columns {
+    fields: &[
+        Field::Writes,
+        Field::Names(Kinds::Only(Kind::Port), Rights::READ),
+        Field::Writes,
+        Field::Writes,
+        Field::Writes,
+        Field::Writes,
+    ],
+    ending: Ending::Nothing,
+    condition: None,
+    grows: false,
+    in_list: None,
+};
+
+pub(crate) const PORT_CANCEL: Columns = Columns {
+    fields: &[
+        Field::Writes,
+        Field::Names(Kinds::Only(Kind::Port), Rights::WRITE),
+        Field::Names(Kinds::Any, Rights::NONE),
+        Field::Reads,
+    ],
+    ending: Ending::Nothing,
+    condition: None,
+    grows: false,
+    in_list: None,
+};
+
+pub(crate) const PROCESS_CREATE: Columns = Columns {
+    fields: &[
+        Field::Writes,
+        Field::Names(Kinds::Only(Kind::Job), Rights::MANAGE_PROCESS),
+        Field::Reads,
+        Field::Writes,
+    ],
+    ending: Ending::Nothing,
+    condition: Some(Condition::NewProcess),
+    grows: true,
+    in_list: None,
+};
+
+pub(crate) const PROCESS_START: Columns = Columns {
+    fields: &[
+        Field::Writes,
+        Field::Names(Kinds::Only(Kind::Process), Rights::WRITE),
+        Field::Consumes(Kinds::Any, Rights::TRANSFER),
+        Field::Reads,
+    ],
+    ending: Ending::Nothing,
+    condition: None,
+    grows: true,
+    in_list: None,
+};
+
+pub(crate) const PROCESS_EXIT: Columns = Columns {
+    fields: &[Field::Reads],
+    ending: Ending::Nothing,
+    condition: None,
+    grows: false,
+    in_list: None,
+};
+
+pub(crate) const TASK_KILL: Columns = Columns {
+    fields: &[Field::Writes, Field::Names(Kinds::Tasks, Rights::DESTROY)],
+    ending: Ending::Nothing,
+    condition: None,
+    grows: false,
+    in_list: None,
+};
+
+pub(crate) const JOB_CREATE: Columns = Columns {
+    fields: &[
+        Field::Writes,
+        Field::Names(Kinds::Only(Kind::Job), Rights::MANAGE_JOB),
+        Field::Writes,
+    ],
+    ending: Ending::Nothing,
+    condition: None,
+    grows: true,
+    in_list: None,
+};
+
+pub(crate) const JOB_SET_POLICY: Columns = Columns {
+    fields: &[
+        Field::Writes,
+        Field::Names(Kinds::Only(Kind::Job), Rights::SET_POLICY),
+        Field::Reads,
+        Field::Reads,
+        Field::Reads,
+    ],
+    ending: Ending::Nothing,
+    condition: None,
+    grows: false,
+    in_list: None,
+};

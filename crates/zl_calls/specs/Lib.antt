@@ -13,5 +13,6 @@ pub mod Gives
 pub mod Registered
 pub mod Leaving
 pub mod Policed
+pub mod FieldFaults
 pub mod Reaching
 pub mod Turns

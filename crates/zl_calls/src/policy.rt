@@ -1,22 +1,24 @@
 //! What the policy of a job says to a call of its process, which is asked before the call is done.
 
-ghost use Rattle.std.specs.Prelude.{◌≡◌, ◌<◌, ◌^◌, [], None, IfSome, IfNone};
+ghost use Rattle.std.specs.Prelude.{◌≡◌, ◌<◌, ◌≤◌, ◌^◌, [], None, IfSome, IfNone, length, map};
 ghost use Rattle.std.specs.Result.{result_err};
 ghost use Rattle.zl_rights.specs.LookUp.{looked_up};
 ghost use Rattle.zl_rights.specs.Numbers.{bits};
-ghost use Rattle.zl_code.specs.Local.{reg};
+ghost use Rattle.zl_code.specs.Instructions.{field_of, kinds_of};
+ghost use Rattle.zl_code.specs.Parts.{last_of};
 ghost use Rattle.zl_code.specs.Refusals.{condition_of, handle_operands};
 ghost use Rattle.zl_code.specs.Request.{site_of};
 ghost use Rattle.zl_objects.specs.Jobs.{action_of, job_at};
+ghost use Rattle.zl_calls.specs.FieldFaults.{field_fault, fields_fault, last_fault};
 ghost use Rattle.zl_calls.specs.Policed.{IsDenied, Policed, on_fault, on_making, operands_fault, verdict_on};
+ghost use Rattle.zl_calls.specs.calls.Channel.{fault_of};
 
 use crate::calls::channel::examine_list;
 use crate::calls::look_up;
 use crate::calls::process::end;
 use crate::process::Process;
-use bitflags::Flags;
 use std::alloc::Global;
-use zl_code::{CallInstr, Outcome, Register};
+use zl_code::{CallInstr, CallParts, Field, Kinds, Last, Outcome, Register};
 use zl_interp::Cpu;
 use zl_objects::Objects;
 use zl_rights::{Action, Condition, Kind, Koid, Rights, Status};
@@ -112,18 +114,11 @@ fn on_fault(objects: &Objects, job: Koid, fault: Status) -> Option<Verdict>
 }
 
 /// The condition of making the object that the call makes, if it makes one of which a policy decides.
-#[tactic(auto, unfolding(zl_code::specs::Request::site_of, zl_code::specs::Instructions::row_of, zl_code::specs::Spells::call_parts))]
 fn made_by(call: &CallInstr) -> Option<Condition>
     ensures { (cpu : Cpu) → IfSome (site_of call.now cpu)
         (λ s. result ≡ condition_of s.request) }
 {
-    match call {
-        CallInstr::ChanCreate { .. } => Some(Condition::NewChannel),
-        CallInstr::EventCreate { .. } => Some(Condition::NewEvent),
-        CallInstr::PortCreate { .. } => Some(Condition::NewPort),
-        CallInstr::ProcessCreate { .. } => Some(Condition::NewProcess),
-        _ => None,
-    }
+    call.row().condition
 }
 
 /// Answers a call that makes an object with `AccessDenied`, and 0 in the registers of its handles.
@@ -159,98 +154,85 @@ fn deny(process: &mut Process, call: &CallInstr) -> Option<Outcome>
 
 /// Examines the handle operands of the call from left to right, and gives the fault of the first that
 /// has one. A handle that stands in a list twice isn't live any more at the second place.
-#[tactic(auto, unfolding(zl_code::specs::Request::site_of, zl_code::specs::Instructions::row_of, zl_code::specs::Spells::call_parts, zl_code::specs::Refusals::handle_operands, crate::specs::Policed::operands_fault))]
 fn examine(table: &Table, cpu: &Cpu, call: CallInstr) -> Result<(), Status>
     ensures { IfSome (site_of call cpu.now) (λ s. result_err result
         ≡ operands_fault table.now.entries [] (handle_operands s.request)) }
 {
-    match call {
-        CallInstr::ChanCreate { .. } => Ok(()),
-        CallInstr::EventCreate { .. } => Ok(()),
-        CallInstr::PortCreate { .. } => Ok(()),
-        CallInstr::ProcessExit { .. } => Ok(()),
-        CallInstr::Close { handle, .. } => {
+    // Lent, as it is asked twice.
+    let call = &call;
+    let CallParts {
+        registers,
+        last,
+        ..
+    } = call.parts();
+    examine_parts(table, cpu, call.row().fields, &registers, last)
+}
+
+/// Examines the registers by their fields, and behind them those of the list.
+fn examine_parts(
+    table: &Table,
+    cpu: &Cpu,
+    fields: &[Field],
+    registers: &[Register],
+    last: Last,
+) -> Result<(), Status>
+    requires { length fields.now ≤ length registers.now }
+    ensures { fault_of result ≡ fields_fault table.now.entries cpu.now (map field_of fields.now)
+        registers.now (last_fault table.now.entries cpu.now (last_of last)) }
+{
+    for (n, field) in fields.iter().enumerate() {
+        examine_one(table, *field, cpu.register(registers[n]))?;
+    }
+    examine_last(table, cpu, last)
+}
+
+/// The fault of the value in a register of this field, if it is a handle operand that has one.
+fn examine_one(table: &Table, field: Field, value: u64) -> Result<(), Status>
+    ensures { result_err result ≡ field_fault table.now.entries (field_of field) value }
+{
+    match field {
+        Field::Names(kinds, rights) => find(table, value, kinds, rights),
+        Field::Consumes(kinds, rights) => find(table, value, kinds, rights),
+        Field::Closes => {
             // A value of 0 names nothing, and may be closed.
-            if cpu.register(handle) == 0 {
+            if value == 0 {
                 return Ok(());
             }
-            find(table, cpu, handle, &[], Rights::empty())
+            find(table, value, Kinds::Any, Rights::NONE)
         }
-        CallInstr::Dup { handle, .. } => find(table, cpu, handle, &[], Rights::DUPLICATE),
-        CallInstr::Replace { handle, .. } => find(table, cpu, handle, &[], Rights::empty()),
-        CallInstr::ChanWrite {
-            channel,
-            handles,
-            ..
-        } => {
-            find(table, cpu, channel, &[Kind::Channel], Rights::WRITE)?;
-            let (values, count) = cpu.listed(&handles);
-            examine_list(table, &values[..count])
-        }
-        CallInstr::ChanReadEtc { channel, .. } => {
-            find(table, cpu, channel, &[Kind::Channel], Rights::READ)
-        }
-        CallInstr::Signal { handle, .. } => find(table, cpu, handle, &[], Rights::SIGNAL),
-        CallInstr::SignalPeer { handle, .. } => {
-            find(table, cpu, handle, &[Kind::Channel], Rights::SIGNAL_PEER)
-        }
-        CallInstr::WaitOne { handle, .. } => find(table, cpu, handle, &[], Rights::WAIT),
-        CallInstr::WaitPoll { handle, .. } => find(table, cpu, handle, &[], Rights::WAIT),
-        CallInstr::WaitAsync { handle, port, .. } => {
-            find(table, cpu, handle, &[], Rights::WAIT)?;
-            find(table, cpu, port, &[Kind::Port], Rights::WRITE)
-        }
-        CallInstr::PortQueue { port, .. } => {
-            find(table, cpu, port, &[Kind::Port], Rights::WRITE)
-        }
-        CallInstr::PortWait { port, .. } => find(table, cpu, port, &[Kind::Port], Rights::READ),
-        CallInstr::PortPoll { port, .. } => find(table, cpu, port, &[Kind::Port], Rights::READ),
-        CallInstr::PortCancel { port, source, .. } => {
-            find(table, cpu, port, &[Kind::Port], Rights::WRITE)?;
-            find(table, cpu, source, &[], Rights::empty())
-        }
-        CallInstr::ProcessCreate { job, .. } => {
-            find(table, cpu, job, &[Kind::Job], Rights::MANAGE_PROCESS)
-        }
-        CallInstr::ProcessStart {
-            process,
-            handle,
-            ..
-        } => {
-            find(table, cpu, process, &[Kind::Process], Rights::WRITE)?;
-            find(table, cpu, handle, &[], Rights::TRANSFER)
-        }
-        CallInstr::TaskKill { task, .. } => {
-            find(
-                table,
-                cpu,
-                task,
-                &[Kind::Process, Kind::Job],
-                Rights::DESTROY,
-            )
-        }
-        CallInstr::JobCreate { job, .. } => {
-            find(table, cpu, job, &[Kind::Job], Rights::MANAGE_JOB)
-        }
-        CallInstr::JobSetPolicy { job, .. } => {
-            find(table, cpu, job, &[Kind::Job], Rights::SET_POLICY)
-        }
+        Field::Reads => Ok(()),
+        Field::Writes => Ok(()),
+        Field::Changes => Ok(()),
+        Field::Triples => Ok(()),
     }
 }
 
-/// Whether the register has a handle of one of the kinds with the rights, and its fault if it hasn't.
-/// No kinds stand for any.
-fn find(
-    table: &Table,
-    cpu: &Cpu,
-    register: Register,
-    kinds: &[Kind],
-    rights: Rights,
-) -> Result<(), Status>
-    ensures { result_err result ≡ result_err
-        (looked_up table.now.entries (reg cpu.now register) kinds.now (bits rights)) }
+/// The fault of the first handle of the list that has one, if the last eight bytes have a list.
+fn examine_last(table: &Table, cpu: &Cpu, last: Last) -> Result<(), Status>
+    ensures { fault_of result ≡ last_fault table.now.entries cpu.now (last_of last) }
 {
-    match look_up(table, cpu.register(register), kinds, rights) {
+    match last {
+        Last::Handles(handles) => {
+            let (values, count) = cpu.listed(&handles);
+            examine_list(table, &values[..count])
+        }
+        Last::Number(_) => Ok(()),
+        Last::Room(_) => Ok(()),
+    }
+}
+
+/// Whether the value is that of a handle of one of the kinds with the rights, and its fault if it
+/// isn't.
+fn find(table: &Table, value: u64, kinds: Kinds, rights: Rights) -> Result<(), Status>
+    ensures { result_err result
+        ≡ result_err (looked_up table.now.entries value (kinds_of kinds) (bits rights)) }
+{
+    let found = match kinds {
+        Kinds::Any => look_up(table, value, &[], rights),
+        Kinds::Only(kind) => look_up(table, value, &[kind], rights),
+        Kinds::Tasks => look_up(table, value, &[Kind::Process, Kind::Job], rights),
+    };
+    match found {
         Ok(_) => Ok(()),
         Err(fault) => Err(fault),
     }

@@ -1,5 +1,6 @@
 -- The rule of each instruction leads from a fine state to fine states.
-use Rattle.std.proofs.Common.{◌≡◌, ℕ, zero, suc, ◌+◌, ◌*◌, ◌<◌, ◌≤◌, Bool, true, false, ◌&&◌, not, List, [], ◌∷◌, ◌++◌, length, Option, Some, None, Result, Ok, Err, IfSome, IfOk, refl, subst, IsTrue, arith, eqb, leb, ltb}
+use Rattle.std.proofs.Common.{◌≡◌, ℕ, zero, suc, ◌+◌, ◌*◌, ◌<◌, ◌≤◌, Bool, true, false, ◌&&◌, not, List, [], ◌∷◌, ◌++◌, length, Option, Some, None, Result}
+use Rattle.std.proofs.Common.{Ok, Err, IfSome, IfOk, refl, IsTrue, arith, eqb, leb, ltb}
 use Rattle.std.specs.Prelude.{slice_get, if◌then◌else◌, bit_and, zip}
 use Rattle.std.specs.List.{list_all}
 use Rattle.std.proofs.lemmas.Bool.Decides.{nat_tests}
@@ -14,6 +15,7 @@ use Rattle.zl_code.specs.declared.instr.LocalInstr.{LocalInstr}
 use Rattle.zl_code.specs.declared.instr.LocalInstr.TheVariants as local
 use Rattle.zl_code.specs.declared.instr.CallInstr.{CallInstr}
 use Rattle.zl_code.specs.declared.instr.CallInstr.TheVariants as call
+use Rattle.zl_code.specs.Asked.{triples_from}
 use Rattle.zl_code.specs.Image.{Image, instr_at}
 use Rattle.zl_code.specs.Instructions.{Row, row_of}
 use Rattle.zl_code.specs.Spells.{Parts, is_in_range, is_instr_in_range, is_slot_in_range, is_local_in_range, is_call_in_range, local_parts, call_parts}
@@ -31,10 +33,11 @@ use Rattle.zl_abs.specs.Fine.{Fits, IsFine, AllFine}
 use Rattle.zl_abs.specs.Bounds.{least_from, rounded}
 use Rattle.zl_abs.specs.Rule.{and_then, word_at, writes, passes, Edge, edge_to, edges}
 use Rattle.zl_abs.specs.LocalRules.{computes, in_memory, loads, stores, may_move, moved, takes, slot_fault, slot_value, swaps_by, swaps_in, unless, local_rule}
-use Rattle.zl_abs.specs.CallRules.{fault_of, taken_from, examined_by, examined, examined_all, are_words, range_fits, is_declared, are_distinct, has_one, Uses, uses, state_after, uses_by, uses_in, uses_of, new, narrowed_value, triple_results, read_results, packet_values, values_of, goes_on, stops, call_rule_by, call_rule}
+use Rattle.zl_abs.specs.CallRules.{fault_of, taken_from, examined_by, examined, examined_all, are_words, range_fits, is_declared, are_distinct, has_one, Uses}
+use Rattle.zl_abs.specs.CallRules.{uses, state_after, uses_by, uses_in, uses_of, new, narrowed_value, triple_values, packet_values, values_of, goes_on, stops}
+use Rattle.zl_abs.specs.CallRules.{call_rule_by, call_rule}
 use Rattle.zl_abs.specs.Typing.{target_of, rule_by, rule_with}
 use Rattle.zl_abs.proofs.StateOrder.{both}
-use Rattle.zl_abs.proofs.ListSteps.{read_rule}
 use Rattle.zl_abs.proofs.FineStates.{Suits, Named, is_plain, named_self, named_there, fine_with, ArePlain, fine_with_all, fine_moved, rights_fit}
 use Rattle.zl_abs.proofs.FineTests.{FineWays, then_fine, IsBound, word_fine, zero_fine, equal_fine, below_fine, has_fine}
 
@@ -223,7 +226,7 @@ narrowed_values (KindOf r) asked h = (refl, omega arith, tt)
 narrowed_values (RightsOf r) asked h = (refl, omega arith, tt)
 
 -- a handle, and behind it its kind and its rights
-triples_fine : (n r : ℕ) (s : State) → r + 3 * n ≤ 32 → IsFine s → IsFine (with_all s (triple_results r n))
+triples_fine : (n r : ℕ) (s : State) → r + 3 * n ≤ 32 → IsFine s → IsFine (with_all s (zip (triples_from r n) (triple_values (triples_from r n))))
 unfolding with_all
 triples_fine zero r s less h = h
 triples_fine (suc n) r s less h =
@@ -242,16 +245,19 @@ read_in_range : (a b c d e f g n : ℕ) → is_call_in_range (call.ChanReadEtc a
 unfolding call_parts
 read_in_range a b c d e f g n h = grind (arith, nat_tests)
 
-read_fine : (bounds : List ℕ) (i : Image) (s : State) (a b c d e f g n : ℕ) → g + 3 * n ≤ 32 → IsFine s → IfOk (call_rule bounds i (call.ChanReadEtc a b c d e f g n) s) FineWays
-unfolding with_all
+read_fine : (bounds : List ℕ) (i : Image) (s : State) (a b c d e f g n : ℕ) → g + 3 * n ≤ 32 → IsFine s
+    → IfOk (call_rule bounds i (call.ChanReadEtc a b c d e f g n) s) FineWays
+unfolding with_all call_rule uses_of row_of call_parts
 read_fine bounds i s a b c d e f g n less h =
-    subst (λ x. IfOk x FineWays) (read_rule bounds i s a b c d e f g n)
-    (then_fine IsFine FineWays (state_after i s used) _ (after_fine i s used h received) (λ t k. (tt, k)))
+    then_fine IsFine FineWays (state_after i s used) _ (after_fine i s used h received) (λ t k. (tt, k))
   where
-    used : Uses
-    used = uses (needs b (kind.Channel ∷ []) READ ∷ []) (c ∷ d ∷ []) (Some (c, d)) None (read_results a e f g n)
+    results : List (ℕ × AbsVal)
+    results = (a, Word 30) ∷ (e, Word 65536) ∷ (f, Word 64) ∷ zip (triples_from g n) (triple_values (triples_from g n))
 
-    received : CanGet (read_results a e f g n)
+    used : Uses
+    used = uses (needs b (kind.Channel ∷ []) READ ∷ []) (c ∷ d ∷ []) (Some (c, d)) None results
+
+    received : CanGet results
     received t k =
         let x = fine_with t a (Word 30) k (omega arith, refl) in
         let y = fine_with _ e (Word 65536) x (omega arith, refl) in

@@ -6,6 +6,8 @@ mod Rows
 pub mod KindNumbers
 pub mod CallSteps
 pub mod ListSteps
+pub mod WrittenSteps
+pub mod CallByRow
 pub mod Order
 pub mod StateOrder
 pub mod Lowering

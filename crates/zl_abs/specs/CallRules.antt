@@ -133,10 +133,6 @@ finished i s t u =
 abbrev pub state_after : Image → State → Uses → Result State Cause
 state_after i s u = and_then (examined_all s u.operands) (λ t. finished i s t u)
 
--- the process stands at the next instruction
-abbrev pub passing : Result State Cause → Result Ways Cause
-passing s = and_then s (λ t. Ok (passes t))
-
 -- ---- the columns of the table
 
 -- the handle operands among fields with these registers
@@ -195,16 +191,6 @@ abbrev pub triple_results : ℕ → ℕ → List (ℕ × AbsVal)
 triple_results r zero = []
 triple_results r (suc n) =
     (r, Has true None (rights_of 0)) ∷ (r + 1, KindOf r) ∷ (r + 2, RightsOf r) ∷ triple_results (r + 3) n
-
--- the destinations of chan_read_etc with what they get
-abbrev pub read_results : ℕ → ℕ → ℕ → ℕ → ℕ → List (ℕ × AbsVal)
-read_results status bytes handles first places =
-    (status, Word 30) ∷ (bytes, Word 65536) ∷ (handles, Word 64) ∷ triple_results first places
-
--- the destinations of a packet with what they get
-abbrev pub packet_results : List ℕ → ℕ → ℕ → ℕ → ℕ → ℕ → List (ℕ × AbsVal)
-packet_results bounds status key type trigger observed =
-    (status, Word 30) ∷ (key, Word ANY) ∷ (type, Word (rounded bounds 1)) ∷ (trigger, Word ANY) ∷ (observed, Word ANY) ∷ []
 
 -- a list of handles has all its places
 abbrev pub is_full : List ℕ → Type 0

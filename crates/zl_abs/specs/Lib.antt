@@ -8,7 +8,6 @@ pub mod Rule
 pub mod Fine
 pub mod LocalRules
 pub mod CallRules
-pub mod Operands
 pub mod Typing
 pub mod Targets
 pub mod Successors

@@ -1,22 +1,30 @@
 //! What the destinations of a call get.
 
-ghost use Rattle.std.specs.Prelude.{◌≡◌, ◌+◌, ◌*◌, ◌≤◌, ◌<◌, length, take, bit_and};
+ghost use Rattle.std.specs.Prelude.{◌≡◌, ◌+◌, ◌*◌, ◌≤◌, ◌<◌, ◌∷◌, [], ◌++◌, length, map, replicate, zip, bit_and, IfSome, IsTrue};
 ghost use Rattle.zl_rights.specs.Numbers.{bits, KNOWN_RIGHTS};
-ghost use Rattle.zl_code.specs.Limits.{most_handles, register_count};
+ghost use Rattle.zl_code.specs.Asked.{those, is_written, triples_in};
+ghost use Rattle.zl_code.specs.Instructions.{field_of, row_of};
+ghost use Rattle.zl_code.specs.Limits.{most_handles, most_registers, register_count};
+ghost use Rattle.zl_code.specs.Parts.{last_of};
+ghost use Rattle.zl_code.specs.Spells.{call_parts, is_last_in_range, seven};
+ghost use Rattle.zl_abs.specs.declared.value.AbsVal.TheVariants.{Word};
 ghost use Rattle.zl_abs.specs.Found.{bounds_in};
-ghost use Rattle.zl_abs.specs.CallRules.{narrowed_value, new, packet_results, read_results};
+ghost use Rattle.zl_abs.specs.Values.{ANY};
+ghost use Rattle.zl_abs.specs.CallRules.{narrowed_value, new, packet_values, triple_results, triple_values, values_of};
 
 use crate::round_up::Rounding;
+use crate::state::AbsState;
 use crate::value::AbsVal;
 use bitflags::Flags;
-use zl_code::{HandleList, Register};
+use std::marker::Model;
+use zl_code::{CallInstr, CallParts, Field, HandleList, InstrBytes, Last, Register, Row};
 use zl_rights::{Kind, Rights};
 
 /// What a status register gets: the largest magnitude of a status is 30.
-pub(crate) const STATUS: AbsVal = AbsVal::Word(30);
+const STATUS: AbsVal = AbsVal::Word(30);
 
 /// A handle to a new object, if there is one.
-pub(crate) fn new(kind: Kind) -> AbsVal
+fn new(kind: Kind) -> AbsVal
     ensures { result ≡ new kind }
 {
     AbsVal::Has {
@@ -34,7 +42,7 @@ fn known_rights(number: u32) -> Rights
 }
 
 /// A handle made from one with this value, if there is one; nothing else can be copied.
-pub(crate) fn narrowed(value: AbsVal, asked: u32) -> AbsVal
+fn narrowed(value: AbsVal, asked: u32) -> AbsVal
     ensures { result ≡ narrowed_value value asked }
 {
     match value {
@@ -51,29 +59,123 @@ pub(crate) fn narrowed(value: AbsVal, asked: u32) -> AbsVal
     }
 }
 
-/// What the destinations of a packet get.
-pub(crate) fn packet(
-    bounds: Rounding<'_>,
-    status: Register,
-    key: Register,
-    kind: Register,
-    trigger: Register,
-    observed: Register,
-) -> [(Register, AbsVal); 5]
-    ensures { result ≡ packet_results (bounds_in bounds.entry) status key kind trigger observed }
+/// The status, and this value behind it for as many as there may be.
+fn status_and(value: AbsVal) -> [AbsVal; InstrBytes::REGISTERS]
+    ensures { result ≡ Word 30 ∷ replicate 6 value }
 {
-    let kinds = AbsVal::Word(bounds.round_up(1));
-    [
-        (status, STATUS),
-        (key, AbsVal::Word(u64::MAX)),
-        (kind, kinds),
-        (trigger, AbsVal::Word(u64::MAX)),
-        (observed, AbsVal::Word(u64::MAX)),
-    ]
+    let mut values = [value; InstrBytes::REGISTERS];
+    values[0] = STATUS;
+    values
 }
 
-/// The most results of a call: those of `chan_read_etc` with room for all handles.
-const MOST_RESULTS: usize = 3 + 3 * HandleList::MOST;
+/// What the destinations of a packet get: key, kind, trigger and observed behind the status.
+fn packet(bounds: Rounding<'_>) -> [AbsVal; InstrBytes::REGISTERS]
+    ensures { result ≡ Word 30 ∷ packet_values (bounds_in bounds.entry) ++ replicate 2 (Word ANY) }
+{
+    let mut values = status_and(AbsVal::Word(u64::MAX));
+    values[2] = AbsVal::Word(bounds.round_up(1));
+    values
+}
+
+/// What the destinations of a message get behind the status: its bytes and its handles.
+fn message() -> [AbsVal; InstrBytes::REGISTERS]
+    ensures { result ≡ Word 30 ∷ Word 65536 ∷ replicate 5 (Word 64) }
+{
+    let mut values = status_and(AbsVal::Word(64));
+    values[1] = AbsVal::Word(65_536);
+    values
+}
+
+/// What the destinations among the registers of a call get, as far as it has them.
+#[tactic(auto, unfolding(zl_code::specs::Instructions::row_of, zl_code::specs::Spells::call_parts))]
+pub(crate) fn values_of(
+    bounds: Rounding<'_>,
+    state: &AbsState,
+    instr: &CallInstr,
+) -> [AbsVal; InstrBytes::REGISTERS]
+    ensures { IfSome (row_of (call_parts instr.now).opcode) (λ row.
+        zip (those is_written row.fields (seven (call_parts instr.now).registers)) result
+        ≡ zip (those is_written row.fields (seven (call_parts instr.now).registers))
+        (Word 30 ∷ values_of (bounds_in bounds.entry) state.now instr.now)) }
+{
+    match instr {
+        CallInstr::Dup { handle, rights, .. } => status_and(narrowed(state.get(*handle), *rights)),
+        CallInstr::Replace { handle, rights, .. } => status_and(narrowed(
+            state.get(*handle),
+            *rights,
+        )),
+        CallInstr::ChanCreate { .. } => status_and(new(Kind::Channel)),
+        CallInstr::ChanReadEtc { .. } => message(),
+        CallInstr::EventCreate { .. } => status_and(new(Kind::Event)),
+        CallInstr::WaitOne { .. } => status_and(AbsVal::Word(0xffff_ffff)),
+        CallInstr::WaitPoll { .. } => status_and(AbsVal::Word(0xffff_ffff)),
+        CallInstr::PortCreate { .. } => status_and(new(Kind::Port)),
+        CallInstr::PortWait { .. } => packet(bounds),
+        CallInstr::PortPoll { .. } => packet(bounds),
+        CallInstr::ProcessCreate { .. } => status_and(new(Kind::Process)),
+        CallInstr::JobCreate { .. } => status_and(new(Kind::Job)),
+        _ => status_and(STATUS),
+    }
+}
+
+/// The most destinations of a call: its registers, and three for each handle that is received.
+const MOST_RESULTS: usize = InstrBytes::REGISTERS + 3 * HandleList::MOST;
+
+/// Destinations with what they get.
+#[derive(Drop)]
+pub(crate) struct Results {
+    pairs: [(Register, AbsVal); MOST_RESULTS],
+    count: usize,
+}
+
+impl Model for Results {
+    ghost use Rattle.std.specs.Prelude.{◌≡◌, ◌≤◌, ℕ, List, length, take};
+    ghost use Rattle.zl_abs.specs.declared.value.AbsVal.{AbsVal as V};
+
+    ghost Value = { List (ℕ × V) };
+
+    ghost view = { λ r. take r.count r.pairs };
+
+    ghost invariant = { λ r. (r.count ≤ 31) × (length r.pairs ≡ 31) };
+}
+
+impl Results {
+    /// All of them, in their order.
+    pub fn all(&self) -> &[(Register, AbsVal)]
+        ensures { result.now ≡ self.now }
+    {
+        &self.pairs[..self.count]
+    }
+
+    /// One more.
+    fn push(&mut self, register: Register, value: AbsVal)
+        requires { length self.old < 31 }
+        ensures { self.new ≡ self.old ++ (register, value) ∷ [] }
+    {
+        self.pairs[self.count] = (register, value);
+        self.count += 1;
+    }
+
+    /// The registers of handles that are received, each with those of its kind and its rights.
+    fn receive(&mut self, first: Register, places: u32)
+        requires room { length self.old ≤ most_registers }
+        requires few { places ≤ most_handles }
+        requires fit { first + 3 * places ≤ register_count }
+        ensures { self.new ≡ self.old ++ triple_results first places }
+    {
+        for place in 0..places {
+            let handle = behind(first, 3 * place);
+            let received = AbsVal::Has {
+                maybe: true,
+                kind: None,
+                rights: Rights::empty(),
+            };
+            self.push(handle, received);
+            self.push(behind(handle, 1), AbsVal::KindOf(handle));
+            self.push(behind(handle, 2), AbsVal::RightsOf(handle));
+        }
+    }
+}
 
 /// The register so many places behind.
 fn behind(register: Register, places: u32) -> Register
@@ -86,33 +188,52 @@ fn behind(register: Register, places: u32) -> Register
     }
 }
 
-/// What the destinations of `chan_read_etc` get, in the first places of the array.
-pub(crate) fn received(
-    status: Register,
-    bytes: Register,
-    handles: Register,
-    first: Register,
-    places: u32,
-) -> [(Register, AbsVal); MOST_RESULTS]
-    requires few { places ≤ most_handles }
-    requires fit { first + 3 * places ≤ register_count }
-    ensures length { length result ≡ 27 }
-    ensures value { take (3 + 3 * places) result ≡ read_results status bytes handles first places }
+/// Whether the call writes the register.
+fn is_written(field: &Field) -> bool
+    ensures { result ≡ is_written (field_of field.now) }
 {
-    let mut results = [(status, STATUS); MOST_RESULTS];
-    results[1] = (bytes, AbsVal::Word(65_536));
-    results[2] = (handles, AbsVal::Word(64));
-    for place in 0..places {
-        let handle = behind(first, 3 * place);
-        let received = AbsVal::Has {
-            maybe: true,
-            kind: None,
-            rights: Rights::empty(),
-        };
-        let end = 3 + 3 * place as usize;
-        results[end] = (handle, received);
-        results[end + 1] = (behind(handle, 1), AbsVal::KindOf(handle));
-        results[end + 2] = (behind(handle, 2), AbsVal::RightsOf(handle));
+    matches!(field, Field::Writes | Field::Changes)
+}
+
+/// The destinations among the registers, each with its value.
+#[inline(always)]
+fn written(fields: &[Field], registers: &[Register], values: &[AbsVal]) -> Results
+    requires few { length fields.now ≤ most_registers }
+    requires registers { length registers.now ≡ most_registers }
+    requires values { length values.now ≡ most_registers }
+    ensures value { result
+        ≡ zip (those is_written (map field_of fields.now) registers.now) values.now }
+    ensures few { length result ≤ most_registers }
+{
+    let mut results = Results {
+        pairs: [(registers[0], STATUS); MOST_RESULTS],
+        count: 0,
+    };
+    for (place, field) in fields.iter().enumerate() {
+        if !is_written(field) {
+            continue;
+        }
+        let value = values[results.all().len()];
+        results.push(registers[place], value);
+    }
+    results
+}
+
+/// The destinations of a call with what they get: those among the registers their values, and
+/// behind them handles that are received.
+#[inline(always)]
+pub(crate) fn results_of(row: &Row, parts: &CallParts, values: &[AbsVal]) -> Results
+    requires few { length row.now.fields.now ≤ most_registers }
+    requires room { IsTrue (is_last_in_range parts.now.registers (last_of parts.now.last)) }
+    requires values { length values.now ≡ most_registers }
+    ensures { result
+        ≡ zip (those is_written (map field_of row.now.fields.now) parts.now.registers) values.now
+        ++ zip (triples_in (last_of parts.now.last) parts.now.registers)
+        (triple_values (triples_in (last_of parts.now.last) parts.now.registers)) }
+{
+    let mut results = written(row.fields, &parts.registers, values);
+    if let Last::Room(places) = parts.last {
+        results.receive(parts.registers[6], places);
     }
     results
 }

@@ -1,49 +1,55 @@
 //! The tests of a call, by what it uses, and what an answer writes.
 
-ghost use Rattle.std.specs.Prelude.{◌≡◌, []};
-ghost use Rattle.zl_abs.specs.CallRules.{answers, are_distinct, are_words, examined_all, finished, has_one, is_declared, is_result, passing, range_fits, state_after, uses};
-ghost use Rattle.zl_abs.specs.Changes.{left_by, ways_told};
+ghost use Rattle.std.specs.Prelude.{◌≡◌, ◌≤◌, ◌||◌, [], is_some, length, map, not};
+ghost use Rattle.zl_code.specs.Asked.{those};
+ghost use Rattle.zl_code.specs.Instructions.{field_of};
+ghost use Rattle.zl_code.specs.Limits.{most_registers};
+ghost use Rattle.zl_code.specs.Parts.{last_of};
+ghost use Rattle.zl_abs.specs.CallRules.{answers, are_distinct, are_words, finished, has_one, is_declared, is_result, is_word, range_fits, range_in, uses};
+ghost use Rattle.zl_abs.specs.Changes.{left_by};
+ghost use Rattle.zl_abs.specs.States.{bound_at};
 
 use crate::cause::Cause;
-use crate::change::Change;
-use crate::operand::Operand;
 use crate::state::AbsState;
 use crate::value::{AbsVal, is_register};
-use crate::ways::Changes;
-use zl_code::{Image, Register};
+use zl_code::{CallParts, Field, Image, Last, Register, Row};
 use zl_rights::Condition;
 
-/// Examines the operands, from left to right. Why one can't be, if one can't.
-fn examine_all(after: &mut AbsState, operands: &[Operand]) -> Option<Cause>
-    ensures { left_by after.new result ≡ examined_all after.old operands.now }
+/// Whether the register holds a word, if the call reads one there.
+fn is_read(state: &AbsState, field: &Field, register: Register) -> bool
+    ensures { result
+        ≡ (not (is_word (field_of field.now)) || is_some (bound_at state.now register)) }
 {
-    for operand in operands {
-        let fault = operand.examine(after);
-        if fault.is_some() {
-            return fault;
+    !matches!(field, Field::Reads) || state.get(register).bound().is_some()
+}
+
+/// Whether the registers hold words that the call reads.
+#[tactic(auto, using(crate::proofs::CallSteps::words_stop, crate::proofs::CallSteps::words_more, crate::proofs::CallSteps::words_end))]
+fn are_words(state: &AbsState, fields: &[Field], registers: &[Register]) -> bool
+    requires { length fields.now ≤ length registers.now }
+    ensures { result ≡ are_words state.now (those is_word (map field_of fields.now) registers.now) }
+{
+    for (place, field) in fields.iter().enumerate() {
+        if !is_read(state, field, registers[place]) {
+            return false;
         }
     }
-    None
+    true
 }
 
-/// Whether the registers hold words.
-pub(crate) fn are_words(state: &AbsState, words: &[Register]) -> bool
-    ensures { result ≡ are_words state.now words.now }
+/// Whether the address and the length in the third and the fourth register lie in the memory,
+/// where the call has them.
+fn is_range_there(image: &Image, state: &AbsState, parts: &CallParts) -> bool
+    ensures { result ≡ range_fits image.now state.now
+        (range_in (last_of parts.now.last) parts.now.registers) }
 {
-    words.iter().all(|word| state.get(*word).bound().is_some())
-}
-
-/// Whether the address and the length in the registers lie in the memory, where the call has them.
-fn is_range_there(image: &Image, state: &AbsState, range: Option<(Register, Register)>) -> bool
-    ensures { result ≡ range_fits image.now state.now range }
-{
-    let Some((address, length)) = range else {
+    if let Last::Number(_) = parts.last {
         return true;
-    };
-    let Some(address) = state.get(address).bound() else {
+    }
+    let Some(address) = state.get(parts.registers[2]).bound() else {
         return false;
     };
-    let Some(length) = state.get(length).bound() else {
+    let Some(length) = state.get(parts.registers[3]).bound() else {
         return false;
     };
     address.saturating_add(length) <= u64::from(image.memory())
@@ -109,55 +115,22 @@ pub(crate) fn finish(
     image: &Image,
     state: &AbsState,
     after: &mut AbsState,
-    words: &[Register],
-    range: Option<(Register, Register)>,
-    condition: Option<Condition>,
+    row: &Row,
+    parts: &CallParts,
     results: &[(Register, AbsVal)],
 ) -> Option<Cause>
+    requires { length row.now.fields.now ≤ most_registers }
     ensures { left_by after.new result ≡ finished image.now state.now after.old
-        (uses [] words.now range condition results.now) }
+        (uses [] (those is_word (map field_of row.now.fields.now) parts.now.registers)
+        (range_in (last_of parts.now.last) parts.now.registers) row.now.condition results.now) }
 {
-    if !are_words(state, words) {
+    if !are_words(state, row.fields, &parts.registers) {
         Some(Cause::NotWord)
-    } else if !is_range_there(image, state, range) {
+    } else if !is_range_there(image, state, parts) {
         Some(Cause::MemoryRange)
-    } else if !is_declared(image, condition) {
+    } else if !is_declared(image, row.condition) {
         Some(Cause::UndeclaredNeed)
     } else {
         answer(after, results)
     }
-}
-
-/// What is different behind a call that left this state, if nothing is at fault.
-pub(crate) fn ended(after: &AbsState, fault: Option<Cause>) -> Result<Changes, Cause>
-    ensures { ways_told after.now result ≡ passing (left_by after.now fault) }
-{
-    match fault {
-        Some(cause) => Err(cause),
-        None => Ok(Changes::passing(after, Change::Same)),
-    }
-}
-
-/// The rule of a call by what it uses: its operands, its words, of these the range of the memory,
-/// the condition of what it makes, and its destinations with what they get. `after` becomes the
-/// state behind the call.
-pub(crate) fn call(
-    image: &Image,
-    state: &AbsState,
-    after: &mut AbsState,
-    operands: &[Operand],
-    words: &[Register],
-    range: Option<(Register, Register)>,
-    condition: Option<Condition>,
-    results: &[(Register, AbsVal)],
-) -> Result<Changes, Cause>
-    requires same { after.old ≡ state.now }
-    ensures { ways_told after.new result ≡ passing (state_after image.now state.now
-        (uses operands.now words.now range condition results.now)) }
-{
-    if let Some(cause) = examine_all(after, operands) {
-        return Err(cause);
-    }
-    let fault = finish(image, state, after, words, range, condition, results);
-    ended(after, fault)
 }

@@ -3,7 +3,7 @@
 ghost use Rattle.std.specs.Prelude.{◌≡◌, [], true, ◌∷◌};
 ghost use Rattle.zl_rights.specs.Numbers.{bits};
 ghost use Rattle.zl_code.specs.Refusals.{needs, taking};
-ghost use Rattle.zl_abs.specs.Operands.{kinds_of};
+ghost use Rattle.zl_code.specs.Instructions.{kinds_of};
 ghost use Rattle.zl_abs.specs.CallRules.{fault_of, takes_any, examined};
 ghost use Rattle.zl_abs.specs.Changes.{left_by};
 
@@ -12,34 +12,20 @@ use crate::state::AbsState;
 use crate::value::{AbsVal, is_kind};
 use bitflags::Flags;
 use std::marker::Model;
-use zl_code::Register;
+use zl_code::{Kinds, Register};
 use zl_rights::{Kind, Rights};
 
-/// The kinds of handles that an operand takes.
-#[derive(Clone, Copy)]
-pub(crate) enum Kinds {
-    Any,
-    Only(Kind),
-    /// A process or a job.
-    Tasks,
-}
-
-impl Kinds {
-    /// Whether a handle of which this is known of its kind will do.
-    fn take(self, known: Option<Kind>) -> bool
-        ensures { result ≡ takes_any (kinds_of self) known }
-    {
-        match self {
-            Kinds::Any => true,
-            Kinds::Only(kind) => match known {
-                Some(known) => is_kind(known, kind),
-                None => false,
-            },
-            Kinds::Tasks => match known {
-                Some(known) => is_kind(known, Kind::Process) || is_kind(known, Kind::Job),
-                None => false,
-            },
-        }
+/// Whether a handle of which this is known of its kind will do.
+fn takes(kinds: Kinds, known: Option<Kind>) -> bool
+    ensures { result ≡ takes_any (kinds_of kinds) known }
+{
+    let Some(known) = known else {
+        return matches!(kinds, Kinds::Any);
+    };
+    match kinds {
+        Kinds::Any => true,
+        Kinds::Only(kind) => is_kind(known, kind),
+        Kinds::Tasks => is_kind(known, Kind::Process) || is_kind(known, Kind::Job),
     }
 }
 
@@ -56,7 +42,7 @@ pub(crate) struct Operand {
 impl Model for Operand {
     ghost use Rattle.zl_rights.specs.Numbers.{bits};
     ghost use Rattle.zl_code.specs.Operands.{Operand as OperandValue};
-    ghost use Rattle.zl_abs.specs.Operands.{kinds_of};
+    ghost use Rattle.zl_code.specs.Instructions.{kinds_of};
 
     ghost Value = { OperandValue };
 
@@ -121,7 +107,7 @@ impl Operand {
             } => {
                 if maybe && !self.may_be_zero {
                     Some(Cause::NotLive)
-                } else if !self.kinds.take(kind) {
+                } else if !takes(self.kinds, kind) {
                     Some(Cause::WrongKind)
                 } else if !self.rights.within(rights) {
                     Some(Cause::LacksRight)

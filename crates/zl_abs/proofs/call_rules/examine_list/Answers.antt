@@ -1,17 +1,12 @@
-use Rattle.std.proofs.Common.{◌∙◌, sym, arith, add-one}
-use Rattle.zl_abs.proofs.CallSteps.{stopped_by, goes_on}
-use Rattle.zl_abs.proofs.ListSteps.{listed_step, listed_end}
+use Rattle.std.proofs.Common.{arith}
+use Rattle.zl_code.specs.Instructions.{field_of}
+use Rattle.zl_abs.proofs.ListSteps.{listed_more, listed_end}
 use Rattle.zl_abs.proofs.call_rules.examine_list.Goals as goal
-
-pub returns-then-is_some : goal.returns-then-is_some
-returns-then-is_some c =
-    let step = listed_step c.loop-place.after c.args.handles.places c.loop-place.place c.in-Some.register (c.in-Some.ensures {u = tt}) in
-    sym (c.loop-place.invariant ∙ (step ∙ stopped_by _ _ _ _ (rw (c.taken.ensures) at c.examine-fault.ensures) (sym c.is_some.ensures ∙ c.if-is_some.true)))
 
 pub loop-place-preserved : goal.loop-place-preserved
 loop-place-preserved c =
-    let step = listed_step c.loop-place.after c.args.handles.places c.loop-place.place c.in-Some.register (c.in-Some.ensures {u = tt}) in
-    rw add-one (c.loop-place.invariant ∙ (step ∙ goes_on _ _ _ _ (rw (c.taken.ensures) at c.examine-fault.ensures) (sym c.is_some.ensures ∙ c.if-is_some.false)))
+    listed_more (field_of c.args.field) c.args.handles.places c.loop-place.place _ c.loop-place.after c.loop-place.invariant c.in-Some.register _ _ _
+    (c.in-Some.ensures {u = tt}) c.examine-fault.ensures c.is_some.ensures c.if-is_some.false
 
 pub returns : goal.returns
-returns c = sym (c.loop-place.invariant ∙ listed_end _ _ c.loop-place.place (omega arith))
+returns c = listed_end (field_of c.args.field) c.args.handles.places c.loop-place.place _ c.loop-place.after c.loop-place.invariant (omega arith)

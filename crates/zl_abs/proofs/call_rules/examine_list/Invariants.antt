@@ -1,11 +1,7 @@
-use Rattle.std.proofs.Common.{◌≡◌, drop, Some, []}
-use Rattle.zl_rights.specs.Numbers.{TRANSFER}
-use Rattle.zl_code.specs.Instructions.{consumes}
-use Rattle.zl_code.specs.Asked.{used}
-use Rattle.zl_abs.specs.CallRules.{examined_all, operands_listed}
+use Rattle.std.proofs.Common.{◌≡◌, drop}
+use Rattle.zl_code.specs.Instructions.{field_of}
+use Rattle.zl_abs.proofs.ListSteps.{listed}
 use Rattle.zl_abs.proofs.call_rules.examine_list.Given as goal
 
 abbrev pub invariant-loop-place : goal.invariant-loop-place
-invariant-loop-place l =
-    examined_all l.initial.after (operands_listed (Some (consumes [] TRANSFER)) (used l.handles.places))
-    ≡ examined_all l.after (operands_listed (Some (consumes [] TRANSFER)) (used (drop l.place l.handles.places)))
+invariant-loop-place l = listed (field_of l.field) l.initial.after l.handles.places ≡ listed (field_of l.field) l.after (drop l.place l.handles.places)

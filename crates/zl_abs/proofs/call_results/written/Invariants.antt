@@ -1,0 +1,9 @@
+use Rattle.std.proofs.Common.{map, zip}
+use Rattle.zl_code.specs.Asked.{those, is_written}
+use Rattle.zl_code.specs.Instructions.{field_of}
+use Rattle.zl_abs.proofs.WrittenSteps.{IsBegun}
+use Rattle.zl_abs.proofs.call_results.written.Given as goal
+
+abbrev pub invariant-loop-place : goal.invariant-loop-place
+invariant-loop-place l =
+    IsBegun l.fields l.registers l.values (zip (those is_written (map field_of l.fields) l.registers) l.values) l.place l.results

@@ -1,16 +1,18 @@
 -- The rules of the calls at a state and at one below it.
-use Rattle.std.proofs.Common.{◌≡◌, ℕ, ◌+◌, ◌≤◌, Bool, true, false, not, ◌&&◌, ◌||◌, List, [], ◌∷◌, Option, Some, None, Ok, refl, IsTrue, arith, eqb}
-use Rattle.std.specs.Prelude.{if◌then◌else◌, bit_and, zip, is_some}
+use Rattle.std.proofs.Common.{◌≡◌, ℕ, ◌+◌, ◌≤◌, Bool, true, false, not, ◌&&◌, ◌||◌, List, [], ◌∷◌, ◌++◌, Option, Some, None, Ok, refl, IsTrue, arith, eqb}
+use Rattle.std.specs.Prelude.{if◌then◌else◌, bit_and, zip, is_some, slice_index}
 use Rattle.std.proofs.lemmas.Bool.Decides.{nat_tests}
 use Rattle.zl_rights.specs.declared.kind.Kind.{Kind}
 use Rattle.zl_rights.specs.declared.rights.Rights.{Rights}
 use Rattle.zl_rights.specs.declared.policy.Condition.{Condition}
 use Rattle.zl_rights.specs.Numbers.{bits, rights_of, within, SAME_RIGHTS, KNOWN_RIGHTS}
 use Rattle.zl_code.specs.declared.instr.CallInstr.{CallInstr}
-use Rattle.zl_code.specs.declared.instr.CallInstr.TheVariants as call
+use Rattle.zl_code.specs.declared.history.CallName.{CallName}
+use Rattle.zl_code.specs.declared.history.CallName.TheVariants as call
 use Rattle.zl_code.specs.Image.{Image}
-use Rattle.zl_code.specs.Instructions.{Row, row_of}
-use Rattle.zl_code.specs.Spells.{Parts, call_parts}
+use Rattle.zl_code.specs.Asked.{those, is_written}
+use Rattle.zl_code.specs.Instructions.{call_row}
+use Rattle.zl_code.specs.Spells.{number_at}
 use Rattle.zl_code.specs.Operands.{Operand}
 use Rattle.zl_abs.specs.declared.value.AbsVal.{AbsVal}
 use Rattle.zl_abs.specs.declared.value.AbsVal.TheVariants.{Word, Has, KindOf, RightsOf}
@@ -19,7 +21,7 @@ use Rattle.zl_abs.specs.declared.cause.Cause.TheVariants as cause
 use Rattle.zl_abs.specs.Values.{ANY, below, kind_below, is_has, bound_of}
 use Rattle.zl_abs.specs.States.{State, all_below, value_at, bound_at, with_value, with_all}
 use Rattle.zl_abs.specs.Rule.{passes}
-use Rattle.zl_abs.specs.CallRules.{takes_any, fault_of, taken_from, examined_by, examined, examined_all, are_words, sum_fits, range_fits, is_declared, is_result, are_distinct, has_one, uses, answers, finished, state_after, uses_by, uses_in, uses_of, narrowed_value, values_of, goes_on, stops, call_rule_by, call_rule}
+use Rattle.zl_abs.specs.CallRules.{takes_any, fault_of, taken_from, examined_by, examined, examined_all, are_words, sum_fits, range_fits, is_declared, is_result, are_distinct, has_one, uses, answers, finished, state_after, uses_of, narrowed_value, values_by, values_of, goes_on, stops, call_rule}
 use Rattle.zl_abs.proofs.Order.{below_refl, same_kind_is, within_trans, within_refl}
 use Rattle.zl_abs.proofs.StateOrder.{both, and, all_below_refl}
 use Rattle.zl_abs.proofs.Lowering.{Lowers, IsBelow, WaysBelow, lowers_then, lowers_unless, not_kept, value_below, with_below, no_has, leb_le, le_leb}
@@ -254,18 +256,25 @@ one_below : (v w : AbsVal) → IsTrue (below v w) → IsTrue (all_below (v ∷ [
 unfolding all_below
 one_below v w h = and _ _ h refl
 
-values_below : (bounds : List ℕ) (s t : State) (c : CallInstr) → IsBelow s t → IsTrue (all_below (values_of bounds s c) (values_of bounds t c))
-values_below bounds s t (call.Dup a b c imm) h = one_below _ _ (narrowed_below (value_at s b) (value_at t b) imm (value_below s t b h))
-values_below bounds s t (call.Replace a b c imm) h = one_below _ _ (narrowed_below (value_at s b) (value_at t b) imm (value_below s t b h))
-values_below bounds s t _ h = all_below_refl _
+by_name : (bounds : List ℕ) (n : CallName) (v w : AbsVal) (number : ℕ) → IsTrue (below v w) → IsTrue (all_below (values_by bounds n v number) (values_by bounds n w number))
+by_name bounds call.Dup v w number h = one_below _ _ (narrowed_below v w number h)
+by_name bounds call.Replace v w number h = one_below _ _ (narrowed_below v w number h)
+by_name bounds _ v w number h = all_below_refl _
 
-zip_below : (rs : List ℕ) (vs ws : List AbsVal) → IsTrue (all_below vs ws) → ResultsBelow (zip rs vs) (zip rs ws)
+values_below : (bounds : List ℕ) (s t : State) (c : CallInstr) → IsBelow s t → IsTrue (all_below (values_of bounds s c) (values_of bounds t c))
+values_below bounds s t c h = by_name bounds c.name _ _ (number_at c.last 0 4) (value_below s t (slice_index c.registers 1) h)
+
+same_below : (xs : List (ℕ × AbsVal)) → ResultsBelow xs xs
+same_below [] = tt
+same_below (x ∷ xs) = (refl, below_refl (x.1), same_below xs)
+
+zip_below : (rs : List ℕ) (vs ws : List AbsVal) (more : List (ℕ × AbsVal)) → IsTrue (all_below vs ws) → ResultsBelow (zip rs vs ++ more) (zip rs ws ++ more)
 unfolding all_below
-zip_below [] vs ws h = tt
-zip_below (r ∷ rs) [] [] h = tt
-zip_below (r ∷ rs) [] (w ∷ ws) h = cc
-zip_below (r ∷ rs) (v ∷ vs) [] h = cc
-zip_below (r ∷ rs) (v ∷ vs) (w ∷ ws) h = let p = both (below v w) (all_below vs ws) h in (refl, p.0, zip_below rs vs ws p.1)
+zip_below [] vs ws more h = same_below more
+zip_below (r ∷ rs) [] [] more h = same_below more
+zip_below (r ∷ rs) [] (w ∷ ws) more h = cc
+zip_below (r ∷ rs) (v ∷ vs) [] more h = cc
+zip_below (r ∷ rs) (v ∷ vs) (w ∷ ws) more h = let p = both (below v w) (all_below vs ws) h in (refl, p.0, zip_below rs vs ws more p.1)
 
 status_first : (vs ws : List AbsVal) → IsTrue (all_below vs ws) → IsTrue (all_below (Word 30 ∷ vs) (Word 30 ∷ ws))
 unfolding all_below
@@ -275,14 +284,9 @@ way_on : (on : Bool) (u v : State) → IsBelow u v → WaysBelow (if on then pas
 way_on true u v h = (tt, h)
 way_on false u v h = (tt, tt)
 
-by_row : (i : Image) (s t : State) (on : Bool) (o : Option Row) (p : Parts) (vs ws : List AbsVal) → IsBelow s t → IsTrue (all_below vs ws)
-    → Lowers WaysBelow (call_rule_by i s on (uses_in o p vs)) (call_rule_by i t on (uses_in o p ws))
-by_row i s t on None p vs ws h k = tt
-by_row i s t on (Some r) p vs ws h k =
-    lowers_then IsBelow WaysBelow (state_after i s (uses_by r p vs)) (state_after i t (uses_by r p ws)) _ _
-    (state_after_below i s t _ _ _ _ _ _ h (zip_below _ _ _ (status_first vs ws k)))
-    (λ u v l. way_on on u v l)
-
 pub call_below : (bounds : List ℕ) (i : Image) (c : CallInstr) (s t : State) → IsBelow s t → Lowers WaysBelow (call_rule bounds i c s) (call_rule bounds i c t)
 unfolding call_rule uses_of
-call_below bounds i c s t h = by_row i s t (goes_on c) (row_of (call_parts c).opcode) (call_parts c) _ _ h (values_below bounds s t c h)
+call_below bounds i c s t h =
+    lowers_then IsBelow WaysBelow (state_after i s (uses_of bounds s c)) (state_after i t (uses_of bounds t c)) _ _
+    (state_after_below i s t _ _ _ _ _ _ h (zip_below (those is_written (call_row c.name).fields 0 c.registers) _ _ _ (status_first _ _ (values_below bounds s t c h))))
+    (λ u v l. way_on (goes_on c.name) u v l)

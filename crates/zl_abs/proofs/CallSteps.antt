@@ -2,8 +2,8 @@
 use Rattle.std.proofs.Common.{◌≡◌, ℕ, ◌+◌, ◌<◌, ◌≤◌, true, false, ◌&&◌, not, List, [], ◌∷◌, ◌++◌, map, Result, Ok, Err, refl, sym, ap, ◌∙◌, drop, take}
 use Rattle.std.proofs.Common.{length, arith, ◌-◌, get_or, drop-cons, add-one, Bool, ◌||◌, cond}
 use Rattle.std.proofs.lemmas.List.{drop_all, take_all, length-drop}
-use Rattle.zl_code.specs.Instructions.{field_of}
-use Rattle.zl_code.specs.declared.layout.Field.{Field}
+use Rattle.zl_code.specs.Instructions.{Field, field_of}
+use Rattle.zl_code.specs.declared.layout.Field.{Field as FieldInCode}
 use Rattle.zl_code.specs.Operands.{Operand}
 use Rattle.zl_code.specs.Refusals.{operands_by}
 use Rattle.zl_abs.specs.declared.value.AbsVal.{AbsVal}
@@ -12,12 +12,24 @@ use Rattle.zl_abs.specs.Rule.{and_then}
 use Rattle.zl_abs.specs.States.{State, bound_at}
 use Rattle.zl_code.specs.Asked.{those}
 use Rattle.zl_abs.specs.Changes.{left_by}
-use Rattle.std.specs.Prelude.{Option, Some, None, is_some}
+use Rattle.std.specs.Prelude.{Option, Some, None, is_some, slice_index}
+use Rattle.std.proofs.lemmas.Grind.{get_or_default_zero}
 use Rattle.zl_abs.specs.CallRules.{examined, examined_all, are_distinct, is_result, operands_at, is_word, are_words}
 use Rattle.zl_abs.proofs.StateSteps.{Stands, drop_here}
 
-pub drop_or : {A : Type 0} (xs : List A) (i : ℕ) (d : A) → i < length xs → drop i xs ≡ get_or xs i d ∷ drop (i + 1) xs
-drop_or xs i d h = rw (add-one) (drop-cons xs i d h)
+-- ---- one field more
+
+-- the register at a place
+pub register_at : (rs : List ℕ) (i r : ℕ) → i < length rs → Stands rs i r → slice_index rs i ≡ r
+register_at rs i r h q = sym (q ∙ get_or_default_zero rs i r h)
+
+-- the registers from a field on that pass the test
+abbrev pub those_from : (Field → Bool) → List FieldInCode → List ℕ → ℕ → List ℕ
+those_from test fs rs i = those test (map field_of (drop i fs)) i rs
+
+pub those_step : (test : Field → Bool) (fs : List FieldInCode) (rs : List ℕ) (i : ℕ) (d : FieldInCode) → i < length fs
+    → those_from test fs rs i ≡ cond (test (field_of (get_or fs i d))) (slice_index rs i ∷ those_from test fs rs (i + 1)) (those_from test fs rs (i + 1))
+those_step test fs rs i d h = rw (add-one, drop-cons fs i d h) refl
 
 -- ---- operands
 
@@ -51,15 +63,14 @@ goes_on s t os more None b left is e = rw (examined_more, sym left) refl
 goes_on s t os more (Some c) b left is e = let z : true ≡ false = sym is ∙ e in absurd cc
 
 -- the registers from a field on are examined
-abbrev pub examined_from : List Field → List ℕ → State → ℕ → Result State Cause
-examined_from fs rs s i = examined_all s (operands_at (map field_of (drop i fs)) (drop i rs))
+abbrev pub examined_from : List FieldInCode → List ℕ → State → ℕ → Result State Cause
+examined_from fs rs s i = examined_all s (operands_at (map field_of (drop i fs)) i rs)
 
-module _ (fs : List Field) (rs : List ℕ) (i : ℕ) (all : Result State Cause) (s : State) (so_far : all ≡ examined_from fs rs s i) where
-  module _ (r : ℕ) (d : Field) (t : State) (fault : Option Cause) (b : Bool) (h : i < length fs) (k : length fs ≤ length rs) (q : Stands rs i r)
+module _ (fs : List FieldInCode) (rs : List ℕ) (i : ℕ) (all : Result State Cause) (s : State) (so_far : all ≡ examined_from fs rs s i) where
+  module _ (r : ℕ) (d : FieldInCode) (t : State) (fault : Option Cause) (b : Bool) (h : i < length fs) (k : length fs ≤ length rs) (q : Stands rs i r)
       (left : left_by t fault ≡ examined_all s (operands_by (field_of (get_or fs i d) ∷ []) (r ∷ []))) (is : b ≡ is_some fault) where
-    here : operands_at (map field_of (drop i fs)) (drop i rs)
-        ≡ operands_by (field_of (get_or fs i d) ∷ []) (r ∷ []) ++ operands_at (map field_of (drop (i + 1) fs)) (drop (i + 1) rs)
-    here = rw (drop_or fs i d h, drop_here rs i r (omega (arith, h, k)) q) refl
+    here : operands_at (map field_of (drop i fs)) i rs ≡ operands_by (field_of (get_or fs i d) ∷ []) (r ∷ []) ++ operands_at (map field_of (drop (i + 1) fs)) (i + 1) rs
+    here = rw (add-one, drop-cons fs i d h, register_at rs i r (omega (arith, h, k)) q) refl
 
     pub fields_stop : b ≡ true → left_by t fault ≡ all
     fields_stop e = stops_there s t _ _ fault b left is e ∙ sym (so_far ∙ ap (λ os. examined_all s os) here)
@@ -74,27 +85,24 @@ module _ (fs : List Field) (rs : List ℕ) (i : ℕ) (all : Result State Cause) 
 -- ---- words
 
 -- the registers from a field on hold the words that the call reads
-abbrev pub are_words_from : State → List Field → List ℕ → ℕ → Bool
-are_words_from s fs rs i = are_words s (those is_word (map field_of (drop i fs)) (drop i rs))
+abbrev pub are_words_from : State → List FieldInCode → List ℕ → ℕ → Bool
+are_words_from s fs rs i = are_words s (those_from is_word fs rs i)
 
-words_step : (s : State) (fs : List Field) (rs : List ℕ) (i r : ℕ) (d : Field) → i < length fs → length fs ≤ length rs → Stands rs i r
-    → are_words_from s fs rs i ≡ ((not (is_word (field_of (get_or fs i d))) || is_some (bound_at s r)) && are_words_from s fs rs (i + 1))
-words_step s fs rs i r d h k q =
-    rw (drop_or fs i d h, drop_here rs i r (omega (arith, h, k)) q)
-    (by (is_word (field_of (get_or fs i d))) (those is_word (map field_of (drop (i + 1) fs)) (drop (i + 1) rs)))
-  where
-    by : (b : Bool) (rest : List ℕ) → are_words s (cond b (r ∷ rest) rest) ≡ ((not b || is_some (bound_at s r)) && are_words s rest)
-    by true rest = refl
-    by false rest = refl
+module _ (s : State) (fs : List FieldInCode) (rs : List ℕ) (i : ℕ) (all : Bool) (so_far : all ≡ are_words_from s fs rs i) where
+  module _ (r : ℕ) (d : FieldInCode) (t : Bool) (h : i < length fs) (k : length fs ≤ length rs) (q : Stands rs i r)
+      (is : t ≡ (not (is_word (field_of (get_or fs i d))) || is_some (bound_at s r))) where
+    step : all ≡ (t && are_words_from s fs rs (i + 1))
+    step = so_far ∙ rw (those_step is_word fs rs i d h, register_at rs i r (omega (arith, h, k)) q, is) (by (is_word (field_of (get_or fs i d))) (those_from is_word fs rs (i + 1)))
+      where
+        by : (b : Bool) (rest : List ℕ) → are_words s (cond b (r ∷ rest) rest) ≡ ((not b || is_some (bound_at s r)) && are_words s rest)
+        by true rest = refl
+        by false rest = refl
 
-module _ (s : State) (fs : List Field) (rs : List ℕ) (i : ℕ) (all : Bool) (so_far : all ≡ are_words_from s fs rs i) where
-  pub words_stop : (r : ℕ) (d : Field) (t : Bool) → i < length fs → length fs ≤ length rs → Stands rs i r
-      → t ≡ (not (is_word (field_of (get_or fs i d))) || is_some (bound_at s r)) → t ≡ false → false ≡ all
-  words_stop r d t h k q is e = sym (so_far ∙ (words_step s fs rs i r d h k q ∙ rw (sym is, e) refl))
+    pub words_stop : t ≡ false → false ≡ all
+    words_stop e = sym (step ∙ rw e refl)
 
-  pub words_more : (r : ℕ) (d : Field) (t : Bool) → i < length fs → length fs ≤ length rs → Stands rs i r
-      → t ≡ (not (is_word (field_of (get_or fs i d))) || is_some (bound_at s r)) → t ≡ true → all ≡ are_words_from s fs rs (i + 1)
-  words_more r d t h k q is e = so_far ∙ (words_step s fs rs i r d h k q ∙ rw (sym is, e) refl)
+    pub words_more : t ≡ true → all ≡ are_words_from s fs rs (i + 1)
+    words_more e = step ∙ rw e refl
 
   pub words_end : length fs ≤ i → true ≡ all
   words_end h = sym (so_far ∙ rw (drop_all i fs h) refl)

@@ -1,27 +1,28 @@
 -- The rule of each instruction leads from a fine state to fine states.
 use Rattle.std.proofs.Common.{◌≡◌, ℕ, zero, suc, ◌+◌, ◌*◌, ◌<◌, ◌≤◌, Bool, true, false, ◌&&◌, not, List, [], ◌∷◌, ◌++◌, length, Option, Some, None, Result}
 use Rattle.std.proofs.Common.{Ok, Err, IfSome, IfOk, refl, IsTrue, arith, eqb, leb, ltb}
-use Rattle.std.specs.Prelude.{slice_get, if◌then◌else◌, bit_and, zip}
+use Rattle.std.specs.Prelude.{slice_get, if◌then◌else◌, bit_and, slice_index, zip}
 use Rattle.std.specs.List.{list_all}
 use Rattle.std.proofs.lemmas.Bool.Decides.{nat_tests}
 use Rattle.std.proofs.lemmas.Nat.{and_le_r}
 use Rattle.zl_rights.specs.declared.kind.Kind.{Kind}
 use Rattle.zl_rights.specs.declared.kind.Kind.TheVariants as kind
-use Rattle.zl_rights.specs.Numbers.{READ, bits, rights_of, SAME_RIGHTS, KNOWN_RIGHTS}
+use Rattle.zl_rights.specs.Numbers.{bits, rights_of, SAME_RIGHTS, KNOWN_RIGHTS}
 use Rattle.zl_code.specs.declared.image.SlotArray.{SlotArray}
 use Rattle.zl_code.specs.declared.instr.Instr.{Instr}
 use Rattle.zl_code.specs.declared.instr.Instr.TheVariants as instr
 use Rattle.zl_code.specs.declared.instr.LocalInstr.{LocalInstr}
 use Rattle.zl_code.specs.declared.instr.LocalInstr.TheVariants as local
 use Rattle.zl_code.specs.declared.instr.CallInstr.{CallInstr}
-use Rattle.zl_code.specs.declared.instr.CallInstr.TheVariants as call
-use Rattle.zl_code.specs.Asked.{triples_from}
+use Rattle.zl_code.specs.declared.history.CallName.{CallName}
+use Rattle.zl_code.specs.declared.history.CallName.TheVariants as call
+use Rattle.zl_code.specs.declared.layout.Ending.{Ending}
+use Rattle.zl_code.specs.declared.layout.Ending.TheVariants as ending
 use Rattle.zl_code.specs.Image.{Image, instr_at}
-use Rattle.zl_code.specs.Instructions.{Row, row_of}
-use Rattle.zl_code.specs.Spells.{Parts, is_in_range, is_instr_in_range, is_slot_in_range, is_local_in_range, is_call_in_range, local_parts, call_parts}
+use Rattle.zl_code.specs.Spells.{is_in_range, is_instr_in_range, is_slot_in_range, is_local_in_range, is_call_in_range, is_room, local_parts, number_at, names_registers, call_reading}
 use Rattle.zl_code.specs.Operands.{Operand}
-use Rattle.zl_code.specs.Refusals.{needs}
 use Rattle.zl_code.proofs.ImageRanges.{ranges}
+use Rattle.zl_code.proofs.ImageCalls.{whole}
 use Rattle.zl_abs.specs.declared.value.AbsVal.{AbsVal}
 use Rattle.zl_abs.specs.declared.value.AbsVal.TheVariants.{Word, Has, KindOf, RightsOf}
 use Rattle.zl_abs.specs.declared.cause.Cause.{Cause}
@@ -34,11 +35,11 @@ use Rattle.zl_abs.specs.Bounds.{least_from, rounded}
 use Rattle.zl_abs.specs.Rule.{and_then, word_at, writes, passes, Edge, edge_to, edges}
 use Rattle.zl_abs.specs.LocalRules.{computes, in_memory, loads, stores, may_move, moved, takes, slot_fault, slot_value, swaps_by, swaps_in, unless, local_rule}
 use Rattle.zl_abs.specs.CallRules.{fault_of, taken_from, examined_by, examined, examined_all, are_words, range_fits, is_declared, are_distinct, has_one, Uses}
-use Rattle.zl_abs.specs.CallRules.{uses, state_after, uses_by, uses_in, uses_of, new, narrowed_value, triple_values, packet_values, values_of, goes_on, stops}
-use Rattle.zl_abs.specs.CallRules.{call_rule_by, call_rule}
+use Rattle.zl_abs.specs.CallRules.{received_in, state_after, uses_of, new, narrowed_value, triple_results, packet_values, values_by, values_of, goes_on, stops}
+use Rattle.zl_abs.specs.CallRules.{call_rule}
 use Rattle.zl_abs.specs.Typing.{target_of, rule_by, rule_with}
 use Rattle.zl_abs.proofs.StateOrder.{both}
-use Rattle.zl_abs.proofs.FineStates.{Suits, Named, is_plain, named_self, named_there, fine_with, ArePlain, fine_with_all, fine_moved, rights_fit}
+use Rattle.zl_abs.proofs.FineStates.{Suits, Named, is_plain, named_self, named_there, plain_suits, fine_with, fine_moved, rights_fit}
 use Rattle.zl_abs.proofs.FineTests.{FineWays, then_fine, IsBound, word_fine, zero_fine, equal_fine, below_fine, has_fine}
 
 if_fine : {B : Type 0} (Q : B → Type 0) (t : Bool) (x : Result B Cause) (c : Cause) → IfOk x Q → IfOk (if t then x else Err c) Q
@@ -195,25 +196,11 @@ abbrev AreValues : List AbsVal → Type 0
 AreValues [] = Unit {0}
 AreValues (v ∷ vs) = (is_plain v ≡ true) × Fits v × AreValues vs
 
-zip_plain : (rs : List ℕ) (vs : List AbsVal) → AreValues vs → ArePlain (zip rs vs)
-zip_plain [] vs h = tt
-zip_plain (r ∷ rs) [] h = tt
-zip_plain (r ∷ rs) (v ∷ vs) h = (h.0, h.1, zip_plain rs vs h.2)
-
-by_row : (i : Image) (s : State) (on : Bool) (o : Option Row) (p : Parts) (vs : List AbsVal) → IsFine s → AreValues vs → IfOk (call_rule_by i s on (uses_in o p vs)) FineWays
-by_row i s on None p vs h k = tt
-by_row i s on (Some r) p vs h k =
-    then_fine IsFine FineWays (state_after i s (uses_by r p vs)) _
-    (after_fine i s (uses_by r p vs) h (λ t g. fine_with_all _ t g (zip_plain _ (Word 30 ∷ vs) (refl, omega arith, k))))
-    (λ t g. goes on t g)
-  where
-    goes : (b : Bool) (t : State) → IsFine t → FineWays (if b then passes t else stops)
-    goes true t g = (tt, g)
-    goes false t g = (tt, tt)
-
-plain_fine : (bounds : List ℕ) (i : Image) (c : CallInstr) (s : State) → IsFine s → AreValues (values_of bounds s c) → IfOk (call_rule bounds i c s) FineWays
-unfolding call_rule uses_of
-plain_fine bounds i c s h k = by_row i s (goes_on c) (row_of (call_parts c).opcode) (call_parts c) _ h k
+zip_fine : (rs : List ℕ) (vs : List AbsVal) (more : List (ℕ × AbsVal)) → AreValues vs → CanGet more → CanGet (zip rs vs ++ more)
+unfolding with_all
+zip_fine [] vs more h k = k
+zip_fine (r ∷ rs) [] more h k = k
+zip_fine (r ∷ rs) (v ∷ vs) more h k = λ t g. zip_fine rs vs more h.2 k (with_value t r v) (fine_with t r v g (plain_suits t v h.0 h.1))
 
 narrowed_values : (v : AbsVal) (asked : ℕ) → Fits v → AreValues (narrowed_value v asked ∷ [])
 narrowed_values (Has a k q) asked h = (refl, by (eqb asked SAME_RIGHTS), tt)
@@ -226,43 +213,28 @@ narrowed_values (KindOf r) asked h = (refl, omega arith, tt)
 narrowed_values (RightsOf r) asked h = (refl, omega arith, tt)
 
 -- a handle, and behind it its kind and its rights
-triples_fine : (n r : ℕ) (s : State) → r + 3 * n ≤ 32 → IsFine s → IsFine (with_all s (zip (triples_from r n) (triple_values (triples_from r n))))
+triples_fine : (n r : ℕ) → r + 3 * n ≤ 32 → CanGet (triple_results r n)
 unfolding with_all
-triples_fine zero r s less h = h
-triples_fine (suc n) r s less h =
+triples_fine zero r less s h = h
+triples_fine (suc n) r less s h =
     let t = with_value s r (Has true None (rights_of 0)) in
     let f : IsFine t = fine_with s r (Has true None (rights_of 0)) h (omega arith, refl) in
     let a : Named (value_at t r) = named_self s r (Has true None (rights_of 0)) refl in
     let u = with_value t (r + 1) (KindOf r) in
     let g : IsFine u = fine_with t (r + 1) (KindOf r) f (omega arith, a) in
     let b : Named (value_at u r) = named_there t (r + 1) r (KindOf r) (apart r) a in
-    triples_fine n (r + 3) (with_value u (r + 2) (RightsOf r)) (omega arith) (fine_with u (r + 2) (RightsOf r) g (omega arith, b))
+    triples_fine n (r + 3) (omega arith) (with_value u (r + 2) (RightsOf r)) (fine_with u (r + 2) (RightsOf r) g (omega arith, b))
   where
     apart : (r : ℕ) → eqb r (r + 1) ≡ false
     apart r = grind (arith, nat_tests)
 
-read_in_range : (a b c d e f g n : ℕ) → is_call_in_range (call.ChanReadEtc a b c d e f g n) ≡ true → g + 3 * n ≤ 32
-unfolding call_parts
-read_in_range a b c d e f g n h = grind (arith, nat_tests)
+room_there : (first n : ℕ) → is_room first n ≡ true → first + 3 * n ≤ 32
+room_there first n h = grind (arith, nat_tests)
 
-read_fine : (bounds : List ℕ) (i : Image) (s : State) (a b c d e f g n : ℕ) → g + 3 * n ≤ 32 → IsFine s
-    → IfOk (call_rule bounds i (call.ChanReadEtc a b c d e f g n) s) FineWays
-unfolding with_all call_rule uses_of row_of call_parts
-read_fine bounds i s a b c d e f g n less h =
-    then_fine IsFine FineWays (state_after i s used) _ (after_fine i s used h received) (λ t k. (tt, k))
-  where
-    results : List (ℕ × AbsVal)
-    results = (a, Word 30) ∷ (e, Word 65536) ∷ (f, Word 64) ∷ zip (triples_from g n) (triple_values (triples_from g n))
-
-    used : Uses
-    used = uses (needs b (kind.Channel ∷ []) READ ∷ []) (c ∷ d ∷ []) (Some (c, d)) None results
-
-    received : CanGet results
-    received t k =
-        let x = fine_with t a (Word 30) k (omega arith, refl) in
-        let y = fine_with _ e (Word 65536) x (omega arith, refl) in
-        let z = fine_with _ f (Word 64) y (omega arith, refl) in
-        triples_fine n g _ less z
+received_fine : (e : Ending) (c : CallInstr) → names_registers e (call_reading c) ≡ true → CanGet (received_in e c)
+unfolding with_all
+received_fine ending.Room c h = triples_fine _ _ (room_there (slice_index c.registers 6) (number_at c.last 0 4) h)
+received_fine _ c h = λ t k. k
 
 new_value : (k : Kind) → Fits (new k)
 new_value kind.Process = omega arith
@@ -274,20 +246,32 @@ new_value kind.Job = omega arith
 packet_fits : (bounds : List ℕ) → AreValues (packet_values bounds)
 packet_fits bounds = (refl, omega arith, (refl, rounded_fits bounds 1, (refl, omega arith, (refl, omega arith, tt))))
 
+values_fit : (bounds : List ℕ) (n : CallName) (have : AbsVal) (number : ℕ) → Fits have → AreValues (values_by bounds n have number)
+values_fit bounds call.Dup have number h = narrowed_values have number h
+values_fit bounds call.Replace have number h = narrowed_values have number h
+values_fit bounds call.ChanCreate have number h = (refl, new_value kind.Channel, (refl, new_value kind.Channel, tt))
+values_fit bounds call.ChanReadEtc have number h = (refl, omega arith, (refl, omega arith, tt))
+values_fit bounds call.EventCreate have number h = (refl, new_value kind.Event, tt)
+values_fit bounds call.WaitOne have number h = (refl, omega arith, tt)
+values_fit bounds call.WaitPoll have number h = (refl, omega arith, tt)
+values_fit bounds call.PortCreate have number h = (refl, new_value kind.Port, tt)
+values_fit bounds call.PortWait have number h = packet_fits bounds
+values_fit bounds call.PortPoll have number h = packet_fits bounds
+values_fit bounds call.ProcessCreate have number h = (refl, new_value kind.Process, tt)
+values_fit bounds call.JobCreate have number h = (refl, new_value kind.Job, tt)
+values_fit bounds n have number h = tt
+
+way_fine : (on : Bool) (s : State) → IsFine s → FineWays (if on then passes s else stops)
+way_fine true s h = (tt, h)
+way_fine false s h = (tt, tt)
+
 pub call_fine : (bounds : List ℕ) (i : Image) (c : CallInstr) (s : State) → is_call_in_range c ≡ true → IsFine s → IfOk (call_rule bounds i c s) FineWays
-call_fine bounds i (call.ChanReadEtc a b c d e f g n) s r h = read_fine bounds i s a b c d e f g n (read_in_range a b c d e f g n r) h
-call_fine bounds i (call.Dup a b c imm) s r h = plain_fine bounds i (call.Dup a b c imm) s h (narrowed_values (value_at s b) imm (h.fits b))
-call_fine bounds i (call.Replace a b c imm) s r h = plain_fine bounds i (call.Replace a b c imm) s h (narrowed_values (value_at s b) imm (h.fits b))
-call_fine bounds i (call.ChanCreate a b c) s r h = plain_fine bounds i (call.ChanCreate a b c) s h (refl, new_value kind.Channel, (refl, new_value kind.Channel, tt))
-call_fine bounds i (call.EventCreate a b) s r h = plain_fine bounds i (call.EventCreate a b) s h (refl, new_value kind.Event, tt)
-call_fine bounds i (call.WaitOne a b c d) s r h = plain_fine bounds i (call.WaitOne a b c d) s h (refl, omega arith, tt)
-call_fine bounds i (call.WaitPoll a b c d) s r h = plain_fine bounds i (call.WaitPoll a b c d) s h (refl, omega arith, tt)
-call_fine bounds i (call.PortCreate a b) s r h = plain_fine bounds i (call.PortCreate a b) s h (refl, new_value kind.Port, tt)
-call_fine bounds i (call.PortWait a b c d e f) s r h = plain_fine bounds i (call.PortWait a b c d e f) s h (packet_fits bounds)
-call_fine bounds i (call.PortPoll a b c d e f) s r h = plain_fine bounds i (call.PortPoll a b c d e f) s h (packet_fits bounds)
-call_fine bounds i (call.ProcessCreate a b c d) s r h = plain_fine bounds i (call.ProcessCreate a b c d) s h (refl, new_value kind.Process, tt)
-call_fine bounds i (call.JobCreate a b c) s r h = plain_fine bounds i (call.JobCreate a b c) s h (refl, new_value kind.Job, tt)
-call_fine bounds i c s r h = plain_fine bounds i c s h tt
+unfolding call_rule uses_of
+call_fine bounds i c s r h =
+    let fit = values_fit bounds c.name (value_at s (slice_index c.registers 1)) (number_at c.last 0 4) (h.fits (slice_index c.registers 1)) in
+    then_fine IsFine FineWays (state_after i s (uses_of bounds s c)) _
+    (after_fine i s (uses_of bounds s c) h (zip_fine _ (Word 30 ∷ values_of bounds s c) _ (refl, omega arith, fit) (received_fine _ c (whole c r).named)))
+    (way_fine (goes_on c.name))
 
 -- ---- the edges
 

@@ -4,7 +4,7 @@ use Rattle.std.specs.Prelude.{slice_get, slice_set, if◌then◌else◌, replica
 use Rattle.zl_code.specs.declared.instr.Instr.{Instr}
 use Rattle.zl_code.specs.Image.{Image}
 use Rattle.zl_code.specs.Instructions.{row_of}
-use Rattle.zl_code.specs.Spells.{local_parts, call_parts}
+use Rattle.zl_code.specs.Spells.{local_parts}
 use Rattle.zl_abs.specs.declared.cause.Cause.{Cause}
 use Rattle.zl_abs.specs.declared.cause.Cause.TheVariants as cause
 use Rattle.zl_abs.specs.Values.{below, joined}
@@ -96,5 +96,5 @@ verdict i = told (bounds_of i.code) i (rounds 4 (bounds_of i.code) i (begun i))
 
 -- names what has to unfold
 unfoldable pub searching : Unit {0}
-unfolding below joined all_below all_joined with_value with_all start_state imm_of least_from local_rule call_rule uses_of examined_all are_distinct rule_with row_of local_parts call_parts
+unfolding below joined all_below all_joined with_value with_all start_state imm_of least_from local_rule call_rule uses_of examined_all are_distinct rule_with row_of local_parts
 searching = tt

@@ -1,14 +1,13 @@
 -- One place more of a list of handles, and what is received.
 use Rattle.std.proofs.Common.{◌≡◌, ℕ, zero, suc, add-one, is_some, Option, ◌+◌, ◌*◌, ◌-◌, ◌<◌, ◌≤◌, Bool, true, false, List, [], ◌∷◌, ◌++◌, Some, None}
-use Rattle.std.proofs.Common.{Result, Ok, refl, sym, ap, ◌∙◌, drop, get_or, length, arith}
-use Rattle.std.specs.Prelude.{slice_get, slice_index, nat_lt, zip, if◌then◌else◌}
+use Rattle.std.proofs.Common.{Result, Ok, refl, sym, ap, ◌∙◌, drop, length, arith}
+use Rattle.std.specs.Prelude.{slice_get, nat_lt, if◌then◌else◌}
 use Rattle.std.proofs.lemmas.List.{drop_all, length-append}
-use Rattle.std.proofs.lemmas.Grind.{get_or_default_zero}
 use Rattle.zl_code.proofs.Common.{none-some, same_Some}
 use Rattle.zl_rights.specs.Numbers.{bits, rights_of}
 use Rattle.zl_rights.specs.declared.rights.Rights.{Rights}
 use Rattle.zl_code.specs.Instructions.{Field}
-use Rattle.zl_code.specs.Asked.{used, triples_from}
+use Rattle.zl_code.specs.Asked.{used}
 use Rattle.zl_code.specs.Refusals.{operands_by}
 use Rattle.zl_code.specs.Spells.{register_in}
 use Rattle.zl_abs.specs.declared.value.AbsVal.{AbsVal}
@@ -17,7 +16,7 @@ use Rattle.zl_abs.specs.declared.cause.Cause.{Cause}
 use Rattle.zl_abs.specs.States.{State}
 use Rattle.zl_abs.specs.Changes.{left_by}
 use Rattle.zl_abs.proofs.CallSteps.{stops_there, goes_on}
-use Rattle.zl_abs.specs.CallRules.{examined_all, operands_listed, triple_results, triple_values}
+use Rattle.zl_abs.specs.CallRules.{examined_all, operands_listed, triple_results}
 
 -- the registers in these places are examined by the field
 abbrev pub listed : Field → State → List ℕ → Result State Cause
@@ -50,11 +49,6 @@ module _ (f : Field) (places : List ℕ) (i : ℕ) (all : Result State Cause) (s
 
 -- ---- triples
 
-pub zip_triples : (r n : ℕ) → zip (triples_from r n) (triple_values (triples_from r n)) ≡ triple_results r n
-zip_triples r zero = refl
-zip_triples r (suc n) =
-    ap (λ (rest : List (ℕ × AbsVal)). (r, Has true None (rights_of 0)) ∷ (r + 1, KindOf r) ∷ (r + 2, RightsOf r) ∷ rest) (zip_triples (r + 3) n)
-
 three_more : (done : List (ℕ × AbsVal)) (x y z : ℕ × AbsVal) (rest : List (ℕ × AbsVal))
     → (((done ++ x ∷ []) ++ y ∷ []) ++ z ∷ []) ++ rest ≡ done ++ x ∷ y ∷ z ∷ rest
 three_more [] x y z rest = refl
@@ -73,7 +67,3 @@ triples_more done one two three all first place places h k r q x y z less a b c 
 pub three_longer : (done one two three : List (ℕ × AbsVal)) (x y z : ℕ × AbsVal) (size place : ℕ)
     → one ≡ done ++ x ∷ [] → two ≡ one ++ y ∷ [] → three ≡ two ++ z ∷ [] → length done ≡ size + 3 * place → length three ≡ size + 3 * (place + 1)
 three_longer done one two three x y z size place a b c e = rw (c, b, a, length-append, length-append, length-append, e) (omega arith)
-
-pub received_zipped : (rs : List ℕ) (n d : ℕ) → 6 < length rs
-    → triple_results (get_or rs 6 d) n ≡ zip (triples_from (slice_index rs 6) n) (triple_values (triples_from (slice_index rs 6) n))
-received_zipped rs n d long = ap (λ r. triple_results r n) (get_or_default_zero rs 6 d long) ∙ sym (zip_triples (slice_index rs 6) n)

@@ -1,21 +1,23 @@
 -- Rules by bounds that round numbers up alike are the same.
-use Rattle.std.proofs.Common.{◌≡◌, ℕ, ◌+◌, List, [], ◌∷◌, length, Option, Some, None, refl, ap}
+use Rattle.std.proofs.Common.{◌≡◌, ℕ, ◌+◌, List, [], ◌∷◌, length, Option, Some, None, refl, ap, slice_index}
 use Rattle.zl_code.specs.declared.instr.Instr.{Instr}
 use Rattle.zl_code.specs.declared.instr.Instr.TheVariants as instr
 use Rattle.zl_code.specs.declared.instr.LocalInstr.{LocalInstr}
 use Rattle.zl_code.specs.declared.instr.LocalInstr.TheVariants as local
 use Rattle.zl_code.specs.declared.instr.CallInstr.{CallInstr}
-use Rattle.zl_code.specs.declared.instr.CallInstr.TheVariants as call
+use Rattle.zl_code.specs.declared.history.CallName.{CallName}
+use Rattle.zl_code.specs.declared.history.CallName.TheVariants as call
 use Rattle.zl_code.specs.Image.{Image, instr_at}
-use Rattle.zl_code.specs.Instructions.{row_of}
-use Rattle.zl_code.specs.Spells.{call_parts}
+use Rattle.zl_code.specs.Instructions.{call_row}
+use Rattle.zl_code.specs.Spells.{number_at}
+use Rattle.zl_abs.specs.declared.value.AbsVal.{AbsVal}
 use Rattle.zl_abs.specs.declared.value.AbsVal.TheVariants.{Word}
 use Rattle.zl_abs.specs.Values.{ANY, capped, smaller}
-use Rattle.zl_abs.specs.States.{State}
+use Rattle.zl_abs.specs.States.{State, value_at}
 use Rattle.zl_abs.specs.Bounds.{RoundAlike}
 use Rattle.zl_abs.specs.Rule.{and_then, word_at, writes, edges}
 use Rattle.zl_abs.specs.LocalRules.{computes, shifted, local_rule}
-use Rattle.zl_abs.specs.CallRules.{values_of, uses_of, uses_in, goes_on, call_rule_by, call_rule}
+use Rattle.zl_abs.specs.CallRules.{values_by, uses_by, uses_of, goes_on, call_rule_by, call_rule}
 use Rattle.zl_abs.specs.Typing.{target_of, rule_by, rule_with}
 
 module _ (bs cs : List ℕ) (alike : RoundAlike bs cs) (i : Image) (s : State) where
@@ -30,14 +32,14 @@ module _ (bs cs : List ℕ) (alike : RoundAlike bs cs) (i : Image) (s : State) w
   same_local (local.ShiftRight a b imm) = λ k. and_then (word_at s b) (λ m. same_computes a (shifted m imm) k)
   same_local x = refl
 
-  same_values : (c : CallInstr) → values_of bs s c ≡ values_of cs s c
-  same_values (call.PortWait a b c d e f) = ap (λ (m : ℕ). Word ANY ∷ Word m ∷ Word ANY ∷ Word ANY ∷ []) (alike 1)
-  same_values (call.PortPoll a b c d e f) = ap (λ (m : ℕ). Word ANY ∷ Word m ∷ Word ANY ∷ Word ANY ∷ []) (alike 1)
-  same_values c = refl
+  same_values : (n : CallName) (have : AbsVal) (number : ℕ) → values_by bs n have number ≡ values_by cs n have number
+  same_values call.PortWait have number = ap (λ (m : ℕ). Word ANY ∷ Word m ∷ Word ANY ∷ Word ANY ∷ []) (alike 1)
+  same_values call.PortPoll have number = ap (λ (m : ℕ). Word ANY ∷ Word m ∷ Word ANY ∷ Word ANY ∷ []) (alike 1)
+  same_values n have number = refl
 
   same_call : (c : CallInstr) → call_rule bs i c s ≡ call_rule cs i c s
   unfolding call_rule uses_of
-  same_call c = ap (λ vs. call_rule_by i s (goes_on c) (uses_in (row_of (call_parts c).opcode) (call_parts c) vs)) (same_values c)
+  same_call c = ap (λ vs. call_rule_by i s (goes_on c.name) (uses_by (call_row c.name) c vs)) (same_values c.name (value_at s (slice_index c.registers 1)) (number_at c.last 0 4))
 
   same_by : (n : ℕ) (o : Option Instr) → rule_by bs i n s o ≡ rule_by cs i n s o
   same_by n None = refl

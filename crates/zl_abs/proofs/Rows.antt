@@ -10,9 +10,10 @@ use Rattle.zl_code.specs.declared.instr.Instr.{Instr}
 use Rattle.zl_code.specs.declared.instr.Instr.TheVariants as instr
 use Rattle.zl_code.specs.declared.instr.LocalInstr.{LocalInstr}
 use Rattle.zl_code.specs.declared.instr.LocalInstr.TheVariants as local
-use Rattle.zl_code.specs.declared.instr.CallInstr.{CallInstr}
-use Rattle.zl_code.specs.declared.instr.CallInstr.TheVariants as call
+use Rattle.zl_code.specs.declared.history.CallName.{CallName}
+use Rattle.zl_code.specs.declared.history.CallName.TheVariants as name
 use Rattle.zl_code.specs.Image.{Image}
+use Rattle.zl_code.proofs.Called.{called, sending}
 use Rattle.zl_abs.specs.declared.cause.Cause.TheVariants as cause
 use Rattle.zl_abs.proofs.Infer.{Typed, Refused, Conflicts, verdict, searching}
 
@@ -38,11 +39,16 @@ with_memory code = image 8 [] [] [] code
 abbrev own : LocalInstr → Instr
 own i = instr.Local i
 
-abbrev ask : CallInstr → Instr
-ask i = instr.Call i
+-- a call with these registers
+abbrev ask : CallName → List ℕ → Instr
+ask n registers = instr.Call (called n registers 0)
+
+-- chan_read_etc with these registers, and room for so many handles
+abbrev receive : List ℕ → ℕ → Instr
+receive registers places = instr.Call (called name.ChanReadEtc registers places)
 
 abbrev exit : ℕ → Instr
-exit r = ask (call.ProcessExit r)
+exit r = ask name.ProcessExit (r ∷ [])
 
 -- ---- the least programs
 
@@ -63,73 +69,73 @@ dispatcher code =
     (record { kind = Some kind.Channel; length = 4; rights = rights_of 12 } ∷ []) code
 
 dispatches : verdict (dispatcher (
-    ask (call.PortCreate 2 3) ∷ own (local.JumpZero 3 13) ∷ own (local.Const 4 7) ∷ own (local.Const 5 5)
-    ∷ ask (call.WaitAsync 2 0 3 4 5) ∷ ask (call.PortWait 2 3 6 7 8 9) ∷ ask (call.ChanReadEtc 2 0 10 10 11 12 13 1)
+    ask name.PortCreate (2 ∷ 3 ∷ []) ∷ own (local.JumpZero 3 13) ∷ own (local.Const 4 7) ∷ own (local.Const 5 5)
+    ∷ ask name.WaitAsync (2 ∷ 0 ∷ 3 ∷ 4 ∷ 5 ∷ []) ∷ ask name.PortWait (2 ∷ 3 ∷ 6 ∷ 7 ∷ 8 ∷ 9 ∷ []) ∷ receive (2 ∷ 0 ∷ 10 ∷ 10 ∷ 11 ∷ 12 ∷ 13 ∷ []) 1
     ∷ own (local.JumpNotZero 2 13) ∷ own (local.JumpNotEqual 14 4 11) ∷ own (local.JumpHasNot 15 12 11)
-    ∷ own (local.Swap 13 10 0) ∷ ask (call.Close 2 13) ∷ own (local.Jump 4) ∷ exit 2 ∷ [])) ≡ Typed
+    ∷ own (local.Swap 13 10 0) ∷ ask name.Close (2 ∷ 13 ∷ []) ∷ own (local.Jump 4) ∷ exit 2 ∷ [])) ≡ Typed
 unfolding searching
 dispatches = refl
 
 -- Without the test of the kind.
 no_kind_test : verdict (dispatcher (
-    ask (call.PortCreate 2 3) ∷ own (local.JumpZero 3 12) ∷ own (local.Const 4 7) ∷ own (local.Const 5 5)
-    ∷ ask (call.WaitAsync 2 0 3 4 5) ∷ ask (call.PortWait 2 3 6 7 8 9) ∷ ask (call.ChanReadEtc 2 0 10 10 11 12 13 1)
+    ask name.PortCreate (2 ∷ 3 ∷ []) ∷ own (local.JumpZero 3 12) ∷ own (local.Const 4 7) ∷ own (local.Const 5 5)
+    ∷ ask name.WaitAsync (2 ∷ 0 ∷ 3 ∷ 4 ∷ 5 ∷ []) ∷ ask name.PortWait (2 ∷ 3 ∷ 6 ∷ 7 ∷ 8 ∷ 9 ∷ []) ∷ receive (2 ∷ 0 ∷ 10 ∷ 10 ∷ 11 ∷ 12 ∷ 13 ∷ []) 1
     ∷ own (local.JumpNotZero 2 12) ∷ own (local.JumpHasNot 15 12 10)
-    ∷ own (local.Swap 13 10 0) ∷ ask (call.Close 2 13) ∷ own (local.Jump 4) ∷ exit 2 ∷ [])) ≡ Refused 9 cause.WrongKind
+    ∷ own (local.Swap 13 10 0) ∷ ask name.Close (2 ∷ 13 ∷ []) ∷ own (local.Jump 4) ∷ exit 2 ∷ [])) ≡ Refused 9 cause.WrongKind
 unfolding searching
 no_kind_test = refl
 
 -- Without the test of the rights.
 no_rights_test : verdict (dispatcher (
-    ask (call.PortCreate 2 3) ∷ own (local.JumpZero 3 12) ∷ own (local.Const 4 7) ∷ own (local.Const 5 5)
-    ∷ ask (call.WaitAsync 2 0 3 4 5) ∷ ask (call.PortWait 2 3 6 7 8 9) ∷ ask (call.ChanReadEtc 2 0 10 10 11 12 13 1)
+    ask name.PortCreate (2 ∷ 3 ∷ []) ∷ own (local.JumpZero 3 12) ∷ own (local.Const 4 7) ∷ own (local.Const 5 5)
+    ∷ ask name.WaitAsync (2 ∷ 0 ∷ 3 ∷ 4 ∷ 5 ∷ []) ∷ ask name.PortWait (2 ∷ 3 ∷ 6 ∷ 7 ∷ 8 ∷ 9 ∷ []) ∷ receive (2 ∷ 0 ∷ 10 ∷ 10 ∷ 11 ∷ 12 ∷ 13 ∷ []) 1
     ∷ own (local.JumpNotZero 2 12) ∷ own (local.JumpNotEqual 14 4 10)
-    ∷ own (local.Swap 13 10 0) ∷ ask (call.Close 2 13) ∷ own (local.Jump 4) ∷ exit 2 ∷ [])) ≡ Refused 9 cause.LacksRight
+    ∷ own (local.Swap 13 10 0) ∷ ask name.Close (2 ∷ 13 ∷ []) ∷ own (local.Jump 4) ∷ exit 2 ∷ [])) ≡ Refused 9 cause.LacksRight
 unfolding searching
 no_rights_test = refl
 
 -- The handle is taken into another register first, and its tags follow.
 taken_first : verdict (dispatcher (
-    ask (call.PortCreate 2 3) ∷ own (local.JumpZero 3 14) ∷ own (local.Const 4 7) ∷ own (local.Const 5 5)
-    ∷ ask (call.WaitAsync 2 0 3 4 5) ∷ ask (call.PortWait 2 3 6 7 8 9) ∷ ask (call.ChanReadEtc 2 0 10 10 11 12 13 1)
+    ask name.PortCreate (2 ∷ 3 ∷ []) ∷ own (local.JumpZero 3 14) ∷ own (local.Const 4 7) ∷ own (local.Const 5 5)
+    ∷ ask name.WaitAsync (2 ∷ 0 ∷ 3 ∷ 4 ∷ 5 ∷ []) ∷ ask name.PortWait (2 ∷ 3 ∷ 6 ∷ 7 ∷ 8 ∷ 9 ∷ []) ∷ receive (2 ∷ 0 ∷ 10 ∷ 10 ∷ 11 ∷ 12 ∷ 13 ∷ []) 1
     ∷ own (local.JumpNotZero 2 14) ∷ own (local.Take 20 13) ∷ own (local.JumpNotEqual 14 4 12) ∷ own (local.JumpHasNot 15 12 12)
-    ∷ own (local.Swap 20 10 0) ∷ ask (call.Close 2 20) ∷ own (local.Jump 4) ∷ exit 2 ∷ [])) ≡ Typed
+    ∷ own (local.Swap 20 10 0) ∷ ask name.Close (2 ∷ 20 ∷ []) ∷ own (local.Jump 4) ∷ exit 2 ∷ [])) ≡ Typed
 unfolding searching
 taken_first = refl
 
 -- ---- a handle that may be closed
 
 maybe_closed : verdict (with_events (
-    ask (call.EventCreate 2 3) ∷ own (local.JumpZero 3 5) ∷ own (local.JumpZero 1 4) ∷ ask (call.Close 2 3)
-    ∷ ask (call.Signal 2 3 4 4) ∷ exit 4 ∷ [])) ≡ Refused 4 cause.NotLive
+    ask name.EventCreate (2 ∷ 3 ∷ []) ∷ own (local.JumpZero 3 5) ∷ own (local.JumpZero 1 4) ∷ ask name.Close (2 ∷ 3 ∷ [])
+    ∷ ask name.Signal (2 ∷ 3 ∷ 4 ∷ 4 ∷ []) ∷ exit 4 ∷ [])) ≡ Refused 4 cause.NotLive
 unfolding searching
 maybe_closed = refl
 
 tested_again : verdict (with_events (
-    ask (call.EventCreate 2 3) ∷ own (local.JumpZero 3 6) ∷ own (local.JumpZero 1 4) ∷ ask (call.Close 2 3)
-    ∷ own (local.JumpZero 3 6) ∷ ask (call.Signal 2 3 4 4) ∷ exit 4 ∷ [])) ≡ Typed
+    ask name.EventCreate (2 ∷ 3 ∷ []) ∷ own (local.JumpZero 3 6) ∷ own (local.JumpZero 1 4) ∷ ask name.Close (2 ∷ 3 ∷ [])
+    ∷ own (local.JumpZero 3 6) ∷ ask name.Signal (2 ∷ 3 ∷ 4 ∷ 4 ∷ []) ∷ exit 4 ∷ [])) ≡ Typed
 unfolding searching
 tested_again = refl
 
 -- ---- waiting and polling
 
 polls : verdict (image 0 (condition.NewPort ∷ []) [] [] (
-    ask (call.PortCreate 2 3) ∷ own (local.JumpZero 3 4) ∷ ask (call.PortPoll 2 3 4 5 6 7) ∷ own (local.Jump 2) ∷ exit 0 ∷ [])) ≡ Typed
+    ask name.PortCreate (2 ∷ 3 ∷ []) ∷ own (local.JumpZero 3 4) ∷ ask name.PortPoll (2 ∷ 3 ∷ 4 ∷ 5 ∷ 6 ∷ 7 ∷ []) ∷ own (local.Jump 2) ∷ exit 0 ∷ [])) ≡ Typed
 unfolding searching
 polls = refl
 
 waits : verdict (image 0 [] (record { kind = Some kind.Event; rights = rights_of 16384 } ∷ []) [] (
-    own (local.Const 2 8) ∷ own (local.Const 2 8) ∷ own (local.Const 2 8) ∷ ask (call.WaitOne 3 0 2 4) ∷ exit 4 ∷ [])) ≡ Typed
+    own (local.Const 2 8) ∷ own (local.Const 2 8) ∷ own (local.Const 2 8) ∷ ask name.WaitOne (3 ∷ 0 ∷ 2 ∷ 4 ∷ []) ∷ exit 4 ∷ [])) ≡ Typed
 unfolding searching
 waits = refl
 
 -- ---- the other causes
 
-lacks_right : verdict (with_event (ask (call.WaitOne 2 0 3 4) ∷ exit 4 ∷ [])) ≡ Refused 0 cause.LacksRight
+lacks_right : verdict (with_event (ask name.WaitOne (2 ∷ 0 ∷ 3 ∷ 4 ∷ []) ∷ exit 4 ∷ [])) ≡ Refused 0 cause.LacksRight
 unfolding searching
 lacks_right = refl
 
-leaks : verdict (with_events (ask (call.EventCreate 2 3) ∷ own (local.Const 3 1) ∷ exit 2 ∷ [])) ≡ Refused 1 cause.Leak
+leaks : verdict (with_events (ask name.EventCreate (2 ∷ 3 ∷ []) ∷ own (local.Const 3 1) ∷ exit 2 ∷ [])) ≡ Refused 1 cause.Leak
 unfolding searching
 leaks = refl
 
@@ -155,11 +161,11 @@ falls_off = refl
 
 -- One way brings a number, the other a handle.
 conflicts : verdict (with_events (
-    own (local.Const 3 5) ∷ own (local.JumpZero 1 4) ∷ own (local.Const 3 0) ∷ ask (call.EventCreate 2 3) ∷ exit 2 ∷ [])) ≡ Conflicts 4
+    own (local.Const 3 5) ∷ own (local.JumpZero 1 4) ∷ own (local.Const 3 0) ∷ ask name.EventCreate (2 ∷ 3 ∷ []) ∷ exit 2 ∷ [])) ≡ Conflicts 4
 unfolding searching
 conflicts = refl
 
-undeclared : verdict (plain (ask (call.EventCreate 2 3) ∷ exit 2 ∷ [])) ≡ Refused 0 cause.UndeclaredNeed
+undeclared : verdict (plain (ask name.EventCreate (2 ∷ 3 ∷ []) ∷ exit 2 ∷ [])) ≡ Refused 0 cause.UndeclaredNeed
 unfolding searching
 undeclared = refl
 
@@ -171,7 +177,7 @@ no_slot_array : verdict (plain (own (local.Swap 2 3 0) ∷ exit 2 ∷ [])) ≡ R
 unfolding searching
 no_slot_array = refl
 
-two_results : verdict (with_events (ask (call.EventCreate 2 2) ∷ exit 2 ∷ [])) ≡ Refused 0 cause.IllegalOp
+two_results : verdict (with_events (ask name.EventCreate (2 ∷ 2 ∷ []) ∷ exit 2 ∷ [])) ≡ Refused 0 cause.IllegalOp
 unfolding searching
 two_results = refl
 
@@ -181,8 +187,8 @@ unknown = refl
 
 -- ---- what may not pass
 
-abbrev listed : List ℕ → CallInstr
-listed places = call.ChanWrite 2 0 8 8 (record { places = places })
+abbrev send : List ℕ → Instr
+send handles = instr.Call (sending (2 ∷ 0 ∷ 8 ∷ 8 ∷ []) handles)
 
 abbrev with_channel_and_event : List Instr → Image
 with_channel_and_event code =
@@ -190,21 +196,21 @@ with_channel_and_event code =
     (record { kind = Some kind.Channel; rights = rights_of 12 } ∷ record { kind = Some kind.Event; rights = rights_of 2 } ∷ []) [] code
 
 sent_once : verdict (with_channel_and_event (
-    ask (listed (2 ∷ 255 ∷ 255 ∷ 255 ∷ 255 ∷ 255 ∷ 255 ∷ 255 ∷ [])) ∷ exit 2 ∷ [])) ≡ Typed
+    send (2 ∷ []) ∷ exit 2 ∷ [])) ≡ Typed
 unfolding searching
 sent_once = refl
 
 -- A register listed twice.
 sent_twice : verdict (with_channel_and_event (
-    ask (listed (2 ∷ 2 ∷ 255 ∷ 255 ∷ 255 ∷ 255 ∷ 255 ∷ 255 ∷ [])) ∷ exit 2 ∷ [])) ≡ Refused 0 cause.NotLive
+    send (2 ∷ 2 ∷ []) ∷ exit 2 ∷ [])) ≡ Refused 0 cause.NotLive
 unfolding searching
 sent_twice = refl
 
 -- A kind that was asked of a handle says nothing once it was sent and its register has another.
 tested_late : verdict (image 0 (condition.NewEvent ∷ []) (record { kind = Some kind.Channel; rights = rights_of 12 } ∷ []) [] (
-    ask (call.ChanReadEtc 2 0 10 10 11 12 13 1) ∷ own (local.JumpZero 13 8) ∷ own (local.JumpHasNot 15 2 8)
-    ∷ own (local.Move 16 14) ∷ ask (listed (13 ∷ 255 ∷ 255 ∷ 255 ∷ 255 ∷ 255 ∷ 255 ∷ 255 ∷ []))
-    ∷ ask (call.EventCreate 2 13) ∷ own (local.JumpZero 13 8) ∷ own (local.JumpEqual 16 4 9) ∷ exit 2
-    ∷ ask (call.ChanReadEtc 2 13 10 10 11 12 20 0) ∷ exit 2 ∷ [])) ≡ Refused 9 cause.WrongKind
+    receive (2 ∷ 0 ∷ 10 ∷ 10 ∷ 11 ∷ 12 ∷ 13 ∷ []) 1 ∷ own (local.JumpZero 13 8) ∷ own (local.JumpHasNot 15 2 8)
+    ∷ own (local.Move 16 14) ∷ send (13 ∷ [])
+    ∷ ask name.EventCreate (2 ∷ 13 ∷ []) ∷ own (local.JumpZero 13 8) ∷ own (local.JumpEqual 16 4 9) ∷ exit 2
+    ∷ receive (2 ∷ 13 ∷ 10 ∷ 10 ∷ 11 ∷ 12 ∷ 20 ∷ []) 0 ∷ exit 2 ∷ [])) ≡ Refused 9 cause.WrongKind
 unfolding searching
 tested_late = refl

@@ -1,16 +1,16 @@
 -- One destination more among the registers of a call.
-use Rattle.std.proofs.Common.{◌≡◌, ℕ, ◌+◌, ◌<◌, ◌≤◌, Bool, true, false, List, [], ◌∷◌, ◌++◌, map, zip, ap, arith, refl, sym, ◌∙◌, drop, get_or, length}
+use Rattle.std.proofs.Common.{◌≡◌, ℕ, ◌+◌, ◌<◌, ◌≤◌, Bool, true, false, List, [], ◌∷◌, ◌++◌, zip, ap, arith, refl, sym, ◌∙◌, drop, get_or, length}
 use Rattle.std.proofs.lemmas.List.{append_assoc, length-append}
-use Rattle.zl_code.specs.Asked.{those, is_written}
+use Rattle.zl_code.specs.Asked.{is_written}
 use Rattle.zl_code.specs.Instructions.{field_of}
 use Rattle.zl_code.specs.declared.layout.Field.{Field}
 use Rattle.zl_abs.specs.declared.value.AbsVal.{AbsVal}
 use Rattle.zl_abs.proofs.StateSteps.{Stands, drop_here}
-use Rattle.zl_abs.proofs.CallSteps.{drop_or}
+use Rattle.zl_abs.proofs.CallSteps.{register_at, those_from, those_step}
 
 -- what comes from a field and a value on
 abbrev pub written_from : List Field → List ℕ → List AbsVal → ℕ → ℕ → List (ℕ × AbsVal)
-written_from fs rs values i n = zip (those is_written (map field_of (drop i fs)) (drop i rs)) (drop n values)
+written_from fs rs values i n = zip (those_from is_written fs rs i) (drop n values)
 
 -- these stand in front of what is to come
 abbrev pub IsBegun : List Field → List ℕ → List AbsVal → List (ℕ × AbsVal) → ℕ → List (ℕ × AbsVal) → Type 0
@@ -22,7 +22,7 @@ module _ (fs : List Field) (rs : List ℕ) (values : List AbsVal) (all done : Li
   pub written_skip : b ≡ false → IsBegun fs rs values all (i + 1) done
   written_skip e =
       let same : written_from fs rs values (i + 1) (length done) ≡ written_from fs rs values i (length done) =
-      rw (drop_or fs i d h, drop_or rs i 0 (omega (arith, h, few, long)), sym is, e) refl in
+      rw (those_step is_written fs rs i d h, sym is, e) refl in
       (omega (arith, begun.0), ap (λ (more : List (ℕ × AbsVal)). done ++ more) same ∙ begun.1)
 
   pub written_more : (r : ℕ) (v : AbsVal) (next : List (ℕ × AbsVal)) → b ≡ true → Stands rs i r → length values ≡ 7 → Stands values (length done) v
@@ -31,6 +31,6 @@ module _ (fs : List Field) (rs : List ℕ) (values : List AbsVal) (all done : Li
       let size : length next ≡ length done + 1 = rw pushed (length-append done ((r, v) ∷ [])) in
       let less : length done < length values = omega (arith, h, few, wide, begun.0) in
       let here : (r, v) ∷ written_from fs rs values (i + 1) (length done + 1) ≡ written_from fs rs values i (length done) =
-      rw (drop_or fs i d h, drop_here rs i r (omega (arith, h, few, long)) q, sym is, e, drop_here values (length done) v less p) refl in
+      rw (those_step is_written fs rs i d h, register_at rs i r (omega (arith, h, few, long)) q, sym is, e, drop_here values (length done) v less p) refl in
       let more = ap (λ (l : List (ℕ × AbsVal)). done ++ l) here ∙ begun.1 in
       (omega (arith, size, begun.0), rw (size, pushed) (append_assoc done ((r, v) ∷ []) (written_from fs rs values (i + 1) (length done + 1)) ∙ more))

@@ -5,28 +5,26 @@ use Rattle.zl_code.specs.declared.layout.Ending.{Ending}
 use Rattle.zl_code.specs.declared.layout.Ending.TheVariants as ending
 use Rattle.zl_code.specs.declared.instr.Instr.{Instr}
 use Rattle.zl_code.specs.declared.instr.Instr.TheVariants as instr
-use Rattle.zl_code.specs.Instructions.{Row, row_of}
-use Rattle.zl_code.specs.Spells.{Last, Numbers, Room, Parts, local_parts, call_parts}
+use Rattle.zl_code.specs.Instructions.{Row, call_row, row_of}
+use Rattle.zl_code.specs.Spells.{local_parts, number_at}
 use Rattle.zl_abs.specs.Values.{ANY}
 
--- the number in an instruction that ends so
-abbrev pub imm_by : Ending → Last → Option ℕ
-imm_by ending.Number (Numbers imm target) = Some imm
-imm_by ending.Both (Numbers imm target) = Some imm
-imm_by ending.Room (Room handles) = Some handles
-imm_by _ _ = None
+-- the number in an instruction that ends so, where it uses one
+abbrev pub imm_by : Ending → ℕ → Option ℕ
+imm_by ending.Number imm = Some imm
+imm_by ending.Both imm = Some imm
+imm_by ending.Room imm = Some imm
+imm_by _ imm = None
 
-abbrev pub imm_in : Option Row → Last → Option ℕ
-imm_in None last = None
-imm_in (Some r) last = imm_by r.ending last
-
-abbrev pub imm_of_parts : Parts → Option ℕ
-imm_of_parts p = imm_in (row_of p.opcode) p.last
+-- that of an instruction of the row, if it has one
+abbrev pub imm_in : Option Row → ℕ → Option ℕ
+imm_in None imm = None
+imm_in (Some r) imm = imm_by r.ending imm
 
 -- the number in a known instruction, where its row uses one
 unfoldable pub imm_of : Instr → Option ℕ
-imm_of (instr.Local i) = imm_of_parts (local_parts i)
-imm_of (instr.Call i) = imm_of_parts (call_parts i)
+imm_of (instr.Local i) = imm_in (row_of (local_parts i).opcode) (local_parts i).imm
+imm_of (instr.Call i) = imm_by (call_row i.name).ending (number_at i.last 0 4)
 imm_of (instr.Unknown bytes) = None
 
 -- the number and the one below it

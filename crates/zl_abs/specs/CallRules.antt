@@ -1,5 +1,5 @@
 -- The rule of the system calls: what each reads and writes by its row of the table, and what its answer gives.
-use Rattle.std.specs.Prelude.{ℕ, zero, suc, ◌≡◌, Bool, true, false, ◌&&◌, not, ◌==◌, nat_le, ◌+◌, List, [], ◌∷◌, ◌++◌, map, length, zip, Option, Some, None, Result, Ok, Err, if◌then◌else◌, is_some, slice_index, bit_and}
+use Rattle.std.specs.Prelude.{ℕ, zero, suc, Bool, true, false, ◌&&◌, not, ◌==◌, nat_le, ◌+◌, List, [], ◌∷◌, ◌++◌, length, zip, Option, Some, None, Result, Ok, Err, if◌then◌else◌, is_some, slice_index, bit_and}
 use Rattle.std.specs.List.{list_all, list_any}
 use Rattle.zl_rights.specs.declared.kind.Kind.{Kind}
 use Rattle.zl_rights.specs.declared.kind.Kind.TheVariants as kind
@@ -7,14 +7,17 @@ use Rattle.zl_rights.specs.declared.rights.Rights.{Rights}
 use Rattle.zl_rights.specs.declared.policy.Condition.{Condition}
 use Rattle.zl_rights.specs.Numbers.{bits, rights_of, within, takes as takes_kind, default_rights_of, KNOWN_RIGHTS, SAME_RIGHTS}
 use Rattle.zl_code.specs.declared.instr.CallInstr.{CallInstr}
-use Rattle.zl_code.specs.declared.instr.CallInstr.TheVariants as call
-use Rattle.zl_code.specs.Limits.{most_handles}
+use Rattle.zl_code.specs.declared.history.CallName.{CallName}
+use Rattle.zl_code.specs.declared.history.CallName.TheVariants as call
+use Rattle.zl_code.specs.declared.layout.Ending.{Ending}
+use Rattle.zl_code.specs.declared.layout.Ending.TheVariants as ending
 use Rattle.zl_code.specs.Image.{Image, is_among}
-use Rattle.zl_code.specs.Instructions.{Field, reads, Row, row_of}
-use Rattle.zl_code.specs.Spells.{Last, Numbers, Parts, call_parts}
-use Rattle.zl_code.specs.Asked.{those, is_written, listed_in, triples_from, triples_in}
+use Rattle.zl_code.specs.Instructions.{Field, reads, Row, call_row}
+use Rattle.zl_code.specs.Spells.{number_at}
+use Rattle.zl_code.specs.Asked.{those, is_written, listed_in}
 use Rattle.zl_code.specs.Operands.{Operand}
 use Rattle.zl_code.specs.Refusals.{operands_by}
+pub use Rattle.zl_code.specs.Refusals.{operands_listed}
 use Rattle.zl_abs.specs.declared.value.AbsVal.{AbsVal}
 use Rattle.zl_abs.specs.declared.value.AbsVal.TheVariants.{Word, Has, KindOf, RightsOf}
 use Rattle.zl_abs.specs.declared.cause.Cause.{Cause}
@@ -135,16 +138,10 @@ state_after i s u = and_then (examined_all s u.operands) (λ t. finished i s t u
 
 -- ---- the columns of the table
 
--- the handle operands among fields with these registers
-abbrev pub operands_at : List Field → List ℕ → List Operand
-operands_at [] rs = []
-operands_at (f ∷ fs) [] = []
-operands_at (f ∷ fs) (r ∷ rs) = operands_by (f ∷ []) (r ∷ []) ++ operands_at fs rs
-
--- those of a list, by what the row does with each
-abbrev pub operands_listed : Option Field → List ℕ → List Operand
-operands_listed None rs = []
-operands_listed (Some f) rs = operands_at (map (λ r. f) rs) rs
+-- the handle operands among fields, where the first field is that of the n-th register
+abbrev pub operands_at : List Field → (n : ℕ) → List ℕ → List Operand
+operands_at [] n rs = []
+operands_at (f ∷ fs) n rs = operands_by (f ∷ []) (slice_index rs n ∷ []) ++ operands_at fs (suc n) rs
 
 -- the call reads a word there
 abbrev pub is_word : Field → Bool
@@ -152,19 +149,10 @@ is_word reads = true
 is_word _ = false
 
 -- the third and the fourth register, where the call has an address and a length
-abbrev pub range_in : Last → List ℕ → Option (ℕ × ℕ)
-range_in (Numbers imm target) rs = None
-range_in _ rs = Some (slice_index rs 2, slice_index rs 3)
-
--- what a call of the row uses, where its destinations behind the status get these values
-abbrev pub uses_by : Row → Parts → List AbsVal → Uses
-uses_by r p values = record {
-  operands = operands_at r.fields p.registers ++ operands_listed r.in_list (listed_in p.last);
-  words = those is_word r.fields p.registers;
-  range = range_in p.last p.registers;
-  condition = r.condition;
-  results = zip (those is_written r.fields p.registers ++ triples_in p.last p.registers) (Word 30 ∷ values);
-}
+abbrev pub range_in : Ending → List ℕ → Option (ℕ × ℕ)
+range_in ending.Room rs = Some (slice_index rs 2, slice_index rs 3)
+range_in ending.Handles rs = Some (slice_index rs 2, slice_index rs 3)
+range_in _ rs = None
 
 -- ---- what an answer gives
 
@@ -181,64 +169,70 @@ abbrev pub narrowed_value : AbsVal → ℕ → AbsVal
 narrowed_value (Has maybe k r) asked = Has true k (narrowed_rights r asked)
 narrowed_value _ asked = Word 0
 
--- handles that were received, each with its kind and its rights behind it
-abbrev pub triple_values : List ℕ → List AbsVal
-triple_values (a ∷ b ∷ c ∷ rest) = Has true None (rights_of 0) ∷ KindOf a ∷ RightsOf a ∷ triple_values rest
-triple_values _ = []
-
--- so many triples of registers from r on, with what they get
+-- handles that were received, in so many triples of registers from r on, each with its kind and its rights behind it
 abbrev pub triple_results : ℕ → ℕ → List (ℕ × AbsVal)
 triple_results r zero = []
 triple_results r (suc n) =
     (r, Has true None (rights_of 0)) ∷ (r + 1, KindOf r) ∷ (r + 2, RightsOf r) ∷ triple_results (r + 3) n
 
--- a list of handles has all its places
-abbrev pub is_full : List ℕ → Type 0
-is_full places = length places ≡ most_handles
+-- those that a call receives
+abbrev pub received_in : Ending → CallInstr → List (ℕ × AbsVal)
+received_in ending.Room c = triple_results (slice_index c.registers 6) (number_at c.last 0 4)
+received_in _ c = []
 
 -- a packet: key, type, trigger, observed
 abbrev pub packet_values : List ℕ → List AbsVal
 packet_values bounds = Word ANY ∷ Word (rounded bounds 1) ∷ Word ANY ∷ Word ANY ∷ []
 
--- what the destinations of a call get behind the status
+-- what the destinations among the registers of a call get behind the status, by the value of its second register and its number
+abbrev pub values_by : List ℕ → CallName → AbsVal → ℕ → List AbsVal
+values_by bounds call.Dup have number = narrowed_value have number ∷ []
+values_by bounds call.Replace have number = narrowed_value have number ∷ []
+values_by bounds call.ChanCreate have number = new kind.Channel ∷ new kind.Channel ∷ []
+values_by bounds call.ChanReadEtc have number = Word 65536 ∷ Word 64 ∷ []
+values_by bounds call.EventCreate have number = new kind.Event ∷ []
+values_by bounds call.WaitOne have number = Word 0xffff_ffff ∷ []
+values_by bounds call.WaitPoll have number = Word 0xffff_ffff ∷ []
+values_by bounds call.PortCreate have number = new kind.Port ∷ []
+values_by bounds call.PortWait have number = packet_values bounds
+values_by bounds call.PortPoll have number = packet_values bounds
+values_by bounds call.ProcessCreate have number = new kind.Process ∷ []
+values_by bounds call.JobCreate have number = new kind.Job ∷ []
+values_by bounds _ have number = []
+
+-- the same of a call in a state
 abbrev pub values_of : List ℕ → State → CallInstr → List AbsVal
-values_of bounds s (call.Dup a b c imm) = narrowed_value (value_at s b) imm ∷ []
-values_of bounds s (call.Replace a b c imm) = narrowed_value (value_at s b) imm ∷ []
-values_of bounds s (call.ChanCreate a b c) = new kind.Channel ∷ new kind.Channel ∷ []
-values_of bounds s (call.ChanReadEtc a b c d e f g places) = Word 65536 ∷ Word 64 ∷ triple_values (triples_from g places)
-values_of bounds s (call.EventCreate a b) = new kind.Event ∷ []
-values_of bounds s (call.WaitOne a b c d) = Word 0xffff_ffff ∷ []
-values_of bounds s (call.WaitPoll a b c d) = Word 0xffff_ffff ∷ []
-values_of bounds s (call.PortCreate a b) = new kind.Port ∷ []
-values_of bounds s (call.PortWait a b c d e f) = packet_values bounds
-values_of bounds s (call.PortPoll a b c d e f) = packet_values bounds
-values_of bounds s (call.ProcessCreate a b c d) = new kind.Process ∷ []
-values_of bounds s (call.JobCreate a b c) = new kind.Job ∷ []
-values_of bounds s _ = []
+values_of bounds s c = values_by bounds c.name (value_at s (slice_index c.registers 1)) (number_at c.last 0 4)
 
 -- ---- the rule
 
--- what the call uses
-abbrev pub uses_in : Option Row → Parts → List AbsVal → Option Uses
-uses_in None p values = None
-uses_in (Some r) p values = Some (uses_by r p values)
+-- what a call of the row uses, where its destinations among the registers get these values behind the status
+abbrev pub uses_by : Row → CallInstr → List AbsVal → Uses
+uses_by r c values = record {
+  operands = operands_at r.fields 0 c.registers ++ operands_listed r.in_list (listed_in r.ending c);
+  words = those is_word r.fields 0 c.registers;
+  range = range_in r.ending c.registers;
+  condition = r.condition;
+  results = zip (those is_written r.fields 0 c.registers) (Word 30 ∷ values) ++ received_in r.ending c;
+}
 
-unfoldable pub uses_of : List ℕ → State → CallInstr → Option Uses
-uses_of bounds s c = uses_in (row_of (call_parts c).opcode) (call_parts c) (values_of bounds s c)
+-- what the call uses
+unfoldable pub uses_of : List ℕ → State → CallInstr → Uses
+uses_of bounds s c = uses_by (call_row c.name) c (values_of bounds s c)
 
 -- the process goes on behind the call, if it is answered
-abbrev pub goes_on : CallInstr → Bool
-goes_on (call.ProcessExit a) = false
+abbrev pub goes_on : CallName → Bool
+goes_on call.ProcessExit = false
 goes_on _ = true
 
 -- no edge is followed
 abbrev pub stops : Ways
 stops = record { jumped = None; passed = None }
 
-abbrev pub call_rule_by : Image → State → Bool → Option Uses → Result Ways Cause
-call_rule_by i s on None = Err cause.IllegalOp
-call_rule_by i s on (Some u) = and_then (state_after i s u) (λ t. Ok (if on then passes t else stops))
+-- what the rule of a call gives that uses this
+abbrev pub call_rule_by : Image → State → Bool → Uses → Result Ways Cause
+call_rule_by i s on u = and_then (state_after i s u) (λ t. Ok (if on then passes t else stops))
 
 -- what the rule of a call gives, with these bounds
 unfoldable pub call_rule : List ℕ → Image → CallInstr → State → Result Ways Cause
-call_rule bounds i c s = call_rule_by i s (goes_on c) (uses_of bounds s c)
+call_rule bounds i c s = call_rule_by i s (goes_on c.name) (uses_of bounds s c)

@@ -4,7 +4,7 @@ use Rattle.zl_code.specs.declared.instr.Instr.{Instr}
 use Rattle.zl_code.specs.declared.instr.Instr.TheVariants as instr
 use Rattle.zl_code.specs.declared.instr.LocalInstr.{LocalInstr}
 use Rattle.zl_code.specs.Image.{Image, instr_at}
-use Rattle.zl_code.specs.Spells.{Last, Numbers, local_parts}
+use Rattle.zl_code.specs.Spells.{local_parts}
 use Rattle.zl_abs.specs.declared.cause.Cause.{Cause}
 use Rattle.zl_abs.specs.declared.cause.Cause.TheVariants as cause
 use Rattle.zl_abs.specs.States.{State, all_below, IsState, start_state}
@@ -16,12 +16,8 @@ use Rattle.zl_abs.specs.CallRules.{call_rule}
 -- ---- the rule of an instruction
 
 -- where an instruction may jump
-abbrev pub target_in : Last → ℕ
-target_in (Numbers imm target) = target
-target_in _ = 0
-
 abbrev pub target_of : LocalInstr → ℕ
-target_of i = target_in (local_parts i).last
+target_of i = (local_parts i).target
 
 -- the edges that are followed from the instruction, which stands at this place
 abbrev pub rule_by : List ℕ → Image → ℕ → State → Option Instr → Result (List Edge) Cause

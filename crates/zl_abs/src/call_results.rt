@@ -2,22 +2,21 @@
 
 ghost use Rattle.std.specs.Prelude.{◌≡◌, ◌+◌, ◌*◌, ◌≤◌, ◌<◌, ◌∷◌, [], ◌++◌, length, map, replicate, zip, bit_and, IfSome, IsTrue};
 ghost use Rattle.zl_rights.specs.Numbers.{bits, KNOWN_RIGHTS};
-ghost use Rattle.zl_code.specs.Asked.{those, is_written, triples_in};
-ghost use Rattle.zl_code.specs.Instructions.{field_of, row_of};
+ghost use Rattle.zl_code.specs.Asked.{those, is_written};
+ghost use Rattle.zl_code.specs.Instructions.{call_row, field_of};
 ghost use Rattle.zl_code.specs.Limits.{most_handles, most_registers, register_count};
-ghost use Rattle.zl_code.specs.Parts.{last_of};
-ghost use Rattle.zl_code.specs.Spells.{call_parts, is_last_in_range, seven};
+ghost use Rattle.zl_code.specs.Spells.{call_reading, names_registers};
 ghost use Rattle.zl_abs.specs.declared.value.AbsVal.TheVariants.{Word};
 ghost use Rattle.zl_abs.specs.Found.{bounds_in};
 ghost use Rattle.zl_abs.specs.Values.{ANY};
-ghost use Rattle.zl_abs.specs.CallRules.{narrowed_value, new, packet_values, triple_results, triple_values, values_of};
+ghost use Rattle.zl_abs.specs.CallRules.{narrowed_value, new, packet_values, received_in, triple_results, values_of};
 
 use crate::round_up::Rounding;
 use crate::state::AbsState;
 use crate::value::AbsVal;
 use bitflags::Flags;
 use std::marker::Model;
-use zl_code::{CallInstr, CallParts, Field, HandleList, InstrBytes, Last, Register, Row};
+use zl_code::{CallInstr, CallName, Columns, Ending, Field, HandleList, InstrBytes, Register};
 use zl_rights::{Kind, Rights};
 
 /// What a status register gets: the largest magnitude of a status is 30.
@@ -87,34 +86,34 @@ fn message() -> [AbsVal; InstrBytes::REGISTERS]
 }
 
 /// What the destinations among the registers of a call get, as far as it has them.
-#[tactic(auto, unfolding(zl_code::specs::Instructions::row_of, zl_code::specs::Spells::call_parts))]
 pub(crate) fn values_of(
     bounds: Rounding<'_>,
     state: &AbsState,
     instr: &CallInstr,
 ) -> [AbsVal; InstrBytes::REGISTERS]
-    ensures { IfSome (row_of (call_parts instr.now).opcode) (λ row.
-        zip (those is_written row.fields (seven (call_parts instr.now).registers)) result
-        ≡ zip (those is_written row.fields (seven (call_parts instr.now).registers))
-        (Word 30 ∷ values_of (bounds_in bounds.entry) state.now instr.now)) }
+    ensures { zip (those is_written (call_row instr.now.name).fields 0 instr.now.registers) result
+        ≡ zip (those is_written (call_row instr.now.name).fields 0 instr.now.registers)
+        (Word 30 ∷ values_of (bounds_in bounds.entry) state.now instr.now) }
 {
-    match instr {
-        CallInstr::Dup { handle, rights, .. } => status_and(narrowed(state.get(*handle), *rights)),
-        CallInstr::Replace { handle, rights, .. } => status_and(narrowed(
-            state.get(*handle),
-            *rights,
+    match instr.name {
+        CallName::Dup | CallName::Replace => status_and(narrowed(
+            state.get(instr.registers[1]),
+            instr.number(),
         )),
-        CallInstr::ChanCreate { .. } => status_and(new(Kind::Channel)),
-        CallInstr::ChanReadEtc { .. } => message(),
-        CallInstr::EventCreate { .. } => status_and(new(Kind::Event)),
-        CallInstr::WaitOne { .. } => status_and(AbsVal::Word(0xffff_ffff)),
-        CallInstr::WaitPoll { .. } => status_and(AbsVal::Word(0xffff_ffff)),
-        CallInstr::PortCreate { .. } => status_and(new(Kind::Port)),
-        CallInstr::PortWait { .. } => packet(bounds),
-        CallInstr::PortPoll { .. } => packet(bounds),
-        CallInstr::ProcessCreate { .. } => status_and(new(Kind::Process)),
-        CallInstr::JobCreate { .. } => status_and(new(Kind::Job)),
-        _ => status_and(STATUS),
+        CallName::ChanCreate => status_and(new(Kind::Channel)),
+        CallName::ChanReadEtc => message(),
+        CallName::EventCreate => status_and(new(Kind::Event)),
+        CallName::WaitOne | CallName::WaitPoll => status_and(AbsVal::Word(0xffff_ffff)),
+        CallName::PortCreate => status_and(new(Kind::Port)),
+        CallName::PortWait | CallName::PortPoll => packet(bounds),
+        CallName::ProcessCreate => status_and(new(Kind::Process)),
+        CallName::JobCreate => status_and(new(Kind::Job)),
+        CallName::Close | CallName::ChanWrite => status_and(STATUS),
+        CallName::Signal | CallName::SignalPeer => status_and(STATUS),
+        CallName::WaitAsync | CallName::PortQueue => status_and(STATUS),
+        CallName::PortCancel | CallName::ProcessStart => status_and(STATUS),
+        CallName::ProcessExit | CallName::TaskKill => status_and(STATUS),
+        CallName::JobSetPolicy => status_and(STATUS),
     }
 }
 
@@ -202,7 +201,7 @@ fn written(fields: &[Field], registers: &[Register], values: &[AbsVal]) -> Resul
     requires registers { length registers.now ≡ most_registers }
     requires values { length values.now ≡ most_registers }
     ensures value { result
-        ≡ zip (those is_written (map field_of fields.now) registers.now) values.now }
+        ≡ zip (those is_written (map field_of fields.now) 0 registers.now) values.now }
     ensures few { length result ≤ most_registers }
 {
     let mut results = Results {
@@ -222,18 +221,17 @@ fn written(fields: &[Field], registers: &[Register], values: &[AbsVal]) -> Resul
 /// The destinations of a call with what they get: those among the registers their values, and
 /// behind them handles that are received.
 #[inline(always)]
-pub(crate) fn results_of(row: &Row, parts: &CallParts, values: &[AbsVal]) -> Results
-    requires few { length row.now.fields.now ≤ most_registers }
-    requires room { IsTrue (is_last_in_range parts.now.registers (last_of parts.now.last)) }
+pub(crate) fn results_of(columns: &Columns, instr: &CallInstr, values: &[AbsVal]) -> Results
+    requires few { length columns.now.fields.now ≤ most_registers }
+    requires room { IsTrue (names_registers columns.now.ending (call_reading instr.now)) }
     requires values { length values.now ≡ most_registers }
-    ensures { result
-        ≡ zip (those is_written (map field_of row.now.fields.now) parts.now.registers) values.now
-        ++ zip (triples_in (last_of parts.now.last) parts.now.registers)
-        (triple_values (triples_in (last_of parts.now.last) parts.now.registers)) }
+    ensures { result ≡ zip
+        (those is_written (map field_of columns.now.fields.now) 0 instr.now.registers) values.now
+        ++ received_in columns.now.ending instr.now }
 {
-    let mut results = written(row.fields, &parts.registers, values);
-    if let Last::Room(places) = parts.last {
-        results.receive(parts.registers[6], places);
+    let mut results = written(columns.fields, &instr.registers, values);
+    if let Ending::Room = columns.ending {
+        results.receive(instr.registers[6], instr.number());
     }
     results
 }

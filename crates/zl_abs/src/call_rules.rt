@@ -5,11 +5,10 @@ ghost use Rattle.std.specs.Option.{option_map};
 ghost use Rattle.zl_code.specs.Asked.{listed_in, used};
 ghost use Rattle.zl_code.specs.Instructions.{field_of};
 ghost use Rattle.zl_code.specs.Limits.{most_registers};
-ghost use Rattle.zl_code.specs.Parts.{last_of};
 ghost use Rattle.zl_code.specs.Refusals.{operands_by};
-ghost use Rattle.zl_code.specs.Spells.{is_call_in_range, is_last_in_range};
+ghost use Rattle.zl_code.specs.Spells.{is_call_in_range};
 ghost use Rattle.zl_abs.specs.Found.{bounds_in};
-ghost use Rattle.zl_abs.specs.CallRules.{call_rule, examined_all, goes_on, is_full, operands_at, operands_listed, stops};
+ghost use Rattle.zl_abs.specs.CallRules.{call_rule, examined_all, goes_on, operands_at, operands_listed, stops};
 ghost use Rattle.zl_abs.specs.Changes.{left_by, ways_told};
 ghost use Rattle.zl_abs.specs.Rule.{and_then, passes};
 
@@ -21,7 +20,7 @@ use crate::operand::Operand;
 use crate::round_up::Rounding;
 use crate::state::AbsState;
 use crate::ways::Changes;
-use zl_code::{CallInstr, CallParts, Field, HandleList, Image, Last, Register, Row};
+use zl_code::{CallInstr, CallName, Columns, Ending, Field, HandleList, Image, Register};
 
 /// Examines the register by its field, and takes it where the call consumes its handle. Why it
 /// can't be, if it can't.
@@ -43,7 +42,7 @@ fn examine(after: &mut AbsState, field: Field, register: Register) -> Option<Cau
 fn examine_fields(after: &mut AbsState, fields: &[Field], registers: &[Register]) -> Option<Cause>
     requires { length fields.now ≤ length registers.now }
     ensures { left_by after.new result
-        ≡ examined_all after.old (operands_at (map field_of fields.now) registers.now) }
+        ≡ examined_all after.old (operands_at (map field_of fields.now) 0 registers.now) }
 {
     for (place, field) in fields.iter().enumerate() {
         let fault = examine(after, *field, registers[place]);
@@ -57,7 +56,6 @@ fn examine_fields(after: &mut AbsState, fields: &[Field], registers: &[Register]
 /// Examines the registers of a list by their one field.
 #[tactic(auto, using(crate::proofs::ListSteps::listed_stop))]
 fn examine_list(after: &mut AbsState, field: Field, handles: HandleList) -> Option<Cause>
-    requires { is_full handles.places }
     ensures { left_by after.new result
         ≡ examined_all after.old (operands_listed (Some (field_of field)) (used handles.places)) }
 {
@@ -75,37 +73,37 @@ fn examine_list(after: &mut AbsState, field: Field, handles: HandleList) -> Opti
 
 /// Examines all registers of a call by its row.
 #[tactic(auto, using(crate::proofs::CallSteps::stops_there, crate::proofs::CallSteps::goes_on))]
-fn examine_all(after: &mut AbsState, row: &Row, parts: &CallParts) -> Option<Cause>
-    requires few { length row.now.fields.now ≤ most_registers }
-    requires full { IsTrue (is_last_in_range parts.now.registers (last_of parts.now.last)) }
+fn examine_all(after: &mut AbsState, columns: &Columns, instr: &CallInstr) -> Option<Cause>
+    requires { length columns.now.fields.now ≤ most_registers }
     ensures { left_by after.new result ≡ examined_all after.old
-        (operands_at (map field_of row.now.fields.now) parts.now.registers
-        ++ operands_listed (option_map field_of row.now.in_list)
-        (listed_in (last_of parts.now.last))) }
+        (operands_at (map field_of columns.now.fields.now) 0 instr.now.registers
+        ++ operands_listed (option_map field_of columns.now.in_list)
+        (listed_in columns.now.ending instr.now)) }
 {
-    let fault = examine_fields(after, row.fields, &parts.registers);
+    let fault = examine_fields(after, columns.fields, &instr.registers);
     if fault.is_some() {
         return fault;
     }
-    let Some(field) = row.in_list else {
+    let Some(field) = columns.in_list else {
         return None;
     };
-    match parts.last {
-        Last::Handles(handles) => examine_list(after, field, handles),
+    match columns.ending {
+        Ending::Handles => examine_list(after, field, instr.handles()),
         _ => None,
     }
 }
 
-/// The edges that are followed from a call that left this state, if nothing is at fault.
-fn ended(after: &AbsState, instr: &CallInstr, fault: Option<Cause>) -> Result<Changes, Cause>
+/// The edges that are followed from the call of this name that left this state, if nothing is at
+/// fault.
+fn ended(after: &AbsState, name: CallName, fault: Option<Cause>) -> Result<Changes, Cause>
     ensures { ways_told after.now result ≡ and_then (left_by after.now fault)
-        (λ t. Ok (if goes_on instr.now then passes t else stops)) }
+        (λ t. Ok (if goes_on name then passes t else stops)) }
 {
     if let Some(cause) = fault {
         return Err(cause);
     }
-    match instr {
-        CallInstr::ProcessExit { .. } => Ok(Changes::stopping(after)),
+    match name {
+        CallName::ProcessExit => Ok(Changes::stopping(after)),
         _ => Ok(Changes::passing(after, Change::Same)),
     }
 }
@@ -123,15 +121,12 @@ pub(crate) fn call_rule(
     ensures { ways_told after.new result
         ≡ call_rule (bounds_in bounds.entry) image.now instr state.now }
 {
-    let parts = instr.parts();
-    let Some(row) = Row::of_opcode(parts.opcode) else {
-        return Err(Cause::IllegalOp);
-    };
-    if let Some(cause) = examine_all(after, &row, &parts) {
+    let columns = instr.name.row().columns;
+    if let Some(cause) = examine_all(after, columns, &instr) {
         return Err(cause);
     }
     let values = values_of(bounds, state, &instr);
-    let results = results_of(&row, &parts, &values);
-    let fault = finish(image, state, after, &row, &parts, results.all());
-    ended(after, &instr, fault)
+    let results = results_of(columns, &instr, &values);
+    let fault = finish(image, state, after, columns, &instr, results.all());
+    ended(after, instr.name, fault)
 }

@@ -4,7 +4,6 @@ ghost use Rattle.std.specs.Prelude.{◌≡◌, ◌≤◌, ◌||◌, [], is_some,
 ghost use Rattle.zl_code.specs.Asked.{those};
 ghost use Rattle.zl_code.specs.Instructions.{field_of};
 ghost use Rattle.zl_code.specs.Limits.{most_registers};
-ghost use Rattle.zl_code.specs.Parts.{last_of};
 ghost use Rattle.zl_abs.specs.CallRules.{answers, are_distinct, are_words, finished, has_one, is_declared, is_result, is_word, range_fits, range_in, uses};
 ghost use Rattle.zl_abs.specs.Changes.{left_by};
 ghost use Rattle.zl_abs.specs.States.{bound_at};
@@ -12,7 +11,7 @@ ghost use Rattle.zl_abs.specs.States.{bound_at};
 use crate::cause::Cause;
 use crate::state::AbsState;
 use crate::value::{AbsVal, is_register};
-use zl_code::{CallParts, Field, Image, Last, Register, Row};
+use zl_code::{CallInstr, Columns, Ending, Field, Image, Register};
 use zl_rights::Condition;
 
 /// Whether the register holds a word, if the call reads one there.
@@ -27,7 +26,7 @@ fn is_read(state: &AbsState, field: &Field, register: Register) -> bool
 #[tactic(auto, using(crate::proofs::CallSteps::words_stop, crate::proofs::CallSteps::words_more, crate::proofs::CallSteps::words_end))]
 fn are_words(state: &AbsState, fields: &[Field], registers: &[Register]) -> bool
     requires { length fields.now ≤ length registers.now }
-    ensures { result ≡ are_words state.now (those is_word (map field_of fields.now) registers.now) }
+    ensures { result ≡ are_words state.now (those is_word (map field_of fields.now) 0 registers.now) }
 {
     for (place, field) in fields.iter().enumerate() {
         if !is_read(state, field, registers[place]) {
@@ -39,17 +38,17 @@ fn are_words(state: &AbsState, fields: &[Field], registers: &[Register]) -> bool
 
 /// Whether the address and the length in the third and the fourth register lie in the memory,
 /// where the call has them.
-fn is_range_there(image: &Image, state: &AbsState, parts: &CallParts) -> bool
-    ensures { result ≡ range_fits image.now state.now
-        (range_in (last_of parts.now.last) parts.now.registers) }
+fn is_range_there(image: &Image, state: &AbsState, ending: Ending, registers: &[Register]) -> bool
+    requires { length registers.now ≡ most_registers }
+    ensures { result ≡ range_fits image.now state.now (range_in ending registers.now) }
 {
-    if let Last::Number(_) = parts.last {
+    if !matches!(ending, Ending::Room | Ending::Handles) {
         return true;
     }
-    let Some(address) = state.get(parts.registers[2]).bound() else {
+    let Some(address) = state.get(registers[2]).bound() else {
         return false;
     };
-    let Some(length) = state.get(parts.registers[3]).bound() else {
+    let Some(length) = state.get(registers[3]).bound() else {
         return false;
     };
     address.saturating_add(length) <= u64::from(image.memory())
@@ -115,20 +114,20 @@ pub(crate) fn finish(
     image: &Image,
     state: &AbsState,
     after: &mut AbsState,
-    row: &Row,
-    parts: &CallParts,
+    columns: &Columns,
+    instr: &CallInstr,
     results: &[(Register, AbsVal)],
 ) -> Option<Cause>
-    requires { length row.now.fields.now ≤ most_registers }
+    requires { length columns.now.fields.now ≤ most_registers }
     ensures { left_by after.new result ≡ finished image.now state.now after.old
-        (uses [] (those is_word (map field_of row.now.fields.now) parts.now.registers)
-        (range_in (last_of parts.now.last) parts.now.registers) row.now.condition results.now) }
+        (uses [] (those is_word (map field_of columns.now.fields.now) 0 instr.now.registers)
+        (range_in columns.now.ending instr.now.registers) columns.now.condition results.now) }
 {
-    if !are_words(state, row.fields, &parts.registers) {
+    if !are_words(state, columns.fields, &instr.registers) {
         Some(Cause::NotWord)
-    } else if !is_range_there(image, state, parts) {
+    } else if !is_range_there(image, state, columns.ending, &instr.registers) {
         Some(Cause::MemoryRange)
-    } else if !is_declared(image, row.condition) {
+    } else if !is_declared(image, columns.condition) {
         Some(Cause::UndeclaredNeed)
     } else {
         answer(after, results)

@@ -2,7 +2,7 @@ ghost use Rattle.std.specs.Prelude.{◌≡◌};
 ghost use Rattle.zl_code.specs.declared.instr.Instr.TheVariants as instr;
 ghost use Rattle.zl_abs.specs.Bounds.{imm_of};
 
-use zl_code::{CallInstr, Instr, LocalInstr};
+use zl_code::{CallInstr, Ending, Instr, LocalInstr};
 
 /// The number in a known instruction, where it uses one.
 #[tactic(auto, unfolding(crate::specs::Bounds::imm_of))]
@@ -40,14 +40,13 @@ fn imm_of_local(local: &LocalInstr) -> Option<u32>
     }
 }
 
-#[tactic(auto, unfolding(crate::specs::Bounds::imm_of, zl_code::specs::Instructions::row_of, zl_code::specs::Spells::call_parts))]
+/// The number in the call, where its row uses one.
+#[tactic(auto, unfolding(crate::specs::Bounds::imm_of))]
 fn imm_of_call(call: &CallInstr) -> Option<u32>
     ensures { result ≡ imm_of (instr.Call call.now) }
 {
-    match call {
-        CallInstr::Dup { rights, .. } => Some(*rights),
-        CallInstr::Replace { rights, .. } => Some(*rights),
-        CallInstr::ChanReadEtc { places, .. } => Some(*places),
+    match call.name.row().columns.ending {
+        Ending::Number | Ending::Both | Ending::Room => Some(call.number()),
         _ => None,
     }
 }

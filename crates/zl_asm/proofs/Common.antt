@@ -1,6 +1,6 @@
 -- The names that most proofs of this crate cite, passed on from one place. Declares nothing.
 pub use Rattle.zl_code.proofs.Common.{Bool, Err, IfErr, IfOk, Image, IsTrue, List, None, Ok, OnOk, Option, Reading, Result, Row, Some, [], and_from, and_parts, ap, append-nil, append_assoc, are_needs, are_registers, arith, at_drop_all, at_drop_more, bit_and, bits, bytes_of, cases_Bool, codes, cond, condition_name, condition_number, decimal, drop, drop_at, eqb, eqb-true, false, filter, find, flat_map, flat_map-append, fold, get_or, get_or-drop, get_or-map, if◌then◌else◌, inl, inr, instr_bytes, is_among, is_in_range, is_instr_in_range, is_slot_in_range, is_some, is_start_in_range, layout_of, le-leb, leb, leb-true, length, length-drop, length-map, length-take, length-take-le, list_all, list_all-append, list_any, lt-ltb, ltb, ltb-true, map, map-append, nat_le, nat_lt, nat_tests, ne_eqb, needs_byte, needs_named, not, number_at, or_left, or_right, reading_of, refl, replicate, rights_of, row_bytes, rules, set, seven, slice_index, spelling, starts_with, string_bytes, subst, suc, sym, take, take_all, take_at, take_more, true, true≢false, within, zero, ℕ, ◌%◌, ◌&&◌, ◌*◌, ◌++◌, ◌+◌, ◌-◌, ◌/◌, ◌<◌, ◌==◌, ◌^◌, ◌||◌, ◌∙◌, ◌∷◌, ◌≡◌, ◌≢◌, ◌≤◌, ◌⊎◌}
-unfoldable pub use Rattle.zl_code.proofs.Common.{call_parts, instr_fault, local_parts, row_named, row_of}
+unfoldable pub use Rattle.zl_code.proofs.Common.{instr_fault, local_parts, row_named, row_of}
 pub use Rattle.std.proofs.lemmas.Bool.{and_left, and_right, cases_eq, eq-eqb, le-ltb, lt-leb, ltb-false, not-true}
 pub use Rattle.std.proofs.lemmas.List.{drop-map, drop-replicate, drop_all, length-replicate, take-map}
 pub use Rattle.std.specs.Option.{is_none, option_copied, unwrap_or}

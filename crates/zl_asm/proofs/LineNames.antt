@@ -1,7 +1,6 @@
 -- The name of a label, and the row of a mnemonic.
-use Rattle.zl_asm.proofs.Common.{◌≡◌, ◌≢◌, ℕ, ◌-◌, true, false, eqb, List, [], ◌∷◌, ◌++◌, length, take, drop, Option, Some, None, refl, sym, ap, ◌∙◌, arith, drop_at, take_at, nat_tests, Row, layout, is_word, is_name, if_fits, then_with, label_of, registers_of, tail_of, source_with, source_of, option_map}
+use Rattle.zl_asm.proofs.Common.{◌≡◌, ◌≢◌, ℕ, ◌-◌, true, false, eqb, List, [], ◌∷◌, ◌++◌, length, take, drop, Some, None, refl, ap, ◌∙◌, arith, drop_at, take_at, nat_tests, is_word, is_name, if_fits, label_of}
 use Rattle.zl_code.proofs.Common.{length-append}
-use Rattle.zl_code.specs.declared.layout.Ending.{Ending}
 
 -- ---- labels
 
@@ -41,18 +40,3 @@ as_name name e = rw e refl
 
 pub as_none : (name : List ℕ) → is_name name ≡ false → if_fits is_name (Some name) ≡ None
 as_none name e = rw e refl
-
--- ---- mnemonics
-
--- the instruction of the row that was found
-pub by_row : (o : Option Row) (opcode registers : ℕ) (kind : Ending) (operands : Option (List (List ℕ)))
-    → Some opcode ≡ option_map (λ r. r.opcode) o → Some (layout registers kind) ≡ option_map (λ r. layout (length r.fields) r.ending) o
-    → then_with o (λ r. then_with operands (source_of r)) ≡ then_with operands (λ ws. source_with opcode (registers_of registers (take registers ws)) (tail_of kind (drop registers ws)))
-unfolding source_of
-by_row None opcode registers kind operands p q = absurd (cc)
-by_row (Some r) opcode registers kind operands p q =
-    let a : opcode ≡ r.opcode = cc in
-    let whole : layout registers kind ≡ layout (length r.fields) r.ending = cc in
-    let b : registers ≡ length r.fields = ap (λ l. l.registers) whole in
-    let e : kind ≡ r.ending = ap (λ l. l.ending) whole in
-    λ i. then_with operands (λ ws. source_with (sym a i) (registers_of (sym b i) (take (sym b i) ws)) (tail_of (sym e i) (drop (sym b i) ws)))

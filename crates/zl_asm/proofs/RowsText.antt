@@ -1,5 +1,5 @@
 -- Worked examples of the assembler's text, by computation.
-use Rattle.zl_asm.proofs.Common.{◌≡◌, ℕ, List, [], ◌∷◌, refl, codes, true, false, Some, None, row_of, row_named, instr_fault, local_parts, call_parts, rights_of, is_word, words_from, digit_of, register_of, is_name, hex_bytes, kind_of, directive_of, operands_after, operands_of, all_of, tail_of, source_of, unknown_of, label_of, line_of, directives_first, labels_from, names_once, listing_from, listing_of, Denotes, joined, tail_texts, code_lines_from, text_of}
+use Rattle.zl_asm.proofs.Common.{◌≡◌, ℕ, List, [], ◌∷◌, refl, codes, true, false, Some, None, row_of, row_named, instr_fault, local_parts, rights_of, is_word, words_from, digit_of, register_of, is_name, hex_bytes, kind_of, directive_of, operands_after, operands_of, all_of, tail_of, source_of, unknown_of, label_of, line_of, directives_first, labels_from, names_once, listing_from, listing_of, Denotes, joined, tail_texts, code_lines_from, text_of}
 use Rattle.std.specs.Fmt.{digits}
 use Rattle.zl_rights.specs.declared.kind.Kind.TheVariants as kind
 use Rattle.zl_rights.specs.declared.policy.Condition.TheVariants as condition
@@ -9,7 +9,7 @@ use Rattle.zl_asm.specs.Words.{number_of}
 
 -- all that the reading of a text unfolds
 unfoldable pub reading : Unit {0}
-unfolding is_word words_from digit_of number_of register_of is_name hex_bytes kind_of directive_of operands_after operands_of all_of tail_of source_of unknown_of label_of line_of directives_first labels_from names_once listing_from listing_of row_of row_named instr_fault kind_named condition_named local_parts call_parts
+unfolding is_word words_from digit_of number_of register_of is_name hex_bytes kind_of directive_of operands_after operands_of all_of tail_of source_of unknown_of label_of line_of directives_first labels_from names_once listing_from listing_of row_of row_named instr_fault kind_named condition_named local_parts
 reading = tt
 
 abbrev stored : List ℕ

@@ -212,16 +212,18 @@ fn push_row(
     row: Row,
     bytes: [u8; Instr::LEN],
 ) -> Result<(), AllocError>
-    requires { length row.fields.now ≤ most_registers }
+    requires { length row.columns.now.fields.now ≤ most_registers }
     ensures { Adds result text.old text.new
-        (laid_out count row.name.now (length row.fields.now) row.ending bytes) }
+        (laid_out count row.name.now (length row.columns.now.fields.now) row.columns.now.ending
+        bytes) }
 {
     let parts = InstrBytes::split(bytes);
     let registers = row.registers();
     text.push_str(row.name)?;
     text.push_str(" ")?;
     push_registers(text, &parts.registers[..registers])?;
-    push_tail(text, separator_behind(registers), count, row.ending, bytes)?;
+    let ending = row.columns.ending;
+    push_tail(text, separator_behind(registers), count, ending, bytes)?;
     Ok(())
 }
 
@@ -278,7 +280,7 @@ fn target_of(bytes: [u8; Instr::LEN]) -> Option<u32>
     ensures none { IfNone result (aims (row_of (slice_index bytes 0)) ≡ false) }
 {
     let target = InstrBytes::split(bytes).target();
-    match Row::of_opcode(bytes[0])?.ending {
+    match Row::of_opcode(bytes[0])?.columns.ending {
         Ending::Target | Ending::Both => Some(target),
         Ending::Nothing | Ending::Number | Ending::Room | Ending::Handles => None,
     }

@@ -3,10 +3,11 @@ ghost use Rattle.std.specs.Prelude.{◌≡◌, ◌≤◌, ◌++◌, length, take
 ghost use Rattle.std.specs.Option.{option_map};
 ghost use Rattle.std.specs.Result.{result_ok};
 ghost use Rattle.zl_asm.specs.Words.{number_of, register_of};
-ghost use Rattle.zl_asm.specs.Lines.{operands_of, all_of, tail, tail_to, tail_of, registers_of, source_with};
+ghost use Rattle.zl_asm.specs.Lines.{operands_of, all_of, tail, tail_to, tail_of, registers_of, source_of};
 ghost use Rattle.zl_asm.specs.Values.{texts, tail_value, source_value};
 ghost use Rattle.zl_code.specs.declared.layout.Ending.TheVariants as ending;
 ghost use Rattle.zl_asm.specs.Causes.{OnRefusal};
+ghost use Rattle.zl_code.specs.Instructions.{row_value};
 ghost use Rattle.zl_code.specs.Limits.{most_registers};
 
 use crate::fault::AsmCause;
@@ -137,12 +138,11 @@ fn tail_of<'a>(ending: Ending, operands: &[&'a [u8]]) -> Result<Tail<'a>, AsmCau
 }
 
 /// The instruction of the row with these operands, its registers first.
+#[tactic(auto, unfolding(crate::specs::Lines::source_of))]
 pub(crate) fn source_of<'a>(row: &Row, operands: &[&'a [u8]]) -> Result<Source<'a>, AsmCause>
-    requires { length row.now.fields.now ≤ most_registers }
-    ensures { option_map source_value (result_ok result) ≡ source_with row.now.opcode
-        (registers_of (length row.now.fields.now)
-        (take (length row.now.fields.now) (texts operands.now)))
-        (tail_of row.now.ending (drop (length row.now.fields.now) (texts operands.now))) }
+    requires { length row.now.columns.now.fields.now ≤ most_registers }
+    ensures { option_map source_value (result_ok result)
+        ≡ source_of (row_value row.now) (texts operands.now) }
 {
     let count = row.registers();
     if operands.len() < count {
@@ -151,7 +151,7 @@ pub(crate) fn source_of<'a>(row: &Row, operands: &[&'a [u8]]) -> Result<Source<'
     let (registers, rest) = operands.split_at(count);
     let mut places = [0; InstrBytes::REGISTERS];
     put_registers(&mut places, registers)?;
-    let tail = tail_of(row.ending, rest)?;
+    let tail = tail_of(row.columns.ending, rest)?;
     let last = tail.bytes;
     let parts = InstrBytes {
         opcode: row.opcode,

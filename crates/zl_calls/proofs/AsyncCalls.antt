@@ -1,5 +1,5 @@
 -- The call wait_async, from its table and objects to a step beside the registered waits.
-use Rattle.zl_calls.proofs.Common.{◌≡◌, ℕ, Bool, true, false, not, List, [], ◌∷◌, ◌++◌, ◌+◌, refl, sym, ap, ◌∙◌, subst, Option, Some, None, Result, Ok, Err, IsTrue, get, Ready, Library, Site, site, refusal, handle_operands, row_of, examined, operand, any, listed, answer_if, first_some, then_some, option_or, may_choose, new_handles, insert_all, remove_all, taken_handles, effect, gives_ok, gives_refused, AtCall, next_for, Values, replied, taken, Objects, IsAnswered, Replies, told_by, no_value, process_value, state_value, world_blocked, world_value, IsConsistent, World}
+use Rattle.zl_calls.proofs.Common.{◌≡◌, ℕ, Bool, true, false, not, List, [], ◌∷◌, ◌++◌, ◌+◌, refl, sym, ap, ◌∙◌, subst, Option, Some, None, Result, Ok, Err, IsTrue, get, Ready, Library, Site, site, refusal, handle_operands, examined, operand, any, listed, answer_if, first_some, then_some, option_or, may_choose, new_handles, insert_all, remove_all, taken_handles, effect, gives_ok, gives_refused, AtCall, next_for, Values, replied, taken, Objects, IsAnswered, Replies, told_by, no_value, process_value, state_value, world_blocked, world_value, IsConsistent, World}
 use Rattle.zl_rights.specs.Numbers.{WAIT, WRITE}
 use Rattle.zl_rights.specs.World.{Wait as WaitValue}
 use Rattle.zl_rights.specs.declared.entry.Entry.{Entry}
@@ -53,7 +53,7 @@ module _ (lib : Library) (before after : List Process) (r r2 : Objects) (p p2 : 
     by_both blocked (Err s) y = refl
 
     async_refused : (blocked : List ℕ) → refusal lib (among blocked) p.pid (wait_async h port key mask) ≡ answers (async_refusal p.table.entries r h port mask)
-    unfolding refusal handle_operands row_of examined operand listed
+    unfolding refusal handle_operands examined operand listed
     async_refused blocked =
         rw (table_is before after p p2 write r)
         (both_looked_up (among blocked) p.pid (get p.table.entries h) (get p.table.entries port) any (kind.Port ∷ []) WAIT WRITE
@@ -63,7 +63,7 @@ module _ (lib : Library) (before after : List Process) (r r2 : Objects) (p p2 : 
     -- ---- the relation of calls
 
     async_chosen : (blocked : List ℕ) → IsTrue (may_choose (among blocked) (taken (among blocked) p.pid async_site) p.pid (wait_async h port key mask) [])
-    unfolding may_choose new_handles remove_all taken_handles handle_operands row_of
+    unfolding may_choose new_handles remove_all taken_handles handle_operands
     async_chosen blocked = rw write.there refl
 
     module _ (registers : RegistersWait p.pid p.table r h port key mask p2.table r2) (replies : Replies async_site status.Ok [] p p2) where
@@ -88,7 +88,7 @@ module _ (lib : Library) (before after : List Process) (r r2 : Objects) (p p2 : 
           (ap (λ (x : Objects). x.waits_made) registers.objects)
 
       async_done : IsCalledAmong lib before after r r2 p.pid async_site (outcome.Answered status.Ok)
-      unfolding effect gives_ok new_handles insert_all remove_all taken_handles handle_operands row_of
+      unfolding effect gives_ok new_handles insert_all remove_all taken_handles handle_operands
       async_done = record {
         calls = λ blocked. (Values [], rw (async_refused blocked, registers.unrefused) (async_chosen blocked, refl, async_ends blocked));
         keeps = subst (IsConsistent after) (sym registers.objects) (beside_lab after r (watching r wait) (watching_beside r wait)
@@ -99,6 +99,6 @@ module _ (lib : Library) (before after : List Process) (r r2 : Objects) (p p2 : 
 
     pub async_called : state_value p.state ≡ Ready → (call : CallName) → next_for lib (process_value p) ≡ AtCall call async_site → (o : Outcome)
         → IsAnswered (told_by no_value) (WaitAsyncDoes p.pid h port key mask) async_site p r o p2 r2 → IsCalledAmong lib before after r r2 p.pid async_site o
-    unfolding row_of taken_handles handle_operands remove_all gives_refused
+    unfolding taken_handles handle_operands remove_all gives_refused
     async_called ready call next o acts = answered_among lib before after r r2 p p2 lab write async_site no_value (λ _. RegistersWait p.pid p.table r h port key mask) true (async_refusal p.table.entries r h port mask)
         async_refused refl (λ blocked. refl) (λ blocked answer. refl) (λ done registers replies. async_done registers replies) o acts.answer acts.acts acts.replied acts.ends

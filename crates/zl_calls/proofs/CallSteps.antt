@@ -1,5 +1,5 @@
 -- Any call of a process in the midst of all others: from what was done among them to the relation of steps, up to where processes wake.
-use Rattle.zl_calls.proofs.Common.{◌≡◌, ◌<◌, ℕ, length, slice_get-get_or, Moves, IsStuck, STUCK, Ends, call_in, true, ◌==◌, List, get_or, set, refl, sym, ap, ◌∙◌, subst, Some, None, same_Some, position, slice_get, is_ready, Library, Site, AtCall, next_for, calls_at, name_of, Objects, process_value, state_value, world_blocked, world_value, AreBlocked, IsConsistent}
+use Rattle.zl_calls.proofs.Common.{◌≡◌, ◌<◌, ℕ, length, slice_get-get_or, Moves, IsStuck, STUCK, Ends, call_in, true, ◌==◌, List, get_or, set, refl, sym, ap, ◌∙◌, subst, Some, None, same_Some, position, slice_get, is_ready, Library, Site, AtCall, next_for, calls_at, Objects, process_value, state_value, world_blocked, world_value, AreBlocked, IsConsistent}
 use Rattle.zl_code.specs.Sound.{IsSound as IsSoundWorld}
 use Rattle.zl_code.specs.declared.history.CallName.{CallName}
 use Rattle.zl_code.specs.declared.history.Outcome.{Outcome}
@@ -30,7 +30,7 @@ module _ (lib : Library) (ps : List Process) (r : Objects) (whole : IsConsistent
       (is_free lib ps r whole blocked sound p ((write_of lib ps r whole blocked are sound pid place p found read p refl).there) is_ready_there name s next none (world_blocked ps r blocked) refl refl)))
 
   pub called_so : (name : CallName) → CalledAmong lib place p (lab ps r blocked) name o l2 → HasLeft lib ps l2.processes r l2.objects blocked l2.blocked pid (item.Call pid name o)
-  called_so name called = rw called.named (by_acts (name_of called.call) called.site (called.next ∙ ap (calls_at (name_of called.call)) called.at_site) called.acts)
+  called_so name called = rw called.named (by_acts called.call.name called.site (called.next ∙ ap (calls_at called.call.name) called.at_site) called.acts)
 
 -- ---- a step that is no call, behind a look at what stands next that changed nothing
 

@@ -1,5 +1,6 @@
 -- A call in the midst of all processes, step by step: its policy, then what reaches others, then what it does by itself.
-use Rattle.zl_calls.proofs.Common.{◌≡◌, ◌<◌, ℕ, zero, suc, List, [], ◌∷◌, length, get_or, set, refl, sym, ap, ◌∙◌, subst, Option, Some, None, IfSome, IsSome, false≢true, same_Some, slice_get, slice_get-get_or, name_of, site_of, Library, Site, Objects, Acted}
+use Rattle.zl_calls.proofs.Common.{◌≡◌, ◌<◌, ℕ, zero, suc, List, [], ◌∷◌, length, get_or, set, refl, sym, ap, ◌∙◌, subst, Option, Some, None, IfSome, IsSome}
+use Rattle.zl_calls.proofs.Common.{false≢true, same_Some, slice_get, slice_get-get_or, site_of, Library, Site, Objects, Acted}
 use Rattle.zl_code.specs.declared.history.Outcome.{Outcome}
 use Rattle.zl_code.specs.declared.instr.CallInstr.{CallInstr}
 use Rattle.zl_calls.specs.Policed.{Policed, verdict_on}
@@ -14,7 +15,8 @@ set_read (y ∷ xs) zero x read = ap (λ z. z ∷ xs) read
 set_read (y ∷ xs) (suc n) x read = ap (λ zs. y ∷ zs) (set_read xs n x read)
 
 -- the caller p stands at the place, and its call has a site
-module _ (lib : Library) (ps : List Process) (r : Objects) (b : List ℕ) (place : ℕ) (p : Process) (within : place < length ps) (read : p ≡ get_or ps place p) where
+module _ (lib : Library) (ps : List Process) (r : Objects) (b : List ℕ) (place : ℕ) (p : Process) (within : place < length ps)
+    (read : p ≡ get_or ps place p) where
   pub is_there : slice_get ps place ≡ Some p
   is_there = slice_get-get_or ps place p within ∙ ap (λ (q : Process). Some q) (sym read)
 
@@ -34,24 +36,29 @@ module _ (lib : Library) (ps : List Process) (r : Objects) (b : List ℕ) (place
     abbrev Done : Outcome → Lab → Process → Type 0
     Done o l2 q = IsReachedBy (site_of call q.cpu) (λ s. CallActs lib place q s (lab ps r b) o l2)
 
-    pub policed_acts : (o : Outcome) (p2 : Process) (r2 : Objects) → IfSome (site_of call p.cpu) (λ s. Policed s p r o p2 r2) → (caller : Process) → slice_get ps place ≡ Some caller → Done o (lab (set ps place p2) r2 b) caller
+    pub policed_acts : (o : Outcome) (p2 : Process) (r2 : Objects) → IfSome (site_of call p.cpu) (λ s. Policed s p r o p2 r2) → (caller : Process)
+        → slice_get ps place ≡ Some caller → Done o (lab (set ps place p2) r2 b) caller
     policed_acts o p2 r2 ends = of_caller (Done o (lab (set ps place p2) r2 b)) (by_site (site_of call p.cpu) (has_site p is_there) ends)
       where
-        by_site : (at : Option Site) → IsSome at → IfSome at (λ s. Policed s p r o p2 r2) → IsReachedBy at (λ s. CallActs lib place p s (lab ps r b) o (lab (set ps place p2) r2 b))
+        by_site : (at : Option Site) → IsSome at → IfSome at (λ s. Policed s p r o p2 r2)
+            → IsReachedBy at (λ s. CallActs lib place p s (lab ps r b) o (lab (set ps place p2) r2 b))
         by_site None none ends = absurd (elim (false≢true none) [ ])
         by_site (Some s) there ends = policed p2 (record { processes = refl; blocked = refl }) ends
 
     -- the policy says nothing
     module _ (none : IfSome (site_of call p.cpu) (λ s. verdict_on p.table.entries r.objects p.pid s.request ≡ None)) where
       pub reached_acts : (ps1 : List Process) (r1 : Objects) → ps1 ≡ ps → r1 ≡ r → (o : Outcome) (l2 : Lab)
-          → ((caller : Process) → slice_get ps1 place ≡ Some caller → IsReachedBy (site_of call caller.cpu) (λ s. Reaches lib place caller s (lab ps1 r1 b) o l2))
+          → ((caller : Process) → slice_get ps1 place ≡ Some caller
+          → IsReachedBy (site_of call caller.cpu) (λ s. Reaches lib place caller s (lab ps1 r1 b) o l2))
           → (caller : Process) → slice_get ps place ≡ Some caller → Done o l2 caller
       reached_acts ps1 r1 same_list same_objects o l2 reached =
           let here = reached p (ap (λ (xs : List Process). slice_get xs place) same_list ∙ is_there) in
-          of_caller (Done o l2) (by_site (site_of call p.cpu) none (subst (λ (x : Objects). IsReachedBy (site_of call p.cpu) (λ s. Reaches lib place p s (lab ps x b) o l2)) same_objects
+          of_caller (Done o l2) (by_site (site_of call p.cpu) none
+          (subst (λ (x : Objects). IsReachedBy (site_of call p.cpu) (λ s. Reaches lib place p s (lab ps x b) o l2)) same_objects
           (subst (λ (xs : List Process). IsReachedBy (site_of call p.cpu) (λ s. Reaches lib place p s (lab xs r1 b) o l2)) same_list here)))
         where
-          by_site : (at : Option Site) → IfSome at (λ s. verdict_on p.table.entries r.objects p.pid s.request ≡ None) → IsReachedBy at (λ s. Reaches lib place p s (lab ps r b) o l2) → IsReachedBy at (λ s. CallActs lib place p s (lab ps r b) o l2)
+          by_site : (at : Option Site) → IfSome at (λ s. verdict_on p.table.entries r.objects p.pid s.request ≡ None)
+              → IsReachedBy at (λ s. Reaches lib place p s (lab ps r b) o l2) → IsReachedBy at (λ s. CallActs lib place p s (lab ps r b) o l2)
           by_site None none reached = reached
           by_site (Some s) none reached = reaches none reached
 
@@ -69,9 +76,10 @@ module _ (lib : Library) (ps : List Process) (r : Objects) (b : List ℕ) (place
   -- the call that stands next is done so
   pub called_among : (call : CallInstr) (o : Outcome) (l2 : Lab) → CallsNext lib p call
       → ((caller : Process) → slice_get ps place ≡ Some caller → IsReachedBy (site_of call caller.cpu) (λ s. CallActs lib place caller s (lab ps r b) o l2))
-      → (caller : Process) → slice_get ps place ≡ Some caller → CalledAmong lib place caller (lab ps r b) (name_of call) o l2
-  called_among call o l2 next done = of_caller (λ q. CalledAmong lib place q (lab ps r b) (name_of call) o l2) (by_site (site_of call p.cpu) refl (done p is_there))
+      → (caller : Process) → slice_get ps place ≡ Some caller → CalledAmong lib place caller (lab ps r b) call.name o l2
+  called_among call o l2 next done = of_caller (λ q. CalledAmong lib place q (lab ps r b) call.name o l2) (by_site (site_of call p.cpu) refl (done p is_there))
     where
-      by_site : (at : Option Site) → site_of call p.cpu ≡ at → IsReachedBy at (λ s. CallActs lib place p s (lab ps r b) o l2) → CalledAmong lib place p (lab ps r b) (name_of call) o l2
+      by_site : (at : Option Site) → site_of call p.cpu ≡ at → IsReachedBy at (λ s. CallActs lib place p s (lab ps r b) o l2)
+          → CalledAmong lib place p (lab ps r b) call.name o l2
       by_site None is done = absurd done
       by_site (Some s) is done = record { call = call; next = next; named = refl; site = s; at_site = is; acts = done }

@@ -1,5 +1,5 @@
 -- The call port_cancel, from its table and objects to a step beside the registered waits.
-use Rattle.zl_calls.proofs.Common.{◌≡◌, ℕ, Bool, true, false, not, ◌||◌, List, [], ◌∷◌, refl, ◌∙◌, Option, Result, Ok, Err, IsTrue, list_any, get, Ready, Library, Site, site, refusal, handle_operands, row_of, examined, operand, any, listed, answer_if, first_some, then_some, may_choose, new_handles, insert_all, remove_all, taken_handles, effect, on_object, gives_ok, gives_refused, AtCall, next_for, Values, replied, taken, koid_in, body_of, Objects, IsAnswered, Replies, told_by, no_value, process_value, state_value, world_blocked, world_value, IsConsistent, World}
+use Rattle.zl_calls.proofs.Common.{◌≡◌, ℕ, Bool, true, false, not, ◌||◌, List, [], ◌∷◌, refl, ◌∙◌, Option, Result, Ok, Err, IsTrue, list_any, get, Ready, Library, Site, site, refusal, handle_operands, examined, operand, any, listed, answer_if, first_some, then_some, may_choose, new_handles, insert_all, remove_all, taken_handles, effect, on_object, gives_ok, gives_refused, AtCall, next_for, Values, replied, taken, koid_in, body_of, Objects, IsAnswered, Replies, told_by, no_value, process_value, state_value, world_blocked, world_value, IsConsistent, World}
 use Rattle.std.specs.List.{filter}
 use Rattle.zl_rights.specs.LookUp.{granted, looked_up}
 use Rattle.zl_rights.specs.Numbers.{WRITE}
@@ -60,7 +60,7 @@ module _ (lib : Library) (before after : List Process) (r r2 : Objects) (p p2 : 
     by_both blocked one two (Err s) y is_e is_f = refl
 
     cancel_refused : (blocked : List ℕ) → refusal lib (among blocked) p.pid (port_cancel port source key) ≡ answers (cancel_refusal p.table.entries r p.pid port source key)
-    unfolding refusal handle_operands row_of examined operand listed
+    unfolding refusal handle_operands examined operand listed
     cancel_refused blocked =
         rw (table_is before after p p2 write r)
         (both_looked_up (among blocked) p.pid (get p.table.entries port) (get p.table.entries source) (kind.Port ∷ []) any WRITE 0
@@ -70,7 +70,7 @@ module _ (lib : Library) (before after : List Process) (r r2 : Objects) (p p2 : 
     -- ---- the relation of calls
 
     cancel_chosen : (blocked : List ℕ) → IsTrue (may_choose (among blocked) (taken (among blocked) p.pid cancel_site) p.pid (port_cancel port source key) [])
-    unfolding may_choose new_handles remove_all taken_handles handle_operands row_of
+    unfolding may_choose new_handles remove_all taken_handles handle_operands
     cancel_chosen blocked = rw write.there refl
 
     module _ (cancels : Cancels p.pid p.table r port source key p2.table r2) (replies : Replies cancel_site status.Ok [] p p2) where
@@ -108,7 +108,7 @@ module _ (lib : Library) (before after : List Process) (r r2 : Objects) (p p2 : 
           cancels.ends.waits cancels.ends.made)
 
       cancel_done : IsCalledAmong lib before after r r2 p.pid cancel_site (outcome.Answered status.Ok)
-      unfolding effect gives_ok new_handles insert_all remove_all taken_handles handle_operands row_of
+      unfolding effect gives_ok new_handles insert_all remove_all taken_handles handle_operands
       cancel_done = record {
         calls = λ blocked. (Values [], rw (cancel_refused blocked, cancels.unrefused) (cancel_chosen blocked, refl, cancel_ends blocked));
         keeps = beside_lab after emptied r2 cancels.ends.beside
@@ -119,6 +119,6 @@ module _ (lib : Library) (before after : List Process) (r r2 : Objects) (p p2 : 
 
     pub cancel_called : state_value p.state ≡ Ready → (call : CallName) → next_for lib (process_value p) ≡ AtCall call cancel_site → (o : Outcome)
         → IsAnswered (told_by no_value) (PortCancelDoes p.pid port source key) cancel_site p r o p2 r2 → IsCalledAmong lib before after r r2 p.pid cancel_site o
-    unfolding row_of taken_handles handle_operands remove_all gives_refused
+    unfolding taken_handles handle_operands remove_all gives_refused
     cancel_called ready call next o acts = answered_among lib before after r r2 p p2 lab write cancel_site no_value (λ _. Cancels p.pid p.table r port source key) false (cancel_refusal p.table.entries r p.pid port source key)
         cancel_refused refl (λ blocked. refl) (λ blocked answer. refl) (λ done cancels replies. cancel_done cancels replies) o acts.answer acts.acts acts.replied acts.ends

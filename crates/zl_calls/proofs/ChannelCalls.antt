@@ -1,5 +1,5 @@
 -- The calls on channels: chan_create, from its table and objects to a step.
-use Rattle.zl_calls.proofs.Common.{◌≡◌, ◌≤◌, ◌+◌, ◌^◌, ℕ, Bool, true, false, not, ◌&&◌, ◌==◌, List, [], ◌∷◌, map, length, refl, sym, ap, ◌∙◌, subst, cond, None, IsTrue, arith, nat_le, nat_tests, ne_eqb, Some, none-some, and_parts, count_by, sum_by-cons, then_some, first_some, Map, get, put, Ready, ChannelEnd, Library, Site, site, examined, has_room, has_koids, handles_to, table_of, answer_if, row_of, refusal, handle_operands, listed, may_choose, new_handles, insert_all, remove_all, taken_handles, effect, with_effect, with_object, gives_ok, gives_refused, AtCall, next_for, Values, replied, taken, new_entry, IsTable, Inserts, Handles, Objects, new_object, with_new, IsAnswered, told_by, Replies, process_entry, process_value, state_value, world_value, object_value, IsConsistent, IsNamed, runs, World}
+use Rattle.zl_calls.proofs.Common.{◌≡◌, ◌≤◌, ◌+◌, ◌^◌, ℕ, Bool, true, false, not, ◌&&◌, ◌==◌, List, [], ◌∷◌, map, length, refl, sym, ap, ◌∙◌, subst, cond, None, IsTrue, arith, nat_le, nat_tests, ne_eqb, Some, none-some, and_parts, count_by, sum_by-cons, then_some, first_some, Map, get, put, Ready, ChannelEnd, Library, Site, site, examined, has_room, has_koids, handles_to, table_of, answer_if, refusal, handle_operands, listed, may_choose, new_handles, insert_all, remove_all, taken_handles, effect, with_effect, with_object, gives_ok, gives_refused, AtCall, next_for, Values, replied, taken, new_entry, IsTable, Inserts, Handles, Objects, new_object, with_new, IsAnswered, told_by, Replies, process_entry, process_value, state_value, world_value, object_value, IsConsistent, IsNamed, runs, World}
 use Rattle.zl_code.proofs.Common.{Object as ObjectValue, chan_create}
 use Rattle.zl_rights.specs.declared.kind.Kind.TheVariants as kind
 use Rattle.zl_rights.specs.declared.status.Status.TheVariants as status
@@ -25,7 +25,7 @@ use Rattle.zl_calls.proofs.Written.{IsNext, keeps}
 -- ---- the answer of chan_create
 
 chan_create_refused : (lib : Library) (w : World) (p : ℕ) → refusal lib w p chan_create ≡ answers (channel_refusal (table_of w p) w.next_koid)
-unfolding refusal handle_operands row_of examined listed has_room has_koids
+unfolding refusal handle_operands examined listed has_room has_koids
 chan_create_refused lib w p = rw (may_create w p condition.NewChannel) (by_test (nat_le (length (table_of w p) + 2) 1024 && nat_le (w.next_koid + 2) (2 ^ 62)))
   where
     by_test : (b : Bool) → first_some (None ∷ None ∷ answer_if (not b) status.NoResources ∷ []) ≡ answers (then_some (not b) status.NoResources)
@@ -102,11 +102,11 @@ module _ (lib : Library) (before after : List Process) (r r2 : Objects) (p p2 : 
         (ap (λ (os : Map ObjectValue). put os (n + 1) (object_value (new_object second_end 1))) (grown_seen r first_end 1 lab.given_objects) ∙ grown_seen with_first second_end 1 growing.sound.given_objects))
 
     chosen : IsTrue (may_choose w (taken w p.pid create_site) p.pid chan_create (two_values made))
-    unfolding taken_handles handle_operands row_of remove_all may_choose new_handles
+    unfolding taken_handles handle_operands remove_all may_choose new_handles
     chosen = rw write.there (may_get_both p creates.between p2.table first second made.0 made.1 creates.first creates.second)
 
     ends : world_value after r2 ≡ replied (with_effect lib w (taken w p.pid create_site) p.pid chan_create (two_values made)) p.pid create_site status.Ok (two_values made)
-    unfolding taken_handles handle_operands row_of remove_all new_handles effect insert_all with_object
+    unfolding taken_handles handle_operands remove_all new_handles effect insert_all with_object
     ends = replied_inserted_two before after p p2 write r2 create_site made.0 made.1 first second creates.between with_ends refl rest creates.first creates.second replies
 
     -- ---- the invariant
@@ -156,6 +156,6 @@ module _ (lib : Library) (before after : List Process) (r r2 : Objects) (p p2 : 
   -- ---- the step
 
   pub chan_create_done : state_value p.state ≡ Ready → (call : CallName) → next_for lib (process_value p) ≡ AtCall call create_site → (o : Outcome) → IsAnswered (told_by two_values) ChanCreateDoes create_site p r o p2 r2 → IsDone lib before after r r2 p.pid call o
-  unfolding row_of taken_handles handle_operands remove_all gives_refused
+  unfolding taken_handles handle_operands remove_all gives_refused
   chan_create_done ready call next o acts = answered_done lib before after r r2 p p2 lab write ready call create_site next two_values (CreatesChannel p.table r) true (channel_refusal p.table.entries r.next_koid)
       refused refl refl (λ answer. refl) chan_create_called o acts.answer acts.acts acts.replied acts.ends

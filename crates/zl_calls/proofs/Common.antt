@@ -1,6 +1,6 @@
 -- The names that most proofs of this crate cite, passed on from one place. Declares nothing.
-pub use Rattle.zl_code.proofs.Common.{All, All-nil, AtCall, Blocked, Body, Bool, Boots, ChannelEnd, Cpu, Created, DUPLICATE, Ended, Err, EventBody, FirstFault, Gone, IfNone, IfSome, Image, IsSome, IsStuck, IsTrue, Koids, Library, List, MOST_ITEMS, Map, Moves, None, Object, Ok, OnOk, Option, PortBody, Process, ProcessBody, Program, Ready, Refused, Request, Result, Row, SIGNAL, STUCK, Settles, Site, Some, State, Step, Values, WantsMemory, [], and_from, and_parts, answer_if, any, ap, append-nil, arith, at_limit, at_statement, below_all, bit_and, bits, body_in, body_of, call_name, calls_at, cases_Bool, cases_lt, chan_write, close, cond, copy_of, count_by, cpu_answered, default_rights_of, dup, entry_at, eq-eqb, eqb-true, event_create, false, false≢true, first_some, get_or, get_or-map, grows, has_default_rights, has_key, if◌then◌else◌, inl, inr, is_empty, is_ready, is_some, is_sorted, kind_of, length, length-map, list_any, lives, lt-ltb, map, map-append, may_boot, may_get, name_of, narrowed, nat_cmp, nat_le, nat_lt, nat_tests, ne_eqb, next_for, none-some, not, option_map, option_or, or_left, or_right, origin, position, process_exit, process_settled, process_with, process_without, queue_of, refl, replicate, rights_of, rules, runs, same_Some, set, signal, site, slice_get, slice_get-get_or, slice_set, state_passes, subst, suc, sum_by, sum_by-cons, sym, table_of, take, take_all, take_more, taken, then_some, true, with_effect, with_rights, within, zero, ℕ, ℤ, ⊤, ◌&&◌, ◌*◌, ◌++◌, ◌+◌, ◌-◌, ◌<◌, ◌==◌, ◌^◌, ◌||◌, ◌∙◌, ◌∷◌, ◌≡◌, ◌≢◌, ◌≤◌, ◌⊎◌}
-unfoldable pub use Rattle.zl_code.proofs.Common.{boot_effect, boot_fault, call_parts, each, effect, ended, examined, fired, get, gives_ok, gives_refused, handle_operands, handles_to, has_koids, has_room, in_queue, in_table, insert_all, is_held, is_process, listed, local_effect, may_choose, new_handles, on_process, operand, put, remove_all, replied, row_named, row_of, site_of, taken_handles, update, wakes, where_key, with_object, without, without_others}
+pub use Rattle.zl_code.proofs.Common.{All, All-nil, AtCall, Blocked, Body, Bool, Boots, ChannelEnd, Cpu, Created, DUPLICATE, Ended, Err, EventBody, FirstFault, Gone, IfNone, IfSome, Image, IsSome, IsStuck, IsTrue, Koids, Library, List, MOST_ITEMS, Map, Moves, None, Object, Ok, OnOk, Option, PortBody, Process, ProcessBody, Program, Ready, Refused, Request, Result, Row, SIGNAL, STUCK, Settles, Site, Some, State, Step, Values, WantsMemory, [], and_from, and_parts, answer_if, any, ap, append-nil, arith, at_limit, at_statement, below_all, bit_and, bits, body_in, body_of, call_row, calls_at, cases_Bool, cases_lt, chan_write, close, cond, copy_of, count_by, cpu_answered, default_rights_of, dup, entry_at, eq-eqb, eqb-true, event_create, false, false≢true, first_some, get_or, get_or-map, grows, has_default_rights, has_key, if◌then◌else◌, inl, inr, is_empty, is_ready, is_some, is_sorted, kind_of, length, length-map, list_any, lives, lt-ltb, map, map-append, may_boot, may_get, narrowed, nat_cmp, nat_le, nat_lt, nat_tests, ne_eqb, next_for, none-some, not, option_map, option_or, or_left, or_right, origin, position, process_exit, process_settled, process_with, process_without, queue_of, refl, replicate, rights_of, rules, runs, same_Some, set, signal, site, slice_get, slice_get-get_or, slice_set, state_passes, subst, suc, sum_by, sum_by-cons, sym, table_of, take, take_all, take_more, taken, then_some, true, with_effect, with_rights, within, zero, ℕ, ℤ, ⊤, ◌&&◌, ◌*◌, ◌++◌, ◌+◌, ◌-◌, ◌<◌, ◌==◌, ◌^◌, ◌||◌, ◌∙◌, ◌∷◌, ◌≡◌, ◌≢◌, ◌≤◌, ◌⊎◌}
+unfoldable pub use Rattle.zl_code.proofs.Common.{boot_effect, boot_fault, each, effect, ended, examined, fired, get, gives_ok, gives_refused, handle_operands, handles_to, has_koids, has_room, in_queue, in_table, insert_all, is_held, is_process, listed, local_effect, may_choose, new_handles, on_process, operand, put, remove_all, replied, site_of, taken_handles, update, wakes, where_key, with_object, without, without_others}
 pub use Rattle.std.specs.List.{list_all, position_or_len}
 pub use Rattle.zl_calls.specs.Consistent.{AreNamed, IsConsistent, IsNamed}
 pub use Rattle.zl_calls.specs.Gives.{Gives, IsBare, allowed, if_default, process_given, rights_if}

@@ -1,5 +1,5 @@
 -- The call process_create: how it is refused, and what a process that is made leaves of the world and of the invariant.
-use Rattle.zl_calls.proofs.Common.{◌≡◌, ◌<◌, ◌+◌, ◌^◌, ◌==◌, ◌&&◌, ◌||◌, ◌⊎◌, ℕ, Bool, true, false, not, List, [], ◌∷◌, ◌++◌, map, map-append, length, refl, sym, ap, ◌∙◌, subst, cond, if◌then◌else◌, Option, Some, None, Ok, Err, inl, inr, IsTrue, arith, nat_le, eq-eqb, eqb-true, cases_Bool, false≢true, none-some, same_Some, is_some, option_or, then_some, first_some, slice_get, sum_by, sum_by-cons, count_by, Map, get, put, update, has_key, get-put, put_key, sorted_put, has_key-update, is_sorted-update, Created, lives, runs, state_passes, is_process, Library, Site, site, Inserts, IsTable, examined, has_room, has_koids, handles_to, table_of, answer_if, row_of, refusal, handle_operands, listed, may_choose, new_handles, insert_all, remove_all, taken_handles, effect, with_effect, with_object, on_process, process_with, gives_ok, Calls, Values, replied, taken, ProcessBody, bits, within, operand_of, by_look_up, operand, new_entry, body_of, koid_in, cpu_answered, Objects, new_object, with_new, Replies, has_room_in, is_kept, process_entry, process_value, object_entry, state_value, world_value, is_in_job, is_job_at, Agrees, AreNamed, All, All-nil, AreBlocked, IsConsistent, IsNamed, World}
+use Rattle.zl_calls.proofs.Common.{◌≡◌, ◌<◌, ◌+◌, ◌^◌, ◌==◌, ◌&&◌, ◌||◌, ◌⊎◌, ℕ, Bool, true, false, not, List, [], ◌∷◌, ◌++◌, map, map-append, length, refl, sym, ap, ◌∙◌, subst, cond, if◌then◌else◌, Option, Some, None, Ok, Err, inl, inr, IsTrue, arith, nat_le, eq-eqb, eqb-true, cases_Bool, false≢true, none-some, same_Some, is_some, option_or, then_some, first_some, slice_get, sum_by, sum_by-cons, count_by, Map, get, put, update, has_key, get-put, put_key, sorted_put, has_key-update, is_sorted-update, Created, lives, runs, state_passes, is_process, Library, Site, site, Inserts, IsTable, examined, has_room, has_koids, handles_to, table_of, answer_if, refusal, handle_operands, listed, may_choose, new_handles, insert_all, remove_all, taken_handles, effect, with_effect, with_object, on_process, process_with, gives_ok, Calls, Values, replied, taken, ProcessBody, bits, within, operand_of, by_look_up, operand, new_entry, body_of, koid_in, cpu_answered, Objects, new_object, with_new, Replies, has_room_in, is_kept, process_entry, process_value, object_entry, state_value, world_value, is_in_job, is_job_at, Agrees, AreNamed, All, All-nil, AreBlocked, IsConsistent, IsNamed, World}
 use Rattle.zl_code.proofs.Common.{Process as ProcessValue, State as StateValue, is_blocked}
 use Rattle.zl_code.specs.CallTable.{process_create}
 use Rattle.zl_code.specs.Image.{Program}
@@ -76,7 +76,7 @@ module _ (lib : Library) (before : List Process) (r : Objects) (lab_is : IsConsi
   by_create_tests true false false false = refl
 
   pub create_refused : (job program : ℕ) → AllNamed before r lab_is p → refusal lib old_world p (process_create job program) ≡ answers (create_refusal lib handles r job program)
-  unfolding refusal handle_operands row_of examined operand listed has_room has_koids
+  unfolding refusal handle_operands examined operand listed has_room has_koids
   create_refused job program named = rw (may_create old_world p condition.NewProcess) (by_entry (get handles job) refl)
     where
       g : Option Program
@@ -314,7 +314,7 @@ module _ (lib : Library) (before mid : List Process) (r : Objects) (lab_is : IsC
     koid_is = rw (table_is before mid p p2 write r, is_found (get p.table.entries job) (kind.Job ∷ []) MANAGE_PROCESS above is_above) refl
 
     create_ends : world_value after grown ≡ replied (with_effect lib w (taken w p.pid create_site) p.pid (process_create job program) (made ∷ [])) p.pid create_site status.Ok (made ∷ [])
-    unfolding taken_handles handle_operands row_of remove_all new_handles effect insert_all with_object replied on_process
+    unfolding taken_handles handle_operands remove_all new_handles effect insert_all with_object replied on_process
     create_ends = λ i. record w { processes = sym processes_seen i; objects = objects_seen i; next_koid = n + 1 }
       where
         objects_seen : map object_entry grown.objects ≡ put (map object_entry r.objects) n (record { body = ProcessBody (object_at w p.pid job); raised = 0 })
@@ -323,7 +323,7 @@ module _ (lib : Library) (before mid : List Process) (r : Objects) (lab_is : IsC
             ∙ ap (λ (k : ℕ). put (map object_entry r.objects) n (record { body = ProcessBody k; raised = 0 })) (sym koid_is)
 
     create_chosen : IsTrue (may_choose w (taken w p.pid create_site) p.pid (process_create job program) (made ∷ []))
-    unfolding taken_handles handle_operands row_of remove_all may_choose new_handles
+    unfolding taken_handles handle_operands remove_all may_choose new_handles
     create_chosen = rw (write.there, may_get_inserted p p2 (new_entry n kind.Process) made inserts) refl
 
     named_here : AllNamed before r lab_is p.pid

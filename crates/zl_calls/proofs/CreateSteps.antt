@@ -1,5 +1,5 @@
 -- The call process_create in the midst of all processes: from what it did to a step, up to where processes wake.
-use Rattle.zl_calls.proofs.Common.{◌≡◌, ◌<◌, ◌+◌, ◌^◌, ◌==◌, ◌&&◌, ℕ, zero, suc, Bool, true, false, not, List, [], ◌∷◌, ◌++◌, length, refl, sym, ap, ◌∙◌, subst, Some, None, Result, Ok, Err, IsTrue, arith, nat_le, nat_tests, IsActed, none-some, same_Some, is_some, option_or, then_some, get_or, slice_get, slice_set, set, position, Map, is_ready, Library, Site, site, Inserts, row_of, refusal, handle_operands, remove_all, taken_handles, gives_refused, AtCall, next_for, new_entry, cpu_answered, Objects, with_new, told_by, one_value, Replies, status_of, has_room_in, process_value, state_value, world_blocked, world_value, AreBlocked, IsConsistent, IsRefusedBy}
+use Rattle.zl_calls.proofs.Common.{◌≡◌, ◌<◌, ◌+◌, ◌^◌, ◌==◌, ◌&&◌, ℕ, zero, suc, Bool, true, false, not, List, [], ◌∷◌, ◌++◌, length, refl, sym, ap, ◌∙◌, subst, Some, None, Result, Ok, Err, IsTrue, arith, nat_le, nat_tests, IsActed, none-some, same_Some, is_some, option_or, then_some, get_or, slice_get, slice_set, set, position, Map, is_ready, Library, Site, site, Inserts, refusal, handle_operands, remove_all, taken_handles, gives_refused, AtCall, next_for, new_entry, cpu_answered, Objects, with_new, told_by, one_value, Replies, status_of, has_room_in, process_value, state_value, world_blocked, world_value, AreBlocked, IsConsistent, IsRefusedBy}
 use Rattle.zl_code.specs.Sound.{IsSound as IsSoundWorld}
 use Rattle.zl_code.specs.CallTable.{process_create}
 use Rattle.zl_code.specs.declared.history.CallName.{CallName}
@@ -109,7 +109,7 @@ module _ (lib : Library) (ps : List Process) (r : Objects) (whole : IsConsistent
     write_told = write_of lib ps r whole blocked are sound pid place p found read told refl
 
     refused_called : IsCalled lib ps after_it r r p.pid s (outcome.Answered answer)
-    unfolding row_of taken_handles handle_operands remove_all gives_refused
+    unfolding taken_handles handle_operands remove_all gives_refused
     refused_called = record {
       calls = refused_calls lib (world_value ps r) p.pid s true (create_refusal lib p.table.entries r job program) answer (world_value after_it r) (λ a. refl) refused_here refl refuses
           (same_world ps after_it p told write_told r r s answer [] refl refl refl);

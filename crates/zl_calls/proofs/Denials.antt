@@ -1,5 +1,5 @@
 -- What a verdict makes of a call for the definitions: it is answered, or its caller ends.
-use Rattle.zl_code.proofs.Common.{◌≡◌, ℕ, Bool, true, false, [], refl, sym, ap, ◌∙◌, Option, Some, None, none-some, true≢false, get, World, Library, Request, Site, chan_create, chan_read_etc, event_create, handle_operands, row_of, refusal, gives_refused, remove_all, taken_handles, replied, ended, Calls, Refused}
+use Rattle.zl_code.proofs.Common.{◌≡◌, ℕ, Bool, true, false, [], refl, sym, ap, ◌∙◌, Option, Some, None, none-some, true≢false, get, World, Library, Request, Site, chan_create, chan_read_etc, event_create, handle_operands, refusal, gives_refused, remove_all, taken_handles, replied, ended, Calls, Refused}
 use Rattle.zl_rights.specs.Common.{Map}
 use Rattle.zl_rights.specs.Numbers.{BY_POLICY}
 use Rattle.zl_rights.specs.declared.entry.Entry.{Entry}
@@ -53,7 +53,7 @@ denied_object entries objects p request is = by_job (job_in (get objects p)) is
 
 -- a call that makes an object takes no handle
 making_takes_none : (request : Request) (c : Condition) → condition_of request ≡ Some c → taken_handles request ≡ []
-unfolding row_of taken_handles handle_operands
+unfolding taken_handles handle_operands
 making_takes_none chan_create c is = refl
 making_takes_none event_create c is = refl
 making_takes_none port_create c is = refl

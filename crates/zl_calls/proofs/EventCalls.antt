@@ -1,5 +1,5 @@
 -- The call event_create, and those that change signals, signal and signal_peer, each from its table and objects to a step.
-use Rattle.zl_calls.proofs.Common.{◌≡◌, ◌+◌, ◌^◌, ℕ, Bool, true, false, not, ◌&&◌, ◌==◌, List, [], ◌∷◌, map, refl, sym, ap, ◌∙◌, cond, Option, Some, None, IsTrue, nat_le, if◌then◌else◌, arith, count_by, sum_by-cons, then_some, first_some, is_some, Map, get, has_key, Ready, EventBody, Library, Site, site, event_create, examined, has_room, has_koids, handles_to, table_of, answer_if, row_of, refusal, handle_operands, listed, may_choose, new_handles, insert_all, remove_all, taken_handles, effect, with_effect, with_object, gives_ok, gives_refused, AtCall, next_for, Values, replied, taken, Ok, Err, ⊤, option_or, bits, within, SIGNAL, kind_of, signal, body_of, body_in, operand_of, by_look_up, operand, any, cpu_answered, new_entry, on_object, object_changed, Objects, new_object, with_new, raised_changed, changing, IsAnswered, told_by, one_value, Replies, has_room_in, no_value, process_entry, process_value, object_entry, state_value, world_value, object_value, body_value, IsConsistent, IsNamed, koid_in, runs, settable_of, may_change, World}
+use Rattle.zl_calls.proofs.Common.{◌≡◌, ◌+◌, ◌^◌, ℕ, Bool, true, false, not, ◌&&◌, ◌==◌, List, [], ◌∷◌, map, refl, sym, ap, ◌∙◌, cond, Option, Some, None, IsTrue, nat_le, if◌then◌else◌, arith, count_by, sum_by-cons, then_some, first_some, is_some, Map, get, has_key, Ready, EventBody, Library, Site, site, event_create, examined, has_room, has_koids, handles_to, table_of, answer_if, refusal, handle_operands, listed, may_choose, new_handles, insert_all, remove_all, taken_handles, effect, with_effect, with_object, gives_ok, gives_refused, AtCall, next_for, Values, replied, taken, Ok, Err, ⊤, option_or, bits, within, SIGNAL, kind_of, signal, body_of, body_in, operand_of, by_look_up, operand, any, cpu_answered, new_entry, on_object, object_changed, Objects, new_object, with_new, raised_changed, changing, IsAnswered, told_by, one_value, Replies, has_room_in, no_value, process_entry, process_value, object_entry, state_value, world_value, object_value, body_value, IsConsistent, IsNamed, koid_in, runs, settable_of, may_change, World}
 use Rattle.zl_code.proofs.Common.{Object as ObjectValue}
 use Rattle.zl_code.specs.Common.{signal_peer}
 use Rattle.zl_code.specs.Tests.{peer_at as peer_named, peer_in as peer_seen}
@@ -32,7 +32,7 @@ use Rattle.zl_objects.proofs.Law.{get_seen, kept_all}
 -- ---- the answer of event_create
 
 event_refused : (lib : Library) (w : World) (p : ℕ) → refusal lib w p event_create ≡ answers (event_refusal (table_of w p) w.next_koid)
-unfolding refusal handle_operands row_of examined listed has_room has_koids
+unfolding refusal handle_operands examined listed has_room has_koids
 event_refused lib w p = rw (may_create w p condition.NewEvent) (by_test (has_room_in (table_of w p) && nat_le (w.next_koid + 1) (2 ^ 62)))
   where
     by_test : (b : Bool) → first_some (None ∷ None ∷ answer_if (not b) status.NoResources ∷ []) ≡ answers (then_some (not b) status.NoResources)
@@ -63,7 +63,7 @@ module _ (lib : Library) (w : World) (p : ℕ) where
 
   signal_refused : ((h : ℕ) (e : Entry) → get (table_of w p) h ≡ Some e → settable_of (body_of w e.koid) ≡ settable_at e.kind)
       → (h clear set : ℕ) → refusal lib w p (signal h clear set) ≡ answers (signal_refusal (table_of w p) h clear set)
-  unfolding refusal handle_operands row_of examined operand listed
+  unfolding refusal handle_operands examined operand listed
   signal_refused settable h clear set = by_entry (get (table_of w p) h) refl
     where
       by_entry : (o : Option Entry) → get (table_of w p) h ≡ o → signal_with clear set o ≡ answers (signal_refusal_of clear set o)
@@ -90,7 +90,7 @@ module _ (lib : Library) (before : List Process) (r : Objects) (lab : IsConsiste
 
   peer_signal_refused : (h clear set : ℕ) → ((e : Entry) → get handles h ≡ Some e → settable_of (body_of old_world e.koid) ≡ settable_at e.kind)
       → refusal lib old_world p (signal_peer h clear set) ≡ answers (peer_signal_refusal handles r.objects h clear set)
-  unfolding refusal handle_operands row_of examined operand listed
+  unfolding refusal handle_operands examined operand listed
   peer_signal_refused h clear set settable = by_end (get handles h) refl
     where
       may : ℕ → Bool
@@ -149,11 +149,11 @@ module _ (lib : Library) (before after : List Process) (r r2 : Objects) (p p2 : 
       create_rest = rw creates.objects (ap (λ (os : Map ObjectValue). record w { processes = map process_entry after; objects = os; next_koid = n + 1 }) (grown_seen r body.Event 1 lab.given_objects))
 
       create_chosen : IsTrue (may_choose w (taken w p.pid create_site) p.pid event_create (made ∷ []))
-      unfolding taken_handles handle_operands row_of remove_all may_choose new_handles
+      unfolding taken_handles handle_operands remove_all may_choose new_handles
       create_chosen = rw (write.there, may_get_inserted p p2 entry made creates.inserts) refl
 
       create_ends : world_value after r2 ≡ replied (with_effect lib w (taken w p.pid create_site) p.pid event_create (made ∷ [])) p.pid create_site status.Ok (made ∷ [])
-      unfolding taken_handles handle_operands row_of remove_all new_handles effect insert_all with_object
+      unfolding taken_handles handle_operands remove_all new_handles effect insert_all with_object
       create_ends = replied_inserted before after p p2 write r2 create_site made entry with_event refl create_rest creates.inserts replies
 
       -- ---- the invariant
@@ -180,7 +180,7 @@ module _ (lib : Library) (before after : List Process) (r r2 : Objects) (p p2 : 
     -- ---- the step
 
     pub event_create_done : state_value p.state ≡ Ready → (call : CallName) → next_for lib (process_value p) ≡ AtCall call create_site → (o : Outcome) → IsAnswered (told_by one_value) EventCreateDoes create_site p r o p2 r2 → IsDone lib before after r r2 p.pid call o
-    unfolding row_of taken_handles handle_operands remove_all gives_refused
+    unfolding taken_handles handle_operands remove_all gives_refused
     event_create_done ready call next o acts = answered_done lib before after r r2 p p2 lab write ready call create_site next one_value (CreatesEvent p.table r) true (event_refusal p.table.entries r.next_koid)
         create_refused refl refl (λ answer. refl) event_create_called o acts.answer acts.acts acts.replied acts.ends
 
@@ -233,18 +233,18 @@ module _ (lib : Library) (before after : List Process) (r r2 : Objects) (p p2 : 
     refused_signal = signal_refused lib w p.pid settable_here h clear set ∙ rw (table_is before after p p2 write r) refl
 
     signal_chosen : IsTrue (may_choose w (taken w p.pid signal_site) p.pid (signal h clear set) [])
-    unfolding may_choose new_handles remove_all taken_handles handle_operands row_of
+    unfolding may_choose new_handles remove_all taken_handles handle_operands
     signal_chosen = rw write.there refl
 
     signal_called : (done : ⊤) → SignalsObject p.table r h clear set p2.table r2 → Replies signal_site status.Ok [] p p2 → IsCalled lib before after r r2 p.pid signal_site (outcome.Answered status.Ok)
-    unfolding effect gives_ok new_handles insert_all remove_all taken_handles handle_operands row_of
+    unfolding effect gives_ok new_handles insert_all remove_all taken_handles handle_operands
     signal_called done signals replies = record {
       calls = (Values [], rw (refused_signal, signals.unrefused) (signal_chosen, refl, signal_ends signals.original.koid clear set signal_site signals.table signals.objects replies ∙ rw (table_is before after p p2 write r, signals.was) refl));
       keeps = signal_keeps signals.original.koid clear set signal_site signals.table signals.objects replies;
     }
 
     pub signal_done : state_value p.state ≡ Ready → (call : CallName) → next_for lib (process_value p) ≡ AtCall call signal_site → (o : Outcome) → IsAnswered (told_by no_value) (SignalDoes h clear set) signal_site p r o p2 r2 → IsDone lib before after r r2 p.pid call o
-    unfolding row_of taken_handles handle_operands remove_all gives_refused
+    unfolding taken_handles handle_operands remove_all gives_refused
     signal_done ready call next o acts = answered_done lib before after r r2 p p2 lab write ready call signal_site next no_value (λ _. SignalsObject p.table r h clear set) false (signal_refusal p.table.entries h clear set)
         refused_signal refl refl (λ answer. refl) signal_called o acts.answer acts.acts acts.replied acts.ends
 
@@ -255,14 +255,14 @@ module _ (lib : Library) (before after : List Process) (r r2 : Objects) (p p2 : 
     refused_peer = peer_signal_refused lib before r lab p.pid h clear set (settable_here h) ∙ rw (table_is before after p p2 write r) refl
 
     peer_chosen : IsTrue (may_choose w (taken w p.pid peer_site) p.pid (signal_peer h clear set) [])
-    unfolding may_choose new_handles remove_all taken_handles handle_operands row_of
+    unfolding may_choose new_handles remove_all taken_handles handle_operands
     peer_chosen = rw write.there refl
 
     peer_same : (signals : SignalsPeer p.table r h clear set p2.table r2) → peer_named w p.pid h ≡ signals.peer
     peer_same signals = rw (table_is before after p p2 write r, is_found (get p.table.entries h) (kind.Channel ∷ []) SIGNAL_PEER signals.end signals.is_end) (peer_is r lab.no_zero signals.end.koid signals.peer signals.is_peer)
 
     peer_called : (done : ⊤) → SignalsPeer p.table r h clear set p2.table r2 → Replies peer_site status.Ok [] p p2 → IsCalled lib before after r r2 p.pid peer_site (outcome.Answered status.Ok)
-    unfolding effect gives_ok new_handles insert_all remove_all taken_handles handle_operands row_of
+    unfolding effect gives_ok new_handles insert_all remove_all taken_handles handle_operands
     peer_called done signals replies = record {
       calls = (
         Values [],
@@ -277,6 +277,6 @@ module _ (lib : Library) (before after : List Process) (r r2 : Objects) (p p2 : 
     }
 
     pub signal_peer_done : state_value p.state ≡ Ready → (call : CallName) → next_for lib (process_value p) ≡ AtCall call peer_site → (o : Outcome) → IsAnswered (told_by no_value) (SignalPeerDoes h clear set) peer_site p r o p2 r2 → IsDone lib before after r r2 p.pid call o
-    unfolding row_of taken_handles handle_operands remove_all gives_refused
+    unfolding taken_handles handle_operands remove_all gives_refused
     signal_peer_done ready call next o acts = answered_done lib before after r r2 p p2 lab write ready call peer_site next no_value (λ _. SignalsPeer p.table r h clear set) false (peer_signal_refusal p.table.entries r.objects h clear set)
         refused_peer refl refl (λ answer. refl) peer_called o acts.answer acts.acts acts.replied acts.ends

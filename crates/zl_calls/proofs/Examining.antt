@@ -1,15 +1,17 @@
 -- What a policy is asked goes by the row of the call: its condition, and the faults of its handle operands from left to right.
-use Rattle.zl_code.proofs.Common.{Bool, Cpu, IfSome, List, Map, None, Ok, Err, Option, Result, Row, Site, Some, [], ap, arith, call_parts, consumes, contains}
-use Rattle.zl_code.proofs.Common.{flat_map, handle_operands, if◌then◌else◌, length, map, option_or, refl, row_of, seven, site_of, subst, sym, then_some, true}
-use Rattle.zl_code.proofs.Common.{false, ℕ, ◌++◌, ◌==◌, ◌||◌, ◌∙◌, ◌∷◌, ◌≡◌, ◌≤◌}
+use Rattle.zl_code.proofs.Common.{Bool, Cpu, IfSome, List, Map, None, Ok, Err, Option, Result, Row, Site, Some, [], ap, call_row, consumes, contains}
+use Rattle.zl_code.proofs.Common.{flat_map, get, handle_operands, if◌then◌else◌, map, option_or, refl, slice_index, site_of, subst, sym, then_some, true}
+use Rattle.zl_code.proofs.Common.{false, ℕ, ◌++◌, ◌==◌, ◌||◌, ◌∙◌, ◌∷◌, ◌≡◌}
+use Rattle.zl_code.proofs.Common.{arith, drop, get_or, length, zero, suc, ◌<◌}
 use Rattle.std.specs.Result.{result_err}
 use Rattle.std.proofs.Math.Bool.{or_comm}
 use Rattle.std.proofs.lemmas.List.Recursion.{or_push}
 use Rattle.zl_code.specs.Asked.{used}
 use Rattle.zl_code.specs.Local.{reg}
-use Rattle.zl_code.specs.Refusals.{condition_in, condition_of, operands_by}
+use Rattle.zl_code.specs.Refusals.{condition_of, operands_by}
 use Rattle.zl_code.specs.declared.instr.CallInstr.{CallInstr}
-use Rattle.zl_code.specs.declared.instr.CallInstr.TheVariants as call
+use Rattle.zl_code.specs.declared.history.CallName.{CallName}
+use Rattle.zl_code.specs.declared.history.CallName.TheVariants as name
 use Rattle.zl_rights.specs.LookUp.{looked_up}
 use Rattle.zl_rights.specs.Numbers.{TRANSFER, WRITE}
 use Rattle.zl_rights.specs.declared.entry.Entry.{Entry}
@@ -17,8 +19,14 @@ use Rattle.zl_rights.specs.declared.kind.Kind.TheVariants as kind
 use Rattle.zl_rights.specs.declared.policy.Condition.{Condition}
 use Rattle.zl_rights.specs.declared.status.Status.{Status}
 use Rattle.zl_rights.specs.declared.status.Status.TheVariants as status
-use Rattle.zl_calls.specs.FieldFaults.{fields_fault, last_fault}
-use Rattle.zl_calls.specs.Policed.{operands_fault}
+use Rattle.zl_code.specs.Instructions.{field_of}
+use Rattle.zl_code.specs.declared.layout.Field.{Field}
+use Rattle.zl_calls.specs.FieldFaults.{field_fault, fields_fault, last_fault}
+use Rattle.zl_objects.specs.Jobs.{action_of, job_at}
+use Rattle.zl_objects.specs.Objects.{job_in}
+use Rattle.zl_objects.specs.declared.object.Object.{Object}
+use Rattle.zl_calls.specs.Policed.{operands_fault, verdict_by, verdict_in, verdict_on}
+use Rattle.zl_calls.specs.declared.policy.Verdict.{Verdict}
 use Rattle.zl_calls.specs.calls.Channel.{fault_of, list_refusal}
 
 -- a site that may not be there
@@ -30,12 +38,6 @@ if_there false s P holds = tt
 pub same_fault : {A : Type 0} (answer : Result A Status) → fault_of answer ≡ result_err answer
 same_fault (Ok x) = refl
 same_fault (Err s) = refl
-
--- a call has at most seven registers
-pub few : (i : CallInstr) → length (call_parts i).registers ≤ length (seven (call_parts i).registers)
-unfolding call_parts
-few (call.Close a b) = omega arith
-few _ = omega arith
 
 module _ (entries : Map Entry) where
   -- each handle of a list, where the values that were seen are those before it
@@ -52,23 +54,42 @@ module _ (entries : Map Entry) where
           ap (λ b. (h == v) || b) (same v) ∙ or_comm (h == v) (contains before v)
           ∙ sym (or_push (λ xs. contains xs v) (λ y. y == v) refl (λ x xs. refl) before h)
 
+  -- one field more was examined, and its register has no fault
+  pub one_examined : (c : Cpu) (rs : List ℕ) (in_list : Option Status) (d : Field) (fs : List Field) (n k : ℕ) → k < length fs
+      → field_fault entries (field_of (get_or fs k d)) (reg c (slice_index rs n)) ≡ None
+      → fields_fault entries c (map field_of (drop k fs)) n rs in_list ≡ fields_fault entries c (map field_of (drop (suc k) fs)) (suc n) rs in_list
+  one_examined c rs in_list d [] n k within none = absurd (omega (arith, within))
+  one_examined c rs in_list d (g ∷ fs) n zero within none = rw none refl
+  one_examined c rs in_list d (g ∷ fs) n (suc k) within none = one_examined c rs in_list d fs n k (omega (arith, within)) none
+
   -- the first fault of a call of the row
-  abbrev pub row_fault : CallInstr → Cpu → Option Row → Option Status
-  row_fault i c None = None
-  row_fault i c (Some r) = fields_fault entries c r.fields (seven (call_parts i).registers) (last_fault entries c (call_parts i).last)
+  abbrev pub row_fault : Row → CallInstr → Cpu → Option Status
+  row_fault r i c = fields_fault entries c r.fields 0 i.registers (last_fault entries c r.ending i)
 
   -- this is true of the condition and the first fault of the site
   abbrev pub AtSite : (Option Condition → Option Status → Type 0) → Site → Type 0
   AtSite P s = P (condition_of s.request) (operands_fault entries [] (handle_operands s.request))
 
   -- what is true of those by the row of the call is true of those of its site
-  pub at_row : (i : CallInstr) (c : Cpu) (P : Option Condition → Option Status → Type 0)
-      → P (condition_in (row_of (call_parts i).opcode)) (row_fault i c (row_of (call_parts i).opcode)) → IfSome (site_of i c) (AtSite P)
-  unfolding site_of row_of call_parts handle_operands operands_fault
-  at_row (call.Close a b) c P holds = holds
-  at_row (call.ChanWrite a b d e hs) c P holds =
+  by_name : (n : CallName) (rs last : List ℕ) (c : Cpu) (P : Option Condition → Option Status → Type 0)
+      → (let i : CallInstr = record { name = n; registers = rs; last = last } in
+      P (call_row n).condition (row_fault (call_row n) i c) → IfSome (site_of i c) (AtSite P))
+  unfolding site_of handle_operands operands_fault
+  by_name name.Close rs last c P holds = holds
+  by_name name.ChanWrite rs last c P holds =
       if_there _ _ (AtSite P)
-      (subst (λ f. P None (option_or (result_err (looked_up entries (reg c b) (kind.Channel ∷ []) WRITE)) f))
-      (list_fault [] [] (map (reg c) (used hs.places)) (λ v. refl)) holds)
-  at_row (call.ChanReadEtc a b d e f g h imm) c P holds = if_there _ _ (AtSite P) holds
-  at_row _ c P holds = holds
+      (subst (λ f. P None (option_or (result_err (looked_up entries (reg c (slice_index rs 1)) (kind.Channel ∷ []) WRITE)) f))
+      (list_fault [] [] (map (reg c) (used last)) (λ v. refl)) holds)
+  by_name name.ChanReadEtc rs last c P holds = if_there _ _ (AtSite P) holds
+  by_name _ rs last c P holds = holds
+
+  at_row : (i : CallInstr) (c : Cpu) (P : Option Condition → Option Status → Type 0) → P (call_row i.name).condition (row_fault (call_row i.name) i c)
+      → IfSome (site_of i c) (AtSite P)
+  at_row i = by_name i.name i.registers i.last
+
+  -- what the policy of the process's job says by the row of a call, it says of its site
+  pub judged : (objects : Map Object) (pid job : ℕ) (i : CallInstr) (c : Cpu) (r : Row) (says : Option Verdict) (f : Option Status)
+      → Some job ≡ job_in (get objects pid) → r ≡ call_row i.name → f ≡ row_fault r i c
+      → says ≡ verdict_by (action_of (job_at objects job)) f r.condition → IfSome (site_of i c) (λ s. says ≡ verdict_on entries objects pid s.request)
+  judged objects pid job i c r says f is row fault same =
+      at_row i c (λ made f. says ≡ verdict_in objects (job_in (get objects pid)) f made) (rw (← is, ← row, ← fault) same)

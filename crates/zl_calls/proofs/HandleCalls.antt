@@ -1,5 +1,5 @@
 -- The calls on handles, close, dup and replace, each from its table and objects to a step.
-use Rattle.zl_calls.proofs.Common.{◌≡◌, ◌+◌, ℕ, Bool, true, false, ◌==◌, List, [], ◌∷◌, refl, sym, ap, ◌∙◌, subst, cond, Option, Some, None, inl, inr, ◌⊎◌, IsTrue, arith, eq-eqb, bit_and, ◌||◌, if◌then◌else◌, is_some, count_by, sum_by-cons, cases_Bool, false≢true, none-some, same_Some, first_some, bits, within, Map, get, has_key, without, Ready, Library, Site, site, close, table_of, operand_of, operand, examined, any, row_of, refusal, handle_operands, listed, on_process, process_without, may_choose, new_handles, remove_all, taken_handles, insert_all, effect, gives_ok, gives_refused, AtCall, next_for, Calls, Values, Refused, replied, taken, cpu_answered, ◌^◌, not, map, Ok, Err, nat_le, nat_lt, eqb-true, or_left, nat_tests, then_some, option_or, narrowed, default_rights_of, DUPLICATE, is_empty, dup, by_look_up, has_room, handles_to, entry_at, copy_of, with_rights, answer_if, with_effect, get-update, Handles, IsTable, get-without, sorted_without, length-without, Objects, Releases, has_place, held_once_more, holding, IsAnswered, told_by, no_value, Replies, status_of, one_value, has_room_in, process_value, state_value, world_value, process_entry, object_value, IsConsistent, IsNamed, koid_in, World, and_le_r, put, update, is_sorted, nat_cmp, sorted_put, get-put, option_map, is_sorted-update, has_key-update, process_with}
+use Rattle.zl_calls.proofs.Common.{◌≡◌, ◌+◌, ℕ, Bool, true, false, ◌==◌, List, [], ◌∷◌, refl, sym, ap, ◌∙◌, subst, cond, Option, Some, None, inl, inr, ◌⊎◌, IsTrue, arith, eq-eqb, bit_and, ◌||◌, if◌then◌else◌, is_some, count_by, sum_by-cons, cases_Bool, false≢true, none-some, same_Some, first_some, bits, within, Map, get, has_key, without, Ready, Library, Site, site, close, table_of, operand_of, operand, examined, any, refusal, handle_operands, listed, on_process, process_without, may_choose, new_handles, remove_all, taken_handles, insert_all, effect, gives_ok, gives_refused, AtCall, next_for, Calls, Values, Refused, replied, taken, cpu_answered, ◌^◌, not, map, Ok, Err, nat_le, nat_lt, eqb-true, or_left, nat_tests, then_some, option_or, narrowed, default_rights_of, DUPLICATE, is_empty, dup, by_look_up, has_room, handles_to, entry_at, copy_of, with_rights, answer_if, with_effect, get-update, Handles, IsTable, get-without, sorted_without, length-without, Objects, Releases, has_place, held_once_more, holding, IsAnswered, told_by, no_value, Replies, status_of, one_value, has_room_in, process_value, state_value, world_value, process_entry, object_value, IsConsistent, IsNamed, koid_in, World, and_le_r, put, update, is_sorted, nat_cmp, sorted_put, get-put, option_map, is_sorted-update, has_key-update, process_with}
 use Rattle.zl_code.proofs.Common.{Object as ObjectValue, Process as ProcessValue, on_process, replace}
 use Rattle.zl_rights.specs.declared.status.Status.{Status}
 use Rattle.zl_rights.specs.declared.status.Status.TheVariants as status
@@ -35,7 +35,7 @@ no_bits n = eq-eqb (bit_and n 0) 0 (omega (arith, and_le_r n 0))
 
 module _ (lib : Library) (w : World) (p : ℕ) where
   close_refused : (h : ℕ) → refusal lib w p (close h) ≡ (if has_key (table_of w p) h || h == 0 then None else Some (outcome.Answered status.BadHandle))
-  unfolding refusal handle_operands row_of examined operand listed
+  unfolding refusal handle_operands examined operand listed
   close_refused h = by_entry (h == 0) (get (table_of w p) h)
     where
       by_entry : (zero : Bool) (o : Option Entry) → first_some (first_some ((if zero then None else operand_of w p any 0 o) ∷ None ∷ []) ∷ None ∷ []) ≡ (if is_some o || zero then None else Some (outcome.Answered status.BadHandle))
@@ -66,7 +66,7 @@ module _ (lib : Library) (w : World) (p : ℕ) (objects : Map Object) where
   -- where the counts of objects that handles of p name are those of the world
   dup_refused : ((h : ℕ) (e : Entry) → get (table_of w p) h ≡ Some e → has_place (get objects e.koid) ≡ not (nat_le (2 ^ 62) (handles_to w e.koid)))
       → (h asked : ℕ) → refusal lib w p (dup h asked) ≡ answers (dup_refusal (table_of w p) objects h asked)
-  unfolding refusal handle_operands row_of examined operand listed has_room
+  unfolding refusal handle_operands examined operand listed has_room
   dup_refused counts h asked = by_entry (get (table_of w p) h) refl
     where
       by_entry : (o : Option Entry) → get (table_of w p) h ≡ o → dup_with asked o ≡ answers (dup_refusal_of (table_of w p) objects asked o)
@@ -77,7 +77,7 @@ module _ (lib : Library) (w : World) (p : ℕ) (objects : Map Object) where
 
 module _ (lib : Library) (w : World) (p : ℕ) where
   replace_refused : (h asked : ℕ) → refusal lib w p (replace h asked) ≡ answers (replace_refusal (table_of w p) h asked)
-  unfolding refusal handle_operands row_of examined operand listed
+  unfolding refusal handle_operands examined operand listed
   replace_refused h asked = by_entry (get (table_of w p) h)
     where
       by_rights : (b : Bool) → first_some (first_some (None ∷ None ∷ []) ∷ None ∷ answer_if b status.InvalidArgs ∷ []) ≡ answers (then_some b status.InvalidArgs)
@@ -132,11 +132,11 @@ module _ (lib : Library) (before after : List Process) (r r2 : Objects) (p p2 : 
         by_live false = refl
 
     close_ends : world_value after r ≡ replied (taken w p.pid close_site) p.pid close_site answer []
-    unfolding remove_all taken_handles handle_operands row_of on_process
+    unfolding remove_all taken_handles handle_operands on_process
     close_ends = replied_with before after p p2 write r close_site answer [] (process_without h) (on_process w p.pid (process_without h)) refl refl is
 
     close_chosen : IsTrue (may_choose w (taken w p.pid close_site) p.pid (close h) [])
-    unfolding may_choose new_handles remove_all taken_handles handle_operands row_of on_process
+    unfolding may_choose new_handles remove_all taken_handles handle_operands on_process
     close_chosen = rw (get-update w.processes p.pid (process_without h) p.pid, same p.pid, write.there) refl
       where
         same : (j : ℕ) → (j == j) ≡ true
@@ -251,11 +251,11 @@ module _ (lib : Library) (before after : List Process) (r r2 : Objects) (p p2 : 
       rest = rw dups.objects (ap (λ (os : Map ObjectValue). record w { processes = map process_entry after; objects = os }) (sym (update_unseen object_value r.objects k held_once_more object_held)))
 
       dup_chosen : IsTrue (may_choose w (taken w p.pid dup_site) p.pid (dup h asked) (made ∷ []))
-      unfolding taken_handles handle_operands row_of remove_all may_choose new_handles
+      unfolding taken_handles handle_operands remove_all may_choose new_handles
       dup_chosen = rw (copied, write.there, may_get_inserted p p2 copy made dups.inserts) refl
 
       dup_ends : world_value after r2 ≡ replied (with_effect lib w (taken w p.pid dup_site) p.pid (dup h asked) (made ∷ [])) p.pid dup_site status.Ok (made ∷ [])
-      unfolding taken_handles handle_operands row_of remove_all new_handles effect insert_all
+      unfolding taken_handles handle_operands remove_all new_handles effect insert_all
       dup_ends = rw copied (replied_inserted before after p p2 write r2 dup_site made copy w refl rest dups.inserts replies)
 
       -- ---- the invariant
@@ -297,7 +297,7 @@ module _ (lib : Library) (before after : List Process) (r r2 : Objects) (p p2 : 
     -- ---- the step
 
     pub dup_done : state_value p.state ≡ Ready → (call : CallName) → next_for lib (process_value p) ≡ AtCall call dup_site → (o : Outcome) → IsAnswered (told_by one_value) (DupDoes h asked) dup_site p r o p2 r2 → IsDone lib before after r r2 p.pid call o
-    unfolding row_of taken_handles handle_operands remove_all gives_refused
+    unfolding taken_handles handle_operands remove_all gives_refused
     dup_done ready call next o acts = answered_done lib before after r r2 p p2 lab write ready call dup_site next one_value (Dups p.table r h asked) true (dup_refusal p.table.entries r.objects h asked)
         refused refl refl (λ answer. refl) dup_called o acts.answer acts.acts acts.replied acts.ends
 
@@ -336,14 +336,14 @@ module _ (lib : Library) (before after : List Process) (r r2 : Objects) (p p2 : 
           entries_again = replaces.entries ∙ put_again p.table.entries h replaces.original narrower before_it.sorted replaces.was
 
       replace_chosen : IsTrue (may_choose w (taken w p.pid replace_site) p.pid (replace h asked) [])
-      unfolding may_choose remove_all taken_handles handle_operands row_of on_process
+      unfolding may_choose remove_all taken_handles handle_operands on_process
       replace_chosen = rw (get-update w.processes p.pid (process_without h) p.pid, same p.pid, write.there) refl
         where
           same : (j : ℕ) → (j == j) ≡ true
           same j = eq-eqb j j refl
 
       replace_ends : world_value after r2 ≡ replied (with_effect lib w (taken w p.pid replace_site) p.pid (replace h asked) []) p.pid replace_site status.Ok (h ∷ [])
-      unfolding taken_handles handle_operands row_of remove_all new_handles effect insert_all on_process
+      unfolding taken_handles handle_operands remove_all new_handles effect insert_all on_process
       replace_ends = rw is_copy (replied_with before after p p2 write r2 replace_site status.Ok (h ∷ []) replaced (on_process (taken w p.pid replace_site) p.pid (process_with h replacement))
           (update_twice (map process_entry before) p.pid (process_without h) (process_with h replacement)) same_rest is_replaced)
         where
@@ -392,6 +392,6 @@ module _ (lib : Library) (before after : List Process) (r r2 : Objects) (p p2 : 
     -- ---- the step
 
     pub replace_done : state_value p.state ≡ Ready → (call : CallName) → next_for lib (process_value p) ≡ AtCall call replace_site → (o : Outcome) → IsAnswered (told_by one_value) (ReplaceDoes p.pid h asked) replace_site p r o p2 r2 → IsDone lib before after r r2 p.pid call o
-    unfolding row_of taken_handles handle_operands gives_refused
+    unfolding taken_handles handle_operands gives_refused
     replace_done ready call next o acts = taking_done lib before after r r2 p p2 lab write ready call replace_site next (h ∷ []) refl one_value (Replaces p.pid p.table r h asked) false (replace_refusal p.table.entries h asked)
         replace_refused_here refl (λ answer. refl) replace_called o acts.answer acts.acts acts.replied acts.ends

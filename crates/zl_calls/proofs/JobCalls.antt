@@ -1,5 +1,5 @@
 -- The calls on jobs, job_create and job_set_policy, each from its table and objects to a step.
-use Rattle.zl_calls.proofs.Common.{◌≡◌, ◌+◌, ◌==◌, ◌^◌, ◌&&◌, ◌||◌, ℕ, Bool, true, false, not, List, [], ◌∷◌, map, refl, sym, ap, ◌∙◌, subst, cond, Option, Some, None, Result, Ok, Err, inl, inr, ⊤, IsTrue, nat_le, if◌then◌else◌, arith, count_by, sum_by-cons, cases_Bool, false≢true, then_some, first_some, option_or, is_some, Map, get, update, Ready, Library, Site, site, examined, has_room, has_koids, handles_to, table_of, answer_if, row_of, refusal, handle_operands, listed, may_choose, new_handles, insert_all, remove_all, taken_handles, effect, with_effect, with_object, gives_ok, gives_refused, AtCall, next_for, Values, replied, taken, All, All-nil, bits, within, kind_of, body_of, operand_of, by_look_up, operand, new_entry, on_object, on_process, process_with, runs, Objects, new_object, with_new, IsAnswered, told_by, one_value, no_value, Replies, has_room_in, process_entry, process_value, object_entry, object_value, body_value, queued_to, state_value, world_value, is_child, stays_alone, is_job_body, is_in_job, Agrees, AreNamed, IsConsistent, IsNamed, koid_in, World}
+use Rattle.zl_calls.proofs.Common.{◌≡◌, ◌+◌, ◌==◌, ◌^◌, ◌&&◌, ◌||◌, ℕ, Bool, true, false, not, List, [], ◌∷◌, map, refl, sym, ap, ◌∙◌, subst, cond, Option, Some, None, Result, Ok, Err, inl, inr, ⊤, IsTrue, nat_le, if◌then◌else◌, arith, count_by, sum_by-cons, cases_Bool, false≢true, then_some, first_some, option_or, is_some, Map, get, update, Ready, Library, Site, site, examined, has_room, has_koids, handles_to, table_of, answer_if, refusal, handle_operands, listed, may_choose, new_handles, insert_all, remove_all, taken_handles, effect, with_effect, with_object, gives_ok, gives_refused, AtCall, next_for, Values, replied, taken, All, All-nil, bits, within, kind_of, body_of, operand_of, by_look_up, operand, new_entry, on_object, on_process, process_with, runs, Objects, new_object, with_new, IsAnswered, told_by, one_value, no_value, Replies, has_room_in, process_entry, process_value, object_entry, object_value, body_value, queued_to, state_value, world_value, is_child, stays_alone, is_job_body, is_in_job, Agrees, AreNamed, IsConsistent, IsNamed, koid_in, World}
 use Rattle.zl_code.proofs.Common.{Object as ObjectValue, Body as BodyValue, JobBody}
 use Rattle.std.specs.Result.{result_err}
 use Rattle.zl_rights.specs.declared.kind.Kind.{Kind}
@@ -115,7 +115,7 @@ module _ (before : List Process) (r : Objects) (lab : IsConsistent before r) (p 
   by_job_tests j false false false = refl
 
   create_refused : (lib : Library) (j : ℕ) → AllNamed → refusal lib old_world p (job_create j) ≡ answers (job_refusal handles r j)
-  unfolding refusal handle_operands row_of examined operand listed has_room has_koids
+  unfolding refusal handle_operands examined operand listed has_room has_koids
   create_refused lib j named = by_entry (get handles j) refl
     where
       passes : (e : Entry) → IsJobAt r.objects e.koid → job_with None e.koid ≡ answers (job_refusal_of handles r (Ok e))
@@ -151,7 +151,7 @@ module _ (before : List Process) (r : Objects) (lab : IsConsistent before r) (p 
   by_policy_tests false false = refl
 
   set_refused : (lib : Library) (j mode condition action : ℕ) → AllNamed → refusal lib old_world p (job_set_policy j mode condition action) ≡ answers (policy_refusal handles r.objects j mode condition action)
-  unfolding refusal handle_operands row_of examined operand listed
+  unfolding refusal handle_operands examined operand listed
   set_refused lib j m c a named = by_entry (get handles j) refl
     where
       s : Option Setting
@@ -309,11 +309,11 @@ module _ (lib : Library) (before after : List Process) (r r2 : Objects) (p p2 : 
       create_rest = rw creates.objects (ap (λ (os : Map ObjectValue). record w { processes = map process_entry after; objects = os; next_koid = n + 1 }) (grown_seen r job 1 lab.given_objects))
 
       create_chosen : IsTrue (may_choose w (taken w p.pid create_site) p.pid (job_create j) (made ∷ []))
-      unfolding taken_handles handle_operands row_of remove_all may_choose new_handles
+      unfolding taken_handles handle_operands remove_all may_choose new_handles
       create_chosen = rw (write.there, may_get_inserted p p2 entry made creates.inserts) refl
 
       create_ends : world_value after r2 ≡ replied (with_effect lib w (taken w p.pid create_site) p.pid (job_create j) (made ∷ [])) p.pid create_site status.Ok (made ∷ [])
-      unfolding taken_handles handle_operands row_of remove_all new_handles effect insert_all with_object
+      unfolding taken_handles handle_operands remove_all new_handles effect insert_all with_object
       create_ends =
           replied_inserted before after p p2 write r2 create_site made entry with_job refl create_rest creates.inserts replies
           ∙ ap (λ (b : BodyValue). replied (on_process (with_object w b) p.pid (process_with made entry)) p.pid create_site status.Ok (made ∷ [])) body_is
@@ -358,7 +358,7 @@ module _ (lib : Library) (before after : List Process) (r r2 : Objects) (p p2 : 
     -- ---- the step
 
     pub job_create_done : state_value p.state ≡ Ready → (call : CallName) → next_for lib (process_value p) ≡ AtCall call create_site → (o : Outcome) → IsAnswered (told_by one_value) (JobCreateDoes j) create_site p r o p2 r2 → IsDone lib before after r r2 p.pid call o
-    unfolding row_of taken_handles handle_operands remove_all gives_refused
+    unfolding taken_handles handle_operands remove_all gives_refused
     job_create_done ready call next o acts = answered_done lib before after r r2 p p2 lab write ready call create_site next one_value (CreatesJob p.table r j) true (job_refusal p.table.entries r j)
         refused_create refl refl (λ answer. refl) create_called o acts.answer acts.acts acts.replied acts.ends
 
@@ -372,7 +372,7 @@ module _ (lib : Library) (before after : List Process) (r r2 : Objects) (p p2 : 
     refused_set = set_refused before r lab p.pid lib j mode condition action named_here ∙ rw (table_is before after p p2 write r) refl
 
     set_chosen : IsTrue (may_choose w (taken w p.pid set_site) p.pid (job_set_policy j mode condition action) [])
-    unfolding may_choose new_handles remove_all taken_handles handle_operands row_of
+    unfolding may_choose new_handles remove_all taken_handles handle_operands
     set_chosen = rw write.there refl
 
     module _ (sets : SetsPolicy p.table r j mode condition action p2.table r2) (replies : Replies set_site status.Ok [] p p2) where
@@ -403,7 +403,7 @@ module _ (lib : Library) (before after : List Process) (r r2 : Objects) (p p2 : 
       set_next = rebodied_next (with_policy_body c a) (policy_keeps c a) before after r lab job_koid (λ o at. policy_named c a r job_koid o.body (lab.queued job_koid o at)) set_counts
 
       set_called : IsCalled lib before after r r2 p.pid set_site (outcome.Answered status.Ok)
-      unfolding effect gives_ok new_handles insert_all remove_all taken_handles handle_operands row_of
+      unfolding effect gives_ok new_handles insert_all remove_all taken_handles handle_operands
       set_called = record {
         calls = (
           Values [],
@@ -417,6 +417,6 @@ module _ (lib : Library) (before after : List Process) (r r2 : Objects) (p p2 : 
       }
 
     pub job_set_policy_done : state_value p.state ≡ Ready → (call : CallName) → next_for lib (process_value p) ≡ AtCall call set_site → (o : Outcome) → IsAnswered (told_by no_value) (JobSetPolicyDoes j mode condition action) set_site p r o p2 r2 → IsDone lib before after r r2 p.pid call o
-    unfolding row_of taken_handles handle_operands remove_all gives_refused
+    unfolding taken_handles handle_operands remove_all gives_refused
     job_set_policy_done ready call next o acts = answered_done lib before after r r2 p p2 lab write ready call set_site next no_value (λ _. SetsPolicy p.table r j mode condition action) false (policy_refusal p.table.entries r.objects j mode condition action)
         refused_set refl refl (λ answer. refl) (λ done. set_called) o acts.answer acts.acts acts.replied acts.ends

@@ -1,5 +1,5 @@
 -- The call task_kill, from what it did among all processes to the relation of steps, up to where processes wake.
-use Rattle.zl_calls.proofs.Common.{◌≡◌, ◌<◌, ◌^◌, ℕ, ℤ, zero, suc, Bool, true, false, not, ◌&&◌, ◌==◌, List, [], ◌∷◌, map, refl, sym, ap, ◌∙◌, subst, Option, Some, None, Result, Ok, Err, inl, inr, ◌⊎◌, IsTrue, arith, option_map, Map, get, each, update, lives, state_passes, none-some, same_Some, slice_get, eq-eqb, false≢true, is_sorted, nat_cmp, nat_tests, object_entry, process_entry, process_value, state_value, Objects, World, world_value, world_blocked, Library, Site, AtCall, next_for, cpu_answered, first_some, replied, taken, AreBlocked, IsConsistent, Releases, Ready, if◌then◌else◌, cases_Bool, eqb-true, refusal, site, slice_set, handle_operands, row_of, examined, operand, listed, IsNamed, ◌+◌, table_of, may_choose, sum_by, count_by, get-update, is_sorted-update, new_handles, taken_handles, remove_all, insert_all, effect, gives_ok, ended, on_process, Values}
+use Rattle.zl_calls.proofs.Common.{◌≡◌, ◌<◌, ◌^◌, ℕ, ℤ, zero, suc, Bool, true, false, not, ◌&&◌, ◌==◌, List, [], ◌∷◌, map, refl, sym, ap, ◌∙◌, subst, Option, Some, None, Result, Ok, Err, inl, inr, ◌⊎◌, IsTrue, arith, option_map, Map, get, each, update, lives, state_passes, none-some, same_Some, slice_get, eq-eqb, false≢true, is_sorted, nat_cmp, nat_tests, object_entry, process_entry, process_value, state_value, Objects, World, world_value, world_blocked, Library, Site, AtCall, next_for, cpu_answered, first_some, replied, taken, AreBlocked, IsConsistent, Releases, Ready, if◌then◌else◌, cases_Bool, eqb-true, refusal, site, slice_set, handle_operands, examined, operand, listed, IsNamed, ◌+◌, table_of, may_choose, sum_by, count_by, get-update, is_sorted-update, new_handles, taken_handles, remove_all, insert_all, effect, gives_ok, ended, on_process, Values}
 use Rattle.std.specs.List.{filter}
 use Rattle.std.specs.Result.{result_err}
 use Rattle.zl_rights.specs.LookUp.{looked_up}
@@ -50,7 +50,7 @@ use Rattle.zl_calls.proofs.WriteCalls.{is_found}
 
 module _ (lib : Library) (w : World) (pid : ℕ) (entries : Map Entry) (table : table_of w pid ≡ entries) (task : ℕ) where
   pub kill_refused : refusal lib w pid (task_kill task) ≡ answers (kill_refusal entries task)
-  unfolding refusal handle_operands row_of examined operand listed
+  unfolding refusal handle_operands examined operand listed
   kill_refused = rw table ((λ i. first_some (first_some (look_up_answers w pid (looked_up entries task (kind.Process ∷ kind.Job ∷ []) DESTROY) i ∷ None ∷ []) ∷ None ∷ [])) ∙ by_result (looked_up entries task (kind.Process ∷ kind.Job ∷ []) DESTROY))
     where
       by_result : (x : Result Entry Status) → first_some (first_some (answers (result_err x) ∷ None ∷ []) ∷ None ∷ []) ≡ answers (result_err x)
@@ -328,7 +328,7 @@ module _ (lib : Library) (ps : List Process) (r : Objects) (whole : IsConsistent
         (same, same_Some (process_value c) (process_killed dies (process_value p)) (sym (subst (λ (k : ℕ). get (map process_entry l2.processes) k ≡ Some (process_value c)) same write.there) ∙ stands))
 
     kill_chosen : IsTrue (may_choose w (taken w p.pid kill_site) p.pid (task_kill task) [])
-    unfolding may_choose new_handles remove_all taken_handles handle_operands row_of
+    unfolding may_choose new_handles remove_all taken_handles handle_operands
     kill_chosen = rw there refl
 
     killed_ends : dies ≡ true → outcome.Ended KILLED ≡ ok_outcome w p.pid (task_kill task)
@@ -353,7 +353,7 @@ module _ (lib : Library) (ps : List Process) (r : Objects) (whole : IsConsistent
             subst (λ (y : ProcessValue). process_ended KILLED y ≡ y) became (rw ready refl)
 
     killed_calls : dies ≡ true → PolicedCalls lib w p.pid kill_site (outcome.Ended KILLED) (with_waiters (world_value l2.processes (killing r t)) r.waits r.waits_made l2.blocked)
-    unfolding effect gives_ok new_handles taken_handles handle_operands row_of remove_all insert_all
+    unfolding effect gives_ok new_handles taken_handles handle_operands remove_all insert_all
     killed_calls among = (Values [], rw passes (kill_chosen, killed_ends among, after_it ∙ (sym (ended_still among) ∙ rw (← killed_ends among, names_it) refl)))
 
     -- all has settled, though one goes on computing with another Cpu
@@ -433,7 +433,7 @@ module _ (lib : Library) (ps : List Process) (r : Objects) (whole : IsConsistent
       after_sorted = rw (written, is_sorted-update (map process_entry l2.processes) p.pid with_answer) (still_sorted ps r whole blocked sound t given l2 kills)
 
       answered_calls : PolicedCalls lib w p.pid kill_site (outcome.Answered status.Ok) (with_waiters (world_value after (killing r t)) r.waits r.waits_made l2.blocked)
-      unfolding effect gives_ok new_handles taken_handles handle_operands row_of remove_all insert_all replied on_process
+      unfolding effect gives_ok new_handles taken_handles handle_operands remove_all insert_all replied on_process
       answered_calls = (Values [], rw passes (kill_chosen, killed_lives apart, answered_world ∙ rw (← killed_lives apart, names_it) refl))
         where
           answered_world : ◌≡◌ {A = World} (with_waiters (world_value after (killing r t)) r.waits r.waits_made l2.blocked) (replied (with_killed w t) p.pid kill_site status.Ok [])

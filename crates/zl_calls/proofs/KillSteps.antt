@@ -1,5 +1,5 @@
 -- The call task_kill as a step: refused, done, or with the end of its caller.
-use Rattle.zl_calls.proofs.Common.{◌≡◌, ℕ, ℤ, true, false, ◌==◌, List, [], refl, sym, ap, ◌∙◌, subst, get_or, slice_get, slice_set, set, Some, Result, Ok, Err, position, is_ready, Library, Site, site, AtCall, next_for, Objects, process_value, state_value, world_blocked, world_value, AreBlocked, IsConsistent, IsRefusedBy, cpu_answered, row_of, handle_operands, remove_all, taken_handles, gives_refused, refusal, status_of, ⊤, Ready, slice_get-get_or}
+use Rattle.zl_calls.proofs.Common.{◌≡◌, ℕ, ℤ, true, false, ◌==◌, List, [], refl, sym, ap, ◌∙◌, subst, get_or, slice_get, slice_set, set, Some, Result, Ok, Err, position, is_ready, Library, Site, site, AtCall, next_for, Objects, process_value, state_value, world_blocked, world_value, AreBlocked, IsConsistent, IsRefusedBy, cpu_answered, handle_operands, remove_all, taken_handles, gives_refused, refusal, status_of, ⊤, Ready, slice_get-get_or}
 use Rattle.zl_rights.specs.declared.status.Status.{Status}
 use Rattle.zl_rights.specs.declared.status.Status.TheVariants as status
 use Rattle.zl_code.proofs.Common.{is_blocked}
@@ -78,7 +78,7 @@ module _ (lib : Library) (ps : List Process) (r : Objects) (whole : IsConsistent
     write_told = write_of lib ps r whole blocked are sound pid place p found read told refl
 
     refused_calls_so : PolicedCalls lib (world_blocked ps r blocked) p.pid s (outcome.Answered answer) (world_blocked after_it r blocked)
-    unfolding row_of taken_handles handle_operands remove_all gives_refused
+    unfolding taken_handles handle_operands remove_all gives_refused
     refused_calls_so =
         freely lib (world_blocked ps r blocked) p.pid s (outcome.Answered answer) (world_blocked after_it r blocked) free_there
         (refused_calls lib (world_blocked ps r blocked) p.pid s false (kill_refusal p.table.entries task) answer (world_blocked after_it r blocked) (λ a. refl)

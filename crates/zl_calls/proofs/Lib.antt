@@ -10,7 +10,6 @@ pub mod Taking
 pub mod Entered
 pub mod EnteredTables
 pub mod Told
-pub mod ActParts
 pub mod Places
 pub mod Beside
 pub mod Sifting

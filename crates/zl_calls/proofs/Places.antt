@@ -1,5 +1,7 @@
 -- Where a process stands in the list, and what stands next for it.
-use Rattle.zl_calls.proofs.Common.{◌≡◌, ◌<◌, ◌∙◌, ℕ, List, length, map, get_or, Option, Some, None, refl, sym, ap, slice_get, IfSome, IfNone, IsSome, IsTrue, false≢true, get, Cpu, Image, is_process, is_ready, Library, Program, Site, site_of, name_of, Moves, calls_at, next_for, process_entry, StandsNext, call_in, World}
+use Rattle.zl_calls.proofs.Common.{◌≡◌, ◌<◌, ◌∙◌, ℕ, List, length, map, get_or, Option, Some, None, refl, sym, ap, slice_get, IfSome, IfNone, IsSome, IsTrue}
+use Rattle.zl_calls.proofs.Common.{false≢true, get, Cpu, Image, is_process, is_ready, Library, Program, Site, site_of, Moves, calls_at, next_for, process_entry}
+use Rattle.zl_calls.proofs.Common.{StandsNext, call_in, World}
 use Rattle.std.specs.Prelude.{OnSome}
 use Rattle.zl_code.proofs.Common.{Process as ProcessValue}
 use Rattle.std.proofs.lemmas.Option.{slice_get-map, slice_get_read}
@@ -18,9 +20,9 @@ pid_at ps n p lt is = simp slice_get-map (rw (slice_get_read ps (length ps) n p 
 -- the process runs the program g
 module _ (lib : Library) (p : ProcessValue) (g : Program) (runs : slice_get lib p.program ≡ Some g) where
   -- a call that stands next in it stands next for the process
-  pub calls_next : (o : Option CallInstr) → IfSome o (StandsNext g.image p.cpu) → IfSome o (λ x. next_for lib p ≡ calls_at (name_of x) (site_of x p.cpu))
+  pub calls_next : (o : Option CallInstr) → IfSome o (StandsNext g.image p.cpu) → IfSome o (λ x. next_for lib p ≡ calls_at x.name (site_of x p.cpu))
   calls_next None stands = tt
-  calls_next (Some x) stands = rw runs (stands.next ∙ ap (calls_at (name_of x)) (sym stands.at_site))
+  calls_next (Some x) stands = rw runs (stands.next ∙ ap (calls_at x.name) (sym stands.at_site))
 
   pub no_call_next : {A : Type 0} (o : Option A) → IfNone o (call_in (next_at g.image p.cpu) ≡ None) → IfNone o (call_in (next_for lib p) ≡ None)
   no_call_next None none = rw runs none
@@ -40,10 +42,11 @@ has_site i c None stands = tt
 has_site i c (Some x) stands = rw stands.at_site refl
 
 -- a call that has a site and stands next is told by its name
-pub named_next : (lib : Library) (p : ProcessValue) (x : CallInstr) → next_for lib p ≡ calls_at (name_of x) (site_of x p.cpu) → IsSome (site_of x p.cpu) → Some (name_of x) ≡ call_in (next_for lib p)
+pub named_next : (lib : Library) (p : ProcessValue) (x : CallInstr) → next_for lib p ≡ calls_at x.name (site_of x p.cpu) → IsSome (site_of x p.cpu)
+    → Some x.name ≡ call_in (next_for lib p)
 named_next lib p x next there = by (site_of x p.cpu) there ∙ ap call_in (sym next)
   where
-    by : (s : Option Site) → IsSome s → Some (name_of x) ≡ call_in (calls_at (name_of x) s)
+    by : (s : Option Site) → IsSome s → Some x.name ≡ call_in (calls_at x.name s)
     by None there = absurd (false≢true there)
     by (Some s) there = refl
 

@@ -1,5 +1,5 @@
 -- The calls on ports, port_create, port_queue, port_poll and port_wait, each from its table and objects to a step.
-use Rattle.zl_calls.proofs.Common.{◌≡◌, ◌+◌, ◌^◌, ℕ, Bool, true, false, not, ◌&&◌, ◌==◌, List, [], ◌∷◌, map, refl, sym, ap, ◌∙◌, cond, Option, Some, None, Result, Ok, Err, operand_of, on_object, IsTrue, nat_le, arith, count_by, sum_by-cons, none-some, slice_get, then_some, first_some, same_Some, ◌++◌, is_empty, Map, get, Ready, PortBody, Library, Site, site, examined, has_room, has_koids, handles_to, table_of, answer_if, row_of, refusal, handle_operands, listed, may_choose, new_handles, insert_all, remove_all, taken_handles, effect, with_effect, with_object, gives_ok, gives_refused, AtCall, next_for, Values, replied, taken, ⊤, body_of, operand, new_entry, Objects, new_object, with_new, IsAnswered, told_by, no_value, one_value, Replies, has_room_in, process_entry, process_value, state_value, world_value, IsConsistent, IsNamed, runs, World}
+use Rattle.zl_calls.proofs.Common.{◌≡◌, ◌+◌, ◌^◌, ℕ, Bool, true, false, not, ◌&&◌, ◌==◌, List, [], ◌∷◌, map, refl, sym, ap, ◌∙◌, cond, Option, Some, None, Result, Ok, Err, operand_of, on_object, IsTrue, nat_le, arith, count_by, sum_by-cons, none-some, slice_get, then_some, first_some, same_Some, ◌++◌, is_empty, Map, get, Ready, PortBody, Library, Site, site, examined, has_room, has_koids, handles_to, table_of, answer_if, refusal, handle_operands, listed, may_choose, new_handles, insert_all, remove_all, taken_handles, effect, with_effect, with_object, gives_ok, gives_refused, AtCall, next_for, Values, replied, taken, ⊤, body_of, operand, new_entry, Objects, new_object, with_new, IsAnswered, told_by, no_value, one_value, Replies, has_room_in, process_entry, process_value, state_value, world_value, IsConsistent, IsNamed, runs, World}
 use Rattle.zl_code.proofs.Common.{Object as ObjectValue}
 use Rattle.std.specs.Prelude.{drop}
 use Rattle.zl_rights.specs.declared.kind.Kind.TheVariants as kind
@@ -32,7 +32,7 @@ use Rattle.zl_calls.proofs.Repacked.{packets_there, port_ends, port_kept, port_r
 -- ---- the answer of port_create
 
 create_refused : (lib : Library) (w : World) (p : ℕ) → refusal lib w p port_create ≡ answers (port_refusal (table_of w p) w.next_koid)
-unfolding refusal handle_operands row_of examined listed has_room has_koids
+unfolding refusal handle_operands examined listed has_room has_koids
 create_refused lib w p = rw (may_create w p condition.NewPort) (by_test (has_room_in (table_of w p) && nat_le (w.next_koid + 1) (2 ^ 62)))
   where
     by_test : (b : Bool) → first_some (None ∷ None ∷ answer_if (not b) status.NoResources ∷ []) ≡ answers (then_some (not b) status.NoResources)
@@ -46,16 +46,16 @@ module _ (lib : Library) (before : List Process) (r : Objects) (lab : IsConsiste
   old_world = world_value before r
 
   queue_refused : (port key value : ℕ) → refusal lib old_world p (port_queue port key value) ≡ answers (queue_refusal (table_of old_world p) r.objects port)
-  unfolding refusal handle_operands row_of examined operand listed
+  unfolding refusal handle_operands examined operand listed
   queue_refused port key value = port_refused before r lab p is_full status.ShouldWait WRITE (get (table_of old_world p) port)
 
   poll_refused : (port : ℕ) → refusal lib old_world p (port_poll port) ≡ answers (poll_refusal (table_of old_world p) r.objects port)
-  unfolding refusal handle_operands row_of examined operand listed
+  unfolding refusal handle_operands examined operand listed
   poll_refused port = port_refused before r lab p is_empty status.TimedOut READ (get (table_of old_world p) port)
 
   -- port_wait is refused as if no packets were too many or too few
   wait_refused : (port : ℕ) → refusal lib old_world p (port_wait port) ≡ answers (result_err (port_at (table_of old_world p) port READ))
-  unfolding refusal handle_operands row_of examined operand listed
+  unfolding refusal handle_operands examined operand listed
   wait_refused port =
       by_look_up_alone (operand_of old_world p (kind.Port ∷ []) READ (get (table_of old_world p) port))
       ∙ (port_refused before r lab p (λ packets. false) status.TimedOut READ (get (table_of old_world p) port) ∙ by_port (port_at (table_of old_world p) port READ))
@@ -102,11 +102,11 @@ module _ (lib : Library) (before after : List Process) (r r2 : Objects) (p p2 : 
       create_rest = rw creates.objects (ap (λ (os : Map ObjectValue). record w { processes = map process_entry after; objects = os; next_koid = n + 1 }) (grown_seen r new_port 1 lab.given_objects))
 
       create_chosen : IsTrue (may_choose w (taken w p.pid create_site) p.pid port_create (made ∷ []))
-      unfolding taken_handles handle_operands row_of remove_all may_choose new_handles
+      unfolding taken_handles handle_operands remove_all may_choose new_handles
       create_chosen = rw (write.there, may_get_inserted p p2 entry made creates.inserts) refl
 
       create_ends : world_value after r2 ≡ replied (with_effect lib w (taken w p.pid create_site) p.pid port_create (made ∷ [])) p.pid create_site status.Ok (made ∷ [])
-      unfolding taken_handles handle_operands row_of remove_all new_handles effect insert_all with_object
+      unfolding taken_handles handle_operands remove_all new_handles effect insert_all with_object
       create_ends = replied_inserted before after p p2 write r2 create_site made entry with_port_more refl create_rest creates.inserts replies
 
       -- ---- the invariant
@@ -133,7 +133,7 @@ module _ (lib : Library) (before after : List Process) (r r2 : Objects) (p p2 : 
     -- ---- the step
 
     pub port_create_done : state_value p.state ≡ Ready → (call : CallName) → next_for lib (process_value p) ≡ AtCall call create_site → (o : Outcome) → IsAnswered (told_by one_value) PortCreateDoes create_site p r o p2 r2 → IsDone lib before after r r2 p.pid call o
-    unfolding row_of taken_handles handle_operands remove_all gives_refused
+    unfolding taken_handles handle_operands remove_all gives_refused
     port_create_done ready call next o acts = answered_done lib before after r r2 p p2 lab write ready call create_site next one_value (CreatesPort p.table r) true (port_refusal p.table.entries r.next_koid)
         refused_create refl refl (λ answer. refl) create_called o acts.answer acts.acts acts.replied acts.ends
 
@@ -147,11 +147,11 @@ module _ (lib : Library) (before after : List Process) (r r2 : Objects) (p p2 : 
     refused_queue = queue_refused lib before r lab p.pid port key value ∙ rw (table_is before after p p2 write r) refl
 
     queue_chosen : IsTrue (may_choose w (taken w p.pid queue_site) p.pid (port_queue port key value) [])
-    unfolding may_choose new_handles remove_all taken_handles handle_operands row_of
+    unfolding may_choose new_handles remove_all taken_handles handle_operands
     queue_chosen = rw write.there refl
 
     queue_called : (done : ⊤) → QueuesPacket p.table r port key value p2.table r2 → Replies queue_site status.Ok [] p p2 → IsCalled lib before after r r2 p.pid queue_site (outcome.Answered status.Ok)
-    unfolding effect gives_ok new_handles insert_all remove_all taken_handles handle_operands row_of
+    unfolding effect gives_ok new_handles insert_all remove_all taken_handles handle_operands
     queue_called done queued replies =
         let there : get p.table.entries port ≡ Some queued.port = is_found (get p.table.entries port) (kind.Port ∷ []) WRITE queued.port queued.is_port in
         let more : (x : Port) → (with_packet x (user_packet key value)).packets ≡ x.packets ++ user_packet key value ∷ [] = λ x. refl in
@@ -161,7 +161,7 @@ module _ (lib : Library) (before after : List Process) (r r2 : Objects) (p p2 : 
         }
 
     pub port_queue_done : state_value p.state ≡ Ready → (call : CallName) → next_for lib (process_value p) ≡ AtCall call queue_site → (o : Outcome) → IsAnswered (told_by no_value) (PortQueueDoes port key value) queue_site p r o p2 r2 → IsDone lib before after r r2 p.pid call o
-    unfolding row_of taken_handles handle_operands remove_all gives_refused
+    unfolding taken_handles handle_operands remove_all gives_refused
     port_queue_done ready call next o acts = answered_done lib before after r r2 p p2 lab write ready call queue_site next no_value (λ _. QueuesPacket p.table r port key value) true (queue_refusal p.table.entries r.objects port)
         refused_queue refl refl (λ answer. refl) queue_called o acts.answer acts.acts acts.replied acts.ends
 
@@ -209,18 +209,18 @@ module _ (lib : Library) (before after : List Process) (r r2 : Objects) (p p2 : 
     refused_poll = poll_refused lib before r lab p.pid port ∙ rw (table_is before after p p2 write r) refl
 
     poll_chosen : IsTrue (may_choose w (taken w p.pid poll_site) p.pid (port_poll port) [])
-    unfolding may_choose new_handles remove_all taken_handles handle_operands row_of
+    unfolding may_choose new_handles remove_all taken_handles handle_operands
     poll_chosen = rw write.there refl
 
     poll_called : (packet : Packet) → TakesPacket p.table r port packet p2.table r2 → Replies poll_site status.Ok (packet_values packet) p p2 → IsCalled lib before after r r2 p.pid poll_site (outcome.Answered status.Ok)
-    unfolding effect gives_ok new_handles insert_all remove_all taken_handles handle_operands row_of
+    unfolding effect gives_ok new_handles insert_all remove_all taken_handles handle_operands
     poll_called packet takes_one replies = record {
       calls = (Values [], rw (refused_poll, takes_one.unrefused) (poll_chosen, refl, packet_ends port packet takes_one poll_site replies));
       keeps = packet_kept port packet takes_one poll_site replies;
     }
 
     pub port_poll_done : state_value p.state ≡ Ready → (call : CallName) → next_for lib (process_value p) ≡ AtCall call poll_site → (o : Outcome) → IsAnswered (told_by packet_values) (PortPollDoes port) poll_site p r o p2 r2 → IsDone lib before after r r2 p.pid call o
-    unfolding row_of taken_handles handle_operands remove_all gives_refused
+    unfolding taken_handles handle_operands remove_all gives_refused
     port_poll_done ready call next o acts = answered_done lib before after r r2 p p2 lab write ready call poll_site next packet_values (TakesPacket p.table r port) false (poll_refusal p.table.entries r.objects port)
         refused_poll refl refl (λ answer. refl) poll_called o acts.answer acts.acts acts.replied acts.ends
 
@@ -234,18 +234,18 @@ module _ (lib : Library) (before after : List Process) (r r2 : Objects) (p p2 : 
     refused_wait = wait_refused lib before r lab p.pid port ∙ rw (table_is before after p p2 write r) refl
 
     wait_chosen : IsTrue (may_choose w (taken w p.pid wait_site) p.pid (port_wait port) [])
-    unfolding may_choose new_handles remove_all taken_handles handle_operands row_of
+    unfolding may_choose new_handles remove_all taken_handles handle_operands
     wait_chosen = rw write.there refl
 
     wait_called : (packet : Packet) → TakesPacket p.table r port packet p2.table r2 → Replies wait_site status.Ok (packet_values packet) p p2 → IsCalled lib before after r r2 p.pid wait_site (outcome.Answered status.Ok)
-    unfolding effect gives_ok new_handles insert_all remove_all taken_handles handle_operands row_of
+    unfolding effect gives_ok new_handles insert_all remove_all taken_handles handle_operands
     wait_called packet takes_one replies = record {
       calls = (Values [], rw (refused_wait, takes_one.is_port, none_awaited port packet takes_one) (wait_chosen, refl, packet_ends port packet takes_one wait_site replies));
       keeps = packet_kept port packet takes_one wait_site replies;
     }
 
     pub port_wait_done : state_value p.state ≡ Ready → (call : CallName) → next_for lib (process_value p) ≡ AtCall call wait_site → (o : Outcome) → IsAnswered (told_by packet_values) (PortWaitDoes port) wait_site p r o p2 r2 → IsDone lib before after r r2 p.pid call o
-    unfolding row_of taken_handles handle_operands remove_all gives_refused
+    unfolding taken_handles handle_operands remove_all gives_refused
     port_wait_done ready call next o acts = answered_done lib before after r r2 p p2 lab write ready call wait_site next packet_values (TakesPacket p.table r port) false (result_err (port_at p.table.entries port READ))
         refused_wait refl refl (λ answer. refl) wait_called o acts.answer acts.acts acts.replied acts.ends
 

@@ -1,9 +1,8 @@
 -- The calls that reach other processes, from what they do to how they are answered.
 use Rattle.zl_calls.proofs.Common.{◌≡◌, ◌<◌, ◌++◌, ◌^◌, ℕ, ℤ, zero, suc, Bool, false, List, [], ◌∷◌, length, refl, sym, ap, ◌∙◌, subst, Option, Some, None, Result, Ok, Err, ⊤, true, false≢true, none-some, same_Some, is_ready, get_or, slice_get, slice_set, Library, Site, site, cpu_answered, Objects, no_value, one_value, status_of, told_by, values_of, state_value}
-use Rattle.std.proofs.lemmas.Option.{get_or_from_slice_get, slice_get_within}
+use Rattle.std.proofs.lemmas.Option.{slice_get_within}
 use Rattle.zl_rights.specs.declared.status.Status.{Status}
 use Rattle.zl_code.specs.CallTable.{process_create, process_start, task_kill}
-use Rattle.zl_code.specs.Local.{reg}
 use Rattle.zl_code.specs.declared.history.Outcome.{Outcome}
 use Rattle.zl_code.specs.declared.history.Outcome.TheVariants as outcome
 use Rattle.zl_interp.specs.Common.{register_set}
@@ -132,39 +131,3 @@ module _ (lib : Library) (ps ps1 : List Process) (r r1 : Objects) (blocked block
         by_state (state.AwaitsPacket port to) is ends told = kill_answered answer does o ends p2 told (ap has_ended is)
         by_state (state.Ended code) is ends told = kill_ended answer does code is o ends p2 told
         by_state state.Gone is ends told = kill_answered answer does o ends p2 told (ap has_ended is)
-
-  -- ---- by their registers
-
-  module _ (q : Process) (read_before : q ≡ get_or ps place q) where
-    reg_of : (value register : ℕ) → value ≡ reg q.cpu register → value ≡ reg caller.cpu register
-    reg_of value register is = is ∙ ap (λ (x : Process). reg x.cpu register) (read_before ∙ get_or_from_slice_get ps place caller q is_caller)
-
-    pub start_arm : (process_in handle_in word_in status_in process h word : ℕ) → process ≡ reg q.cpu process_in → h ≡ reg q.cpu handle_in → word ≡ reg q.cpu word_in
-        → (answer : Result ⊤ Status) → ProcessStartDoes lib place process h word caller (lab ps r blocked) answer (lab ps1 r1 blocked)
-        → (o : Outcome) → o ≡ outcome.Answered (status_of answer) → (p2 : Process) → p2 ≡ answered_in (record p { cpu = register_set p.cpu handle_in 0 }) (status_in ∷ []) no_value answer
-        → Reaches lib place caller (site (process_start (reg caller.cpu process_in) (reg caller.cpu handle_in) (reg caller.cpu word_in)) (handle_in ∷ []) (status_in ∷ [])) (lab ps r blocked) o (lab (slice_set ps1 place p2) r1 blocked)
-    start_arm process_in handle_in word_in status_in process h word is is_h is_word answer does o ends p2 told =
-        subst (λ (n : ℕ). Reaches lib place caller (site (process_start n (reg caller.cpu handle_in) (reg caller.cpu word_in)) (handle_in ∷ []) (status_in ∷ [])) (lab ps r blocked) o (lab (slice_set ps1 place p2) r1 blocked)) (reg_of process process_in is)
-        (subst (λ (n : ℕ). Reaches lib place caller (site (process_start process n (reg caller.cpu word_in)) (handle_in ∷ []) (status_in ∷ [])) (lab ps r blocked) o (lab (slice_set ps1 place p2) r1 blocked)) (reg_of h handle_in is_h)
-        (subst (λ (n : ℕ). Reaches lib place caller (site (process_start process h n) (handle_in ∷ []) (status_in ∷ [])) (lab ps r blocked) o (lab (slice_set ps1 place p2) r1 blocked)) (reg_of word word_in is_word)
-        (start_reaches process h word handle_in status_in answer does o ends p2 told)))
-
-    pub kill_arm : is_ready (state_value caller.state) ≡ true → (task_in status_in task : ℕ) → task ≡ reg q.cpu task_in
-        → (answer : Result ⊤ Status) → TaskKillDoes task caller (lab ps r blocked) answer (lab ps1 r1 blocked1)
-        → (o : Outcome) (p2 : Process) → EndsOrAnswers status_in answer p o p2
-        → Reaches lib place caller (site (task_kill (reg caller.cpu task_in)) [] (status_in ∷ [])) (lab ps r blocked) o (lab (slice_set ps1 place p2) r1 blocked1)
-    kill_arm ready task_in status_in task is answer does o p2 how =
-        subst (λ (n : ℕ). Reaches lib place caller (site (task_kill n) [] (status_in ∷ [])) (lab ps r blocked) o (lab (slice_set ps1 place p2) r1 blocked1)) (reg_of task task_in is)
-        (kill_reaches task status_in ready answer does o p2 how)
-
-    -- the value of the program is read again
-    module _ (q2 : Process) (read_again : q2 ≡ get_or ps place q2) where
-      pub create_arm : (job_in program_in status_in made_in job program : ℕ) → job ≡ reg q.cpu job_in → program ≡ reg q2.cpu program_in
-          → (answer : Result ℕ Status) → ProcessCreateDoes lib place job program caller (lab ps r blocked) answer (lab ps1 r1 blocked1)
-          → (o : Outcome) → o ≡ outcome.Answered (status_of answer) → (p2 : Process) → p2 ≡ answered_in p (status_in ∷ made_in ∷ []) one_value answer
-          → Reaches lib place caller (site (process_create (reg caller.cpu job_in) (reg caller.cpu program_in)) [] (status_in ∷ made_in ∷ [])) (lab ps r blocked) o (lab (slice_set ps1 place p2) r1 blocked1)
-      create_arm job_in program_in status_in made_in job program is is_program answer does o ends p2 told =
-          let program_is : program ≡ reg caller.cpu program_in = is_program ∙ ap (λ (x : Process). reg x.cpu program_in) (read_again ∙ get_or_from_slice_get ps place caller q2 is_caller) in
-          subst (λ (n : ℕ). Reaches lib place caller (site (process_create n (reg caller.cpu program_in)) [] (status_in ∷ made_in ∷ [])) (lab ps r blocked) o (lab (slice_set ps1 place p2) r1 blocked1)) (reg_of job job_in is)
-          (subst (λ (n : ℕ). Reaches lib place caller (site (process_create job n) [] (status_in ∷ made_in ∷ [])) (lab ps r blocked) o (lab (slice_set ps1 place p2) r1 blocked1)) program_is
-          (create_reaches job program status_in made_in answer does o ends p2 told))

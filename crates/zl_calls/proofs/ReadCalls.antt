@@ -1,5 +1,5 @@
 -- The call chan_read_etc, from its table and objects to a step.
-use Rattle.zl_calls.proofs.Common.{◌≡◌, ◌≤◌, ◌+◌, ℕ, Bool, true, false, not, ◌&&◌, ◌==◌, List, [], ◌∷◌, map, length, refl, sym, ap, ◌∙◌, subst, if◌then◌else◌, Option, Some, None, Result, Ok, Err, IsTrue, arith, nat_tests, is_empty, is_some, count_by, sum_by, sum_by-cons, none-some, All, All-nil, bits, within, Map, get, has_key, update, Ready, Library, Site, site, refusal, handle_operands, row_of, examined, operand, operand_of, by_look_up, listed, has_room, table_of, answer_if, first_some, may_choose, new_handles, insert_all, remove_all, taken_handles, effect, with_effect, gives_ok, gives_refused, on_object, on_process, AtCall, next_for, Refused, WantsMemory, Values, replied, taken, cpu_answered, process_with, process_with_all, slice_get, nat_le, option_map, Objects, IsAnswered, process_entry, process_value, object_entry, object_value, state_value, world_value, body_value, body_in, body_of, koid_in, handles_to, queued_to, IsConsistent, IsNamed, AreNamed, World}
+use Rattle.zl_calls.proofs.Common.{◌≡◌, ◌≤◌, ◌+◌, ℕ, Bool, true, false, not, ◌&&◌, ◌==◌, List, [], ◌∷◌, map, length, refl, sym, ap, ◌∙◌, subst, if◌then◌else◌, Option, Some, None, Result, Ok, Err, IsTrue, arith, nat_tests, is_empty, is_some, count_by, sum_by, sum_by-cons, none-some, All, All-nil, bits, within, Map, get, has_key, update, Ready, Library, Site, site, refusal, handle_operands, examined, operand, operand_of, by_look_up, listed, has_room, table_of, answer_if, first_some, may_choose, new_handles, insert_all, remove_all, taken_handles, effect, with_effect, gives_ok, gives_refused, on_object, on_process, AtCall, next_for, Refused, WantsMemory, Values, replied, taken, cpu_answered, process_with, process_with_all, slice_get, nat_le, option_map, Objects, IsAnswered, process_entry, process_value, object_entry, object_value, state_value, world_value, body_value, body_in, body_of, koid_in, handles_to, queued_to, IsConsistent, IsNamed, AreNamed, World}
 use Rattle.zl_code.proofs.Common.{Object as ObjectValue, Process as ProcessValue, All-head, All-tail, chan_read_etc}
 use Rattle.std.specs.Prelude.{drop}
 use Rattle.std.specs.Result.{result_err}
@@ -85,7 +85,7 @@ module _ (lib : Library) (before : List Process) (r : Objects) (lab : IsConsiste
       by_tests true true = refl
 
   read_refused : (c address room places : ℕ) → refusal lib old_world p (chan_read_etc c address room places) ≡ answers (why (front_at handles r.objects c room places))
-  unfolding refusal handle_operands row_of examined operand listed has_room
+  unfolding refusal handle_operands examined operand listed has_room
   read_refused c address room places = by_end (get handles c)
     where
       queue_of_end : ℕ → List Message
@@ -346,11 +346,11 @@ module _ (lib : Library) (before after : List Process) (r r2 : Objects) (p p2 : 
     is = ap process_value told ∙ ap (λ (q : ProcessValue). record q { cpu = cpu_answered read_site status.Ok values (with_stored stored q.cpu) }) (sym (all_given p.table p2.table m.handles vs (process_value p) reads.inserts))
 
     read_ends : world_value after r2 ≡ replied (with_effect lib w (taken w p.pid read_site) p.pid (chan_read_etc c address room places) vs) p.pid read_site status.Ok (gives_ok w p.pid (chan_read_etc c address room places) vs)
-    unfolding effect new_handles taken_handles handle_operands row_of remove_all gives_ok
+    unfolding effect new_handles taken_handles handle_operands remove_all gives_ok
     read_ends = rw (queue_same, koid_same) (replied_with before after p p2 write r2 read_site status.Ok values change middle so_far rest is)
 
     read_chosen : IsTrue (may_choose w (taken w p.pid read_site) p.pid (chan_read_etc c address room places) vs)
-    unfolding may_choose new_handles remove_all taken_handles handle_operands row_of
+    unfolding may_choose new_handles remove_all taken_handles handle_operands
     read_chosen = rw (queue_same, write.there) (all_chosen p.table p2.table m.handles vs (process_value p) reads.inserts)
 
     -- ---- the invariant
@@ -414,7 +414,7 @@ module _ (lib : Library) (before after : List Process) (r r2 : Objects) (p p2 : 
     Called f = IsTold read_site (told_read address (Err f)) p p2 → IsCalled lib before after r r2 p.pid read_site (outcome.Answered (told_read address (Err f)).status)
 
     wanting : (front : Front) → front_now ≡ Ok front → Called (fault.Refused status.NoMemory)
-    unfolding row_of taken_handles handle_operands remove_all gives_refused
+    unfolding taken_handles handle_operands remove_all gives_refused
     wanting front is told = record {
       calls = (WantsMemory, rw (refused, is) (refl, refl, told_world status.NoMemory [] told));
       keeps = kept (ap (λ (q : Process). q.state) told);
@@ -431,7 +431,7 @@ module _ (lib : Library) (before after : List Process) (r r2 : Objects) (p p2 : 
     nothing_told s is = each_refused (λ answer. gives_refused w p.pid (chan_read_etc c address room places) answer ≡ []) refl refl refl refl refl refl p.table.entries r.objects c room places s is
 
     by_known : (f : ReadFault) → front_now ≡ Err f → Called f
-    unfolding row_of taken_handles handle_operands remove_all gives_refused
+    unfolding taken_handles handle_operands remove_all gives_refused
     by_known (fault.TooSmall bytes handles) is told = record {
       calls = (Refused, rw (refused, is) (refl, told_world status.BufferTooSmall (bytes ∷ handles ∷ []) told ∙ ap (replied w p.pid read_site status.BufferTooSmall) (sym (sizes_same bytes handles is))));
       keeps = kept (ap (λ (q : Process). q.state) told);

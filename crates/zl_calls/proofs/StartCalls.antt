@@ -1,5 +1,5 @@
 -- The call process_start, from all processes and the objects to the relation of calls.
-use Rattle.zl_calls.proofs.Common.{◌≡◌, ◌<◌, ℕ, zero, suc, Bool, true, false, not, ◌==◌, List, [], ◌∷◌, map, refl, sym, ap, ◌∙◌, subst, Option, Some, None, Result, Ok, Err, inl, inr, IsTrue, arith, cases_Bool, eqb-true, eq-eqb, ne_eqb, option_map, then_some, option_or, if◌then◌else◌, first_some, answer_if, and_from, same_Some, none-some, nat_cmp, is_sorted, Map, get, has_key, update, without, slice_get, slice_set, is_process, state_passes, Library, Site, site, refusal, handle_operands, row_of, examined, operand, listed, may_choose, may_get, new_handles, insert_all, remove_all, taken_handles, effect, gives_ok, replied, taken, table_of, on_process, process_with, process_without, cpu_answered, Values, Calls, Ready, get-update, sorted_parts, Inserts, Objects, process_entry, process_value, object_entry, object_value, body_value, state_value, world_value, World}
+use Rattle.zl_calls.proofs.Common.{◌≡◌, ◌<◌, ℕ, zero, suc, Bool, true, false, not, ◌==◌, List, [], ◌∷◌, map, refl, sym, ap, ◌∙◌, subst, Option, Some, None, Result, Ok, Err, inl, inr, IsTrue, arith, cases_Bool, eqb-true, eq-eqb, ne_eqb, option_map, then_some, option_or, if◌then◌else◌, first_some, answer_if, and_from, same_Some, none-some, nat_cmp, is_sorted, Map, get, has_key, update, without, slice_get, slice_set, is_process, state_passes, Library, Site, site, refusal, handle_operands, examined, operand, listed, may_choose, may_get, new_handles, insert_all, remove_all, taken_handles, effect, gives_ok, replied, taken, table_of, on_process, process_with, process_without, cpu_answered, Values, Calls, Ready, get-update, sorted_parts, Inserts, Objects, process_entry, process_value, object_entry, object_value, body_value, state_value, world_value, World}
 use Rattle.zl_code.proofs.Common.{Process as ProcessValue}
 use Rattle.zl_table.proofs.MapEdits.{below_parts}
 use Rattle.zl_rights.proofs.Common.{below_all}
@@ -131,7 +131,7 @@ module _ (lib : Library) (ps : List Process) (r : Objects) (p : Process) (there 
   by_both one two (Err s) y is is_too = refl
 
   pub start_refused : refusal lib w p.pid (process_start process h word) ≡ answers (start_refusal lib ps p.table.entries process h)
-  unfolding refusal handle_operands row_of examined operand listed
+  unfolding refusal handle_operands examined operand listed
   start_refused =
       rw table_there
       (both_looked_up w p.pid (get p.table.entries process) (get p.table.entries h) (kind.Process ∷ []) [] WRITE TRANSFER (rest (get p.table.entries process) (get p.table.entries h))
@@ -152,7 +152,7 @@ module _ (lib : Library) (ps : List Process) (r : Objects) (p : Process) (there 
     given_there = is_found (get p.table.entries h) [] TRANSFER e is_given
 
     pub start_chosen : IsTrue (may_choose w (taken w p.pid start_site) p.pid (process_start process h word) (value ∷ []))
-    unfolding may_choose new_handles remove_all taken_handles handle_operands row_of on_process
+    unfolding may_choose new_handles remove_all taken_handles handle_operands on_process
     start_chosen =
         rw (table_there, named_there, given_there, get-update (map process_entry ps) p.pid (process_without h) named.koid, apart, child_there)
         (and_from (may_get (process_value child) value) true (may_get_inserted child begun e value inserts) refl)
@@ -210,6 +210,6 @@ module _ (lib : Library) (ps : List Process) (r : Objects) (p : Process) (there 
 
     pub start_calls : start_refusal lib ps p.table.entries process h ≡ None → (after : List Process) (k : ℕ) → map process_entry after ≡ update (update (map process_entry ps) named.koid child_after) p.pid caller_after
         → Calls lib w p.pid start_site (outcome.Answered status.Ok) (world_value after (starting r k))
-    unfolding effect gives_ok new_handles taken_handles handle_operands row_of
+    unfolding effect gives_ok new_handles taken_handles handle_operands
     start_calls unrefused after k written =
         (Values (value ∷ []), rw (start_refused, unrefused) (start_chosen, refl, rw (table_there, named_there, given_there) (start_ends after k written)))

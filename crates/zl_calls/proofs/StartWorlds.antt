@@ -1,5 +1,5 @@
 -- The call process_start in the midst of all processes: from what it did to a step, up to where processes wake.
-use Rattle.zl_calls.proofs.Common.{◌≡◌, ℕ, ◌==◌, true, List, [], ◌∷◌, get_or, refl, sym, ap, ◌∙◌, subst, Some, Result, Ok, Err, ⊤, false≢true, same_Some, position, slice_get, slice_set, set, get, is_ready, Library, Site, site, Calls, AtCall, next_for, Handles, Objects, cpu_answered, no_value, told_by, status_of, process_value, state_value, world_blocked, world_value, taken_handles, handle_operands, row_of, gives_refused, AreBlocked, IsActed, IsConsistent, IsNamed, IsRefusedBy, World}
+use Rattle.zl_calls.proofs.Common.{◌≡◌, ℕ, ◌==◌, true, List, [], ◌∷◌, get_or, refl, sym, ap, ◌∙◌, subst, Some, Result, Ok, Err, ⊤, false≢true, same_Some, position, slice_get, slice_set, set, get, is_ready, Library, Site, site, Calls, AtCall, next_for, Handles, Objects, cpu_answered, no_value, told_by, status_of, process_value, state_value, world_blocked, world_value, taken_handles, handle_operands, gives_refused, AreBlocked, IsActed, IsConsistent, IsNamed, IsRefusedBy, World}
 use Rattle.zl_code.proofs.StepsBeside.{next_looks}
 use Rattle.zl_code.specs.CallTable.{process_start}
 use Rattle.zl_code.specs.Sound.{IsSound as IsSoundWorld}
@@ -82,7 +82,7 @@ module _ (lib : Library) (ps : List Process) (r : Objects) (whole : IsConsistent
     write_told = write_of lib ps r whole blocked are sound pid place p found read told refl
 
     refused_done : IsDone lib ps after_it r r2 p.pid name (outcome.Answered answer)
-    unfolding taken_handles handle_operands row_of gives_refused
+    unfolding taken_handles handle_operands gives_refused
     refused_done =
         taking_done lib ps after_it r r2 p told whole write_told (ready lib ps r whole blocked are sound pid place p found read is_ready_there) name s next (h ∷ []) refl
         no_value (λ done t2 x. ⊥) true (start_refusal lib ps p.table.entries process h) (start_refused lib ps r p itself.there process h word) refl (λ a. refl)

@@ -1,5 +1,8 @@
 -- What the item of a step tells of the process: which call it did, that it ran, or that it was stuck.
-use Rattle.zl_calls.proofs.Common.{◌≡◌, ℕ, true, false, false≢true, List, ap, refl, sym, ◌∙◌, subst, Option, Some, None, IsTrue, IfSome, get, is_ready, is_process, state_passes, call_name, Library, Row, row_of, row_named, call_parts, Program, Site, site_of, name_of, Step, AtCall, IsStuck, Moves, calls_at, next_for, call_in, call_for, is_ready_in, StepsTo, TakesStep, Performs, takes_memory, map, wakes, Objects, IfNone, process_entry, world_blocked, DoesNext}
+use Rattle.zl_calls.proofs.Common.{◌≡◌, ℕ, true, false, false≢true, List, ap, refl, sym, ◌∙◌, subst, Option, Some, None, IsTrue, IfSome, get, is_ready}
+use Rattle.zl_calls.proofs.Common.{is_process, state_passes, Library, call_row, Program, Site, site_of, Step, AtCall, IsStuck, Moves, calls_at, next_for}
+use Rattle.zl_calls.proofs.Common.{call_in, call_for, is_ready_in, StepsTo, TakesStep, Performs, takes_memory, map, wakes, Objects, IfNone, process_entry}
+use Rattle.zl_calls.proofs.Common.{world_blocked, DoesNext}
 use Rattle.zl_code.proofs.Common.{Acts, Next, Cpu, World as WorldValue, Process as ProcessValue, next_at}
 use Rattle.zl_rights.specs.declared.status.Status.TheVariants as status
 use Rattle.zl_code.specs.declared.history.CallName.{CallName}
@@ -11,11 +14,10 @@ use Rattle.zl_code.specs.declared.instr.Instr.{Instr}
 use Rattle.zl_code.specs.declared.instr.Instr.TheVariants as instr
 use Rattle.zl_code.specs.declared.instr.CallInstr.{CallInstr}
 use Rattle.zl_code.specs.CallTable.{asks}
-use Rattle.zl_code.specs.Calls.{grows_in}
 use Rattle.zl_code.specs.Image.{instr_at}
 use Rattle.zl_code.specs.Local.{local_effect}
 use Rattle.zl_code.specs.Steps.{moves, next_of, next_in}
-use Rattle.zl_code.proofs.CallRows.{has, asks_or, asks_again, row_again}
+use Rattle.zl_code.proofs.CallRows.{asks_again}
 use Rattle.zl_code.proofs.Stepping.{wanting_step}
 use Rattle.std.specs.Prelude.{slice_get}
 use Rattle.zl_calls.specs.declared.process.Process.{Process}
@@ -55,48 +57,35 @@ module _ (lib : Library) (w w2 : WorldValue) (pid at : ℕ) where
   called name o (AtCall call s) (o2, is, calls) = cc
   called name o IsStuck (is, over) = cc
 
--- ---- the call that stands next, and its instruction
-
--- the call stands at an instruction
-record IsAt (c : Cpu) (name : CallName) (s : Site) : Type 0 where
-  call : CallInstr
-  named : name_of call ≡ name
-  sited : site_of call c ≡ Some s
+-- ---- the call that stands next has the name of its request
 
 module _ (c : Cpu) (name : CallName) (s : Site) where
-  stuck_apart : IsStuck ≡ AtCall name s → ⊥
-  stuck_apart e = cc
+  by_site : (i : CallInstr) (found : Option Site) → site_of i c ≡ found → calls_at i.name found ≡ AtCall name s → (asks s.request).0 ≡ name
+  by_site i None is e = cc
+  by_site i (Some t) is e = let again : (asks t.request).0 ≡ i.name = asks_again i c t is in cc
 
-  moves_apart : (to : Cpu) → Moves to ≡ AtCall name s → ⊥
-  moves_apart to e = cc
+  by_effect : (o : Option Cpu) → moves o ≡ AtCall name s → (asks s.request).0 ≡ name
+  by_effect None e = cc
+  by_effect (Some to) e = cc
 
-  by_site : (i : CallInstr) (found : Option Site) → site_of i c ≡ found → calls_at (name_of i) found ≡ AtCall name s → IsAt c name s
-  by_site i None is e = absurd (stuck_apart e)
-  by_site i (Some t) is e = let same : t ≡ s = cc in record { call = i; named = cc; sited = is ∙ ap (λ (x : Site). Some x) same }
-
-  by_effect : (o : Option Cpu) → moves o ≡ AtCall name s → IsAt c name s
-  by_effect None e = absurd (stuck_apart e)
-  by_effect (Some to) e = absurd (moves_apart to e)
-
-  by_instr : (o : Option Instr) → next_of o c ≡ AtCall name s → IsAt c name s
-  by_instr None e = absurd (stuck_apart e)
+  by_instr : (o : Option Instr) → next_of o c ≡ AtCall name s → (asks s.request).0 ≡ name
+  by_instr None e = cc
   by_instr (Some (instr.Local i)) e = by_effect (local_effect i c) e
   by_instr (Some (instr.Call i)) e = by_site i (site_of i c) refl e
-  by_instr (Some (instr.Unknown bytes)) e = absurd (stuck_apart e)
+  by_instr (Some (instr.Unknown bytes)) e = cc
 
-  by_program : (o : Option Program) → next_in o c ≡ AtCall name s → IsAt c name s
+  pub asked_next : (o : Option Program) → next_in o c ≡ AtCall name s → (asks s.request).0 ≡ name
   unfolding next_at
-  by_program None e = absurd (stuck_apart e)
-  by_program (Some g) e = by_instr (instr_at g.image c.counter) e
+  asked_next None e = cc
+  asked_next (Some g) e = by_instr (instr_at g.image c.counter) e
 
 -- memory is refused only to a call that takes it
-takes_where_wanting : (lib : Library) (w w2 : WorldValue) (pid : ℕ) (q : ProcessValue) (name : CallName) (s : Site) → get w.processes pid ≡ Some q → next_for lib q ≡ AtCall name s
+takes_where_wanting : (lib : Library) (w w2 : WorldValue) (pid : ℕ) (q : ProcessValue) (name : CallName) (s : Site) → get w.processes pid ≡ Some q
+    → next_for lib q ≡ AtCall name s
     → Step lib w pid (item.Call pid name (outcome.Answered status.NoMemory)) w2 → IsTrue (takes_memory name)
 takes_where_wanting lib w w2 pid q name s there next step =
-    let at : IsAt q.cpu name s = by_program q.cpu name s (slice_get lib q.program) next in
-    let opcode : (asks s.request).0 ≡ (call_parts at.call).opcode = ap (λ (x : ℕ × List ℕ). x.0) (ap (asks_or (has at.call q.cpu)) (sym at.sited) ∙ asks_again at.call q.cpu) in
-    let row : row_of (asks s.request).0 ≡ row_named (call_name name) = ap row_of opcode ∙ (sym (row_again at.call) ∙ ap (λ (x : CallName). row_named (call_name x)) at.named) in
-    subst (λ (x : Option Row). IsTrue (grows_in x)) row (wanting_step lib w pid q name s w2 there next step)
+    subst (λ (x : CallName). IsTrue (call_row x).grows) (asked_next q.cpu name s (slice_get lib q.program) next)
+    (wanting_step lib w pid q name s w2 there next step)
 
 -- ---- a step from one lab to another
 
@@ -107,7 +96,8 @@ module _ (l l2 : World) (pid at : ℕ) where
   call_is : (name : CallName) (o : Outcome) → TakesStep l pid l2 (item.Call at name o) → call_for l pid ≡ Some name
   call_is name o takes =
       let step = takes.steps.step in
-      subst (λ (k : ℕ). call_for l k ≡ Some name) takes.pid_is (stands (item.Call at name o) step ∙ called l.programs l.world step.acted at at name o (next_for l.programs step.process) step.acts)
+      subst (λ (k : ℕ). call_for l k ≡ Some name) takes.pid_is
+      (stands (item.Call at name o) step ∙ called l.programs l.world step.acted at at name o (next_for l.programs step.process) step.acts)
 
   pub performs : (name : CallName) (o : Outcome) → TakesStep l pid l2 (item.Call at name o) → Performs l pid o l2
   performs name o takes = record {
@@ -119,27 +109,32 @@ module _ (l l2 : World) (pid at : ℕ) where
   pub runs_no_call : (n : ℕ) → TakesStep l pid l2 (item.Run at n) → call_for l pid ≡ None
   runs_no_call n takes =
       let step = takes.steps.step in
-      subst (λ (k : ℕ). call_for l k ≡ None) takes.pid_is (stands (item.Run at n) step ∙ ran_no_call l.programs l.world step.acted at at n (next_for l.programs step.process) step.acts)
+      subst (λ (k : ℕ). call_for l k ≡ None) takes.pid_is
+      (stands (item.Run at n) step ∙ ran_no_call l.programs l.world step.acted at at n (next_for l.programs step.process) step.acts)
 
   pub stuck_at_no_call : TakesStep l pid l2 (item.Stuck at) → call_for l pid ≡ None
   stuck_at_no_call takes =
       let step = takes.steps.step in
-      subst (λ (k : ℕ). call_for l k ≡ None) takes.pid_is (stands (item.Stuck at) step ∙ stuck_no_call l.programs l.world step.acted at at (next_for l.programs step.process) step.acts)
+      subst (λ (k : ℕ). call_for l k ≡ None) takes.pid_is
+      (stands (item.Stuck at) step ∙ stuck_no_call l.programs l.world step.acted at at (next_for l.programs step.process) step.acts)
 
   pub runs_one : (n : ℕ) → TakesStep l pid l2 (item.Run at n) → StepsTo l (item.Run pid 1) l2
   runs_one n takes =
       let step = takes.steps.step in
-      subst (λ (x : TraceItem). StepsTo l x l2) (ran_one l.programs l.world step.acted at at n (next_for l.programs step.process) step.acts ∙ ap (λ (k : ℕ). item.Run k 1) takes.pid_is) takes.steps
+      subst (λ (x : TraceItem). StepsTo l x l2)
+      (ran_one l.programs l.world step.acted at at n (next_for l.programs step.process) step.acts ∙ ap (λ (k : ℕ). item.Run k 1) takes.pid_is) takes.steps
 
   pub is_stuck : TakesStep l pid l2 (item.Stuck at) → StepsTo l (item.Stuck pid) l2
   is_stuck takes = subst (λ (x : TraceItem). StepsTo l x l2) (ap item.Stuck takes.pid_is) takes.steps
 
-  pub wants_memory : (name : CallName) (o : Outcome) → TakesStep l pid l2 (item.Call at name o) → o ≡ outcome.Answered status.NoMemory → IfSome (call_for l pid) (λ call. IsTrue (takes_memory call))
+  pub wants_memory : (name : CallName) (o : Outcome) → TakesStep l pid l2 (item.Call at name o) → o ≡ outcome.Answered status.NoMemory
+      → IfSome (call_for l pid) (λ call. IsTrue (takes_memory call))
   wants_memory name o takes wants =
       let step = subst (λ (x : Outcome). Step l.programs l.world at (item.Call at name x) l2.world) wants takes.steps.step in
       rw (call_is name o takes) (by_next step (next_for l.programs step.process) refl step.acts)
     where
-      by_next : (step : Step l.programs l.world at (item.Call at name (outcome.Answered status.NoMemory)) l2.world) (next : Next) → next_for l.programs step.process ≡ next
+      by_next : (step : Step l.programs l.world at (item.Call at name (outcome.Answered status.NoMemory)) l2.world) (next : Next)
+          → next_for l.programs step.process ≡ next
           → Acts l.programs l.world at next (item.Call at name (outcome.Answered status.NoMemory)) step.acted → IsTrue (takes_memory name)
       by_next step (Moves c) is (same, moved) = absurd (called_moves c same)
         where
@@ -165,14 +160,17 @@ abbrev pub lab_value : Library → List Process → Objects → List ℕ → Wor
 lab_value lib ps r blocked = record { programs = lib; world = world_blocked ps r blocked }
 
 module _ (lib : Library) (ps : List Process) (r : Objects) (blocked : List ℕ) (pid : ℕ) where
-  pub not_ready_in : {A : Type 0} (o : Option A) → state_passes is_ready (get (map process_entry ps) pid) ≡ false → IfNone o (is_ready_in (lab_value lib ps r blocked) pid ≡ false)
+  pub not_ready_in : {A : Type 0} (o : Option A) → state_passes is_ready (get (map process_entry ps) pid) ≡ false
+      → IfNone o (is_ready_in (lab_value lib ps r blocked) pid ≡ false)
   unfolding is_process
   not_ready_in None unready = unready
   not_ready_in (Some x) unready = tt
 
-  pub takes_step : (ps2 ps3 : List Process) (r2 left fires r3 : Objects) (blocked2 blocked3 : List ℕ) (x : TraceItem) → DoesNext lib (world_blocked ps r blocked) pid x (world_left ps2 r2 blocked2)
+  pub takes_step : (ps2 ps3 : List Process) (r2 left fires r3 : Objects) (blocked2 blocked3 : List ℕ) (x : TraceItem)
+      → DoesNext lib (world_blocked ps r blocked) pid x (world_left ps2 r2 blocked2)
       → EndsUnheld ps2 r2 left → FiresWaits ps2 left fires
-      → world_blocked ps3 r3 blocked3 ≡ fold woken (world_blocked ps2 fires blocked2) blocked2 → TakesStep (lab_value lib ps r blocked) pid (lab_value lib ps3 r3 blocked3) x
+      → world_blocked ps3 r3 blocked3 ≡ fold woken (world_blocked ps2 fires blocked2) blocked2
+      → TakesStep (lab_value lib ps r blocked) pid (lab_value lib ps3 r3 blocked3) x
   unfolding is_process wakes fired
   takes_step ps2 ps3 r2 left fires r3 blocked2 blocked3 x does unheld fired_so awake = record {
     pid_is = does.pid_is;
@@ -230,9 +228,11 @@ stepped_programs lib ps ps2 r r2 blocked blocked2 pid x takes all =
     step_programs lib (world_blocked ps r blocked) (pid_of x) x (world_blocked ps2 r2 blocked2) all takes.steps.step
 
 -- such a step leads from a sound world to a sound one
-pub stepped_sound : (lib : Library) (ps ps2 : List Process) (r r2 : Objects) (blocked blocked2 : List ℕ) (pid : ℕ) (x : TraceItem) → TakesStep (lab_value lib ps r blocked) pid (lab_value lib ps2 r2 blocked2) x
+pub stepped_sound : (lib : Library) (ps ps2 : List Process) (r r2 : Objects) (blocked blocked2 : List ℕ) (pid : ℕ) (x : TraceItem)
+    → TakesStep (lab_value lib ps r blocked) pid (lab_value lib ps2 r2 blocked2) x
     → IsSound (world_blocked ps r blocked) → IsSound (world_blocked ps2 r2 blocked2)
-stepped_sound lib ps ps2 r r2 blocked blocked2 pid x takes sound = step_sound lib (world_blocked ps r blocked) (pid_of x) x (world_blocked ps2 r2 blocked2) sound takes.steps.step
+stepped_sound lib ps ps2 r r2 blocked blocked2 pid x takes sound =
+    step_sound lib (world_blocked ps r blocked) (pid_of x) x (world_blocked ps2 r2 blocked2) sound takes.steps.step
 
 -- one that isn't ready is at no call
 pub unready_no_call : (l : World) (pid : ℕ) → is_ready_in l pid ≡ false → call_for l pid ≡ None

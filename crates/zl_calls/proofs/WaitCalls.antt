@@ -1,5 +1,5 @@
 -- The calls wait_one and wait_poll, from their table and objects to a step.
-use Rattle.zl_calls.proofs.Common.{◌≡◌, ℕ, Bool, true, false, not, List, [], ◌∷◌, refl, sym, ap, ◌∙◌, subst, if◌then◌else◌, Option, Some, None, Result, Ok, Err, IsTrue, none-some, same_Some, bits, within, Map, get, Ready, Library, Site, site, refusal, handle_operands, row_of, examined, operand, operand_of, by_look_up, any, listed, table_of, answer_if, first_some, may_choose, new_handles, insert_all, remove_all, taken_handles, effect, gives_ok, gives_refused, AtCall, next_for, Refused, Values, replied, taken, koid_in, Objects, IsAnswered, Replies, told_by, process_value, state_value, world_value, IsConsistent, World}
+use Rattle.zl_calls.proofs.Common.{◌≡◌, ℕ, Bool, true, false, not, List, [], ◌∷◌, refl, sym, ap, ◌∙◌, subst, if◌then◌else◌, Option, Some, None, Result, Ok, Err, IsTrue, none-some, same_Some, bits, within, Map, get, Ready, Library, Site, site, refusal, handle_operands, examined, operand, operand_of, by_look_up, any, listed, table_of, answer_if, first_some, may_choose, new_handles, insert_all, remove_all, taken_handles, effect, gives_ok, gives_refused, AtCall, next_for, Refused, Values, replied, taken, koid_in, Objects, IsAnswered, Replies, told_by, process_value, state_value, world_value, IsConsistent, World}
 use Rattle.zl_code.specs.Common.{wait_poll}
 use Rattle.zl_code.specs.CallTable.{awaited_by, wait_one}
 use Rattle.zl_code.specs.Tests.{object_at}
@@ -109,7 +109,7 @@ module _ (lib : Library) (before : List Process) (r : Objects) (lab : IsConsiste
       by_rights false = refl
 
   one_refused : (h mask : ℕ) → refusal lib old_world p (wait_one h mask) ≡ answers (result_err (watched_at handles r.objects h mask))
-  unfolding refusal handle_operands row_of examined operand listed
+  unfolding refusal handle_operands examined operand listed
   one_refused h mask = watch_refused (λ k. []) mask (get handles h) ∙ by_seen (watched_at handles r.objects h mask)
     where
       by_seen : (x : Result Watched Status) → behind (λ k. []) x ≡ answers (result_err x)
@@ -117,7 +117,7 @@ module _ (lib : Library) (before : List Process) (r : Objects) (lab : IsConsiste
       by_seen (Err s) = refl
 
   poll_refused : (h mask : ℕ) → refusal lib old_world p (wait_poll h mask) ≡ answers (why (polled_at handles r.objects h mask))
-  unfolding refusal handle_operands row_of examined operand listed
+  unfolding refusal handle_operands examined operand listed
   poll_refused h mask = watch_refused met mask (get handles h) ∙ by_seen (watched_at handles r.objects h mask) refl
     where
       met : Tests
@@ -194,7 +194,7 @@ module _ (lib : Library) (before after : List Process) (r r2 : Objects) (p p2 : 
   refused_one = one_refused lib before r lab p.pid h mask ∙ rw (table_is before after p p2 write r) refl
 
   one_chosen : IsTrue (may_choose w (taken w p.pid one_site) p.pid (wait_one h mask) [])
-  unfolding may_choose new_handles remove_all taken_handles handle_operands row_of
+  unfolding may_choose new_handles remove_all taken_handles handle_operands
   one_chosen = rw write.there refl
 
   module _ (x : Watched) (seen : watched_at p.table.entries r.objects h mask ≡ Ok x) where
@@ -216,7 +216,7 @@ module _ (lib : Library) (before after : List Process) (r r2 : Objects) (p p2 : 
     one_waits inactive = rw (sym met_so ∙ inactive, named) refl
 
     one_called : is_seen x ≡ true → p2.table ≡ p.table → r2 ≡ r → Replies one_site status.Ok (watched_values x) p p2 → IsCalled lib before after r r2 p.pid one_site (outcome.Answered status.Ok)
-    unfolding effect gives_ok gives_refused new_handles insert_all remove_all taken_handles handle_operands row_of
+    unfolding effect gives_ok gives_refused new_handles insert_all remove_all taken_handles handle_operands
     one_called is_met table objects replies = record {
       calls = (
         Values [],
@@ -231,7 +231,7 @@ module _ (lib : Library) (before after : List Process) (r r2 : Objects) (p p2 : 
     }
 
   pub one_done : state_value p.state ≡ Ready → (call : CallName) → next_for lib (process_value p) ≡ AtCall call one_site → (o : Outcome) → IsAnswered (told_by watched_values) (WaitOneDoes h mask) one_site p r o p2 r2 → IsDone lib before after r r2 p.pid call o
-  unfolding row_of taken_handles handle_operands remove_all gives_refused
+  unfolding taken_handles handle_operands remove_all gives_refused
   one_done ready call next o acts = answered_done lib before after r r2 p p2 lab write ready call one_site next watched_values (SeesActive p.table r h mask) false (result_err (watched_at p.table.entries r.objects h mask))
       refused_one refl refl (λ answer. refl) (λ x sees replies. one_called x sees.seen sees.active sees.table sees.objects replies) o acts.answer acts.acts acts.replied acts.ends
 
@@ -254,7 +254,7 @@ module _ (lib : Library) (before after : List Process) (r r2 : Objects) (p p2 : 
   nothing_told s is = each_refused p.table.entries r.objects h mask (λ (answer : Status). gives_refused w p.pid (wait_poll h mask) answer ≡ []) refl refl refl s is
 
   poll_chosen : IsTrue (may_choose w (taken w p.pid poll_site) p.pid (wait_poll h mask) [])
-  unfolding may_choose new_handles remove_all taken_handles handle_operands row_of
+  unfolding may_choose new_handles remove_all taken_handles handle_operands
   poll_chosen = rw write.there refl
 
   module _ (table : p2.table ≡ p.table) (objects : r2 ≡ r) where
@@ -262,7 +262,7 @@ module _ (lib : Library) (before after : List Process) (r r2 : Objects) (p p2 : 
     keeps same = subst (IsConsistent after) (sym objects) (refusal_keeps before after p p2 write r lab table same)
 
     by_polled : (answer : Result Signals PollFault) → polled ≡ answer → IsTold poll_site (told_polled answer) p p2 → IsCalled lib before after r r2 p.pid poll_site (outcome.Answered (polled_status answer))
-    unfolding effect gives_ok gives_refused new_handles insert_all remove_all taken_handles handle_operands row_of
+    unfolding effect gives_ok gives_refused new_handles insert_all remove_all taken_handles handle_operands
     by_polled (Ok seen) is replied_so = record {
       calls = (
         Values [],

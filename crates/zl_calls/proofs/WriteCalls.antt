@@ -1,5 +1,5 @@
 -- The call chan_write, from its table and objects to a step.
-use Rattle.zl_calls.proofs.Common.{◌≡◌, ◌<◌, ◌+◌, ℕ, Bool, true, false, not, ◌||◌, ◌==◌, List, [], ◌∷◌, ◌++◌, map, length, refl, sym, ap, ◌∙◌, subst, cond, if◌then◌else◌, Option, Some, None, Result, Ok, Err, inl, inr, ◌⊎◌, IsTrue, arith, eq-eqb, is_some, count_by, sum_by-cons, then_some, option_or, option_map, cases_Bool, false≢true, none-some, same_Some, All, All-nil, bits, within, Map, get, has_key, update, without, Ready, Library, Site, site, chan_write, refusal, handle_operands, row_of, examined, operand, operand_of, by_look_up, any, listed, table_of, answer_if, first_some, may_choose, new_handles, insert_all, remove_all, taken_handles, effect, with_effect, gives_ok, gives_refused, on_object, on_process, AtCall, next_for, Values, replied, taken, get-update, get-without, Handles, Objects, IsAnswered, told_by, no_value, Replies, process_entry, process_value, object_entry, object_value, state_value, world_value, body_value, body_in, body_of, koid_in, koids_of, handles_to, faults, IsConsistent, IsNamed, AreNamed, World}
+use Rattle.zl_calls.proofs.Common.{◌≡◌, ◌<◌, ◌+◌, ℕ, Bool, true, false, not, ◌||◌, ◌==◌, List, [], ◌∷◌, ◌++◌, map, length, refl, sym, ap, ◌∙◌, subst, cond, if◌then◌else◌, Option, Some, None, Result, Ok, Err, inl, inr, ◌⊎◌, IsTrue, arith, eq-eqb, is_some, count_by, sum_by-cons, then_some, option_or, option_map, cases_Bool, false≢true, none-some, same_Some, All, All-nil, bits, within, Map, get, has_key, update, without, Ready, Library, Site, site, chan_write, refusal, handle_operands, examined, operand, operand_of, by_look_up, any, listed, table_of, answer_if, first_some, may_choose, new_handles, insert_all, remove_all, taken_handles, effect, with_effect, gives_ok, gives_refused, on_object, on_process, AtCall, next_for, Values, replied, taken, get-update, get-without, Handles, Objects, IsAnswered, told_by, no_value, Replies, process_entry, process_value, object_entry, object_value, state_value, world_value, body_value, body_in, body_of, koid_in, koids_of, handles_to, faults, IsConsistent, IsNamed, AreNamed, World}
 use Rattle.zl_code.proofs.Common.{Object as ObjectValue, All-cons}
 use Rattle.std.proofs.lemmas.Bool.{or_parts}
 use Rattle.std.proofs.lemmas.List.Elements.{All-append}
@@ -155,7 +155,7 @@ module _ (lib : Library) (before : List Process) (r : Objects) (lab : IsConsiste
   refusal_with c bytes hs found = option_or (fault_of found) (option_or (list_refusal handles [] hs) (option_or (then_some (contains hs c) status.NotSupported) (option_or (then_some (is_too_large bytes hs) status.OutOfRange) (peer_refusal r.objects found))))
 
   write_refused : (c : ℕ) (bytes hs : List ℕ) → refusal lib old_world p (chan_write c bytes hs) ≡ answers (write_refusal handles r.objects c (length bytes) hs)
-  unfolding refusal handle_operands row_of examined operand listed
+  unfolding refusal handle_operands examined operand listed
   write_refused c bytes hs = by_end (get handles c)
     where
       passes : (e : Entry) → with_end c bytes hs None (has_key old_world.objects (peer_seen (body_of old_world e.koid))) ≡ answers (refusal_with c bytes hs (Ok e))
@@ -228,7 +228,7 @@ all_taken P (h ∷ hs) t each = by_entry (get t.entries h) refl (all_taken P hs 
 
 -- the handles of the list are those that the call takes
 takes_listed : (c : ℕ) (bytes hs : List ℕ) → taken_handles (chan_write c bytes hs) ≡ hs
-unfolding taken_handles handle_operands row_of
+unfolding taken_handles handle_operands
 takes_listed c bytes hs = of_list hs
   where
     of_list : (xs : List ℕ) → map (λ (o : Operand). o.value) (filter (λ (o : Operand). o.is_taken) (list_of xs)) ≡ xs
@@ -367,6 +367,6 @@ module _ (lib : Library) (before after : List Process) (r r2 : Objects) (p p2 : 
     }
 
   pub write_done : state_value p.state ≡ Ready → (call : CallName) → next_for lib (process_value p) ≡ AtCall call write_site → (o : Outcome) → IsAnswered (told_by no_value) (ChanWriteDoes c bytes hs) write_site p r o p2 r2 → IsDone lib before after r r2 p.pid call o
-  unfolding row_of gives_refused
+  unfolding gives_refused
   write_done ready call next o acts = taking_done lib before after r r2 p p2 lab write ready call write_site next hs (takes_listed c bytes hs) no_value (λ _. WritesMessage p.table r c bytes hs) true refused_by
       refused refl (λ answer. refl) (λ _. write_called) o acts.answer acts.acts acts.replied acts.ends

@@ -1,12 +1,13 @@
 -- The faults of handle operands by the row of a call, as its registers have them. No public clause cites this module.
-use Rattle.std.specs.Prelude.{ℕ, ◌==◌, List, [], ◌∷◌, map, Option, None, if◌then◌else◌}
+use Rattle.std.specs.Prelude.{ℕ, suc, ◌==◌, List, [], ◌∷◌, map, Option, None, if◌then◌else◌, slice_index}
 use Rattle.std.specs.Option.{option_or}
 use Rattle.std.specs.Result.{result_err}
 use Rattle.zl_code.specs.Common.{Cpu, Map}
 use Rattle.zl_code.specs.Asked.{listed_in}
 use Rattle.zl_code.specs.Instructions.{Field, names, consumes, closes}
 use Rattle.zl_code.specs.Local.{reg}
-use Rattle.zl_code.specs.Spells.{Last}
+use Rattle.zl_code.specs.declared.instr.CallInstr.{CallInstr}
+use Rattle.zl_code.specs.declared.layout.Ending.{Ending}
 use Rattle.zl_rights.specs.LookUp.{looked_up}
 use Rattle.zl_rights.specs.declared.entry.Entry.{Entry}
 use Rattle.zl_rights.specs.declared.status.Status.{Status}
@@ -19,13 +20,12 @@ field_fault entries (consumes kinds rights) value = result_err (looked_up entrie
 field_fault entries closes value = if value == 0 then None else result_err (looked_up entries value [] 0)
 field_fault entries _ value = None
 
--- the fault of the first of the registers that has one, by their fields; behind them comes the one of the list
-abbrev pub fields_fault : Map Entry → Cpu → List Field → (registers : List ℕ) → Option Status → Option Status
-fields_fault entries c [] rs in_list = in_list
-fields_fault entries c (f ∷ fs) [] in_list = in_list
-fields_fault entries c (f ∷ fs) (r ∷ rs) in_list =
-    option_or (field_fault entries f (reg c r)) (fields_fault entries c fs rs in_list)
+-- the fault of the first of the registers that has one, by their fields, of which the first is that of the n-th register; behind them comes that of the list
+abbrev pub fields_fault : Map Entry → Cpu → List Field → (n : ℕ) (registers : List ℕ) → Option Status → Option Status
+fields_fault entries c [] n rs in_list = in_list
+fields_fault entries c (f ∷ fs) n rs in_list =
+    option_or (field_fault entries f (reg c (slice_index rs n))) (fields_fault entries c fs (suc n) rs in_list)
 
--- the fault of the handles of a list, where the last eight bytes of the call have one
-abbrev pub last_fault : Map Entry → Cpu → Last → Option Status
-last_fault entries c last = list_refusal entries [] (map (reg c) (listed_in last))
+-- the fault of the handles of a list, where the call has one in its last eight bytes
+abbrev pub last_fault : Map Entry → Cpu → Ending → CallInstr → Option Status
+last_fault entries c ending i = list_refusal entries [] (map (reg c) (listed_in ending i))

@@ -1,6 +1,6 @@
 -- Any call of a process at its registers, in the midst of all processes: what its job's policy says, and the calls that reach others. No public clause cites this module.
 use Rattle.std.specs.Prelude.{ℕ, ℤ, ◌≡◌, Bool, true, false, Some, None, Ok, slice_get}
-use Rattle.zl_code.specs.Common.{Library, Request, Site, cpu_answered, name_of, site_of}
+use Rattle.zl_code.specs.Common.{Library, Request, Site, cpu_answered, site_of}
 use Rattle.zl_code.specs.CallTable.{process_create, process_start, task_kill}
 use Rattle.zl_code.specs.declared.history.CallName.{CallName}
 use Rattle.zl_code.specs.declared.history.Outcome.{Outcome}
@@ -80,7 +80,7 @@ pub data CallActs (lib : Library) (place : ℕ) (caller : Process) (s : Site) (l
 pub record CalledAmong (lib : Library) (place : ℕ) (caller : Process) (l : Lab) (name : CallName) (o : Outcome) (l2 : Lab) : Type 0 where
   pub call : CallInstr
   pub next : CallsNext lib caller call
-  pub named : name ≡ name_of call
+  pub named : name ≡ call.name
   pub site : Site
   pub at_site : site_of call caller.cpu ≡ Some site
   pub acts : CallActs lib place caller site l o l2

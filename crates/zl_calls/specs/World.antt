@@ -1,7 +1,7 @@
 -- What the definitions see of the world of this crate.
 use Rattle.std.specs.Prelude.{ℕ, ◌≡◌, ◌<◌, Bool, length, slice_get, List, [], ◌∷◌, map, Option, Some, None, if◌then◌else◌}
 use Rattle.std.specs.Option.{option_map}
-use Rattle.zl_code.specs.Common.{get, World as WorldValue, Process as ProcessValue, State as StateValue, Created, Ready, Blocked, Ended, Gone, is_ready, is_process, Library, name_of, site_of, Next, calls_at, next_for}
+use Rattle.zl_code.specs.Common.{get, World as WorldValue, Process as ProcessValue, State as StateValue, Created, Ready, Blocked, Ended, Gone, is_ready, is_process, Library, site_of, Next, calls_at, next_for}
 use Rattle.zl_code.specs.declared.history.CallName.{CallName}
 use Rattle.zl_code.specs.declared.history.ProcState.{ProcState}
 use Rattle.zl_code.specs.declared.history.ProcState.TheVariants as seen
@@ -91,7 +91,7 @@ stands_next lib p = next_for lib (process_value p)
 
 -- the call stands next for the process
 abbrev pub CallsNext : Library → Process → CallInstr → Type 0
-CallsNext lib p call = stands_next lib p ≡ calls_at (name_of call) (site_of call p.cpu)
+CallsNext lib p call = stands_next lib p ≡ calls_at call.name (site_of call p.cpu)
 
 -- the call at which the process that was looked up is; just a ready one is at a call
 abbrev pub call_of : Library → Option ProcessValue → Option CallName

@@ -2,7 +2,7 @@
 
 ghost use Rattle.std.specs.Prelude.{◌≡◌, ◌<◌, ◌≤◌, ◌^◌, length, vec_capacity};
 ghost use Rattle.zl_code.specs.Request.{site_of};
-ghost use Rattle.zl_code.specs.declared.instr.CallInstr.TheVariants as call;
+ghost use Rattle.zl_code.specs.declared.history.CallName.TheVariants as name;
 ghost use Rattle.zl_calls.specs.Acted.{Acted};
 ghost use Rattle.zl_calls.specs.Blocking.{then_blocked};
 
@@ -11,28 +11,25 @@ use crate::calls::wait::{PollFault, watch};
 use crate::packets::PacketRegisters;
 use crate::process::{Process, SignalRegisters, State};
 use bitflags::Flags;
-use zl_code::{Outcome, Register, TraceItem};
+use zl_code::{CallInstr, Outcome, TraceItem};
 use zl_objects::Objects;
 use zl_rights::{Kind, Pid, Rights};
 
-/// Does `wait_one` at these registers: it is answered with the active signals, if one of the mask is
+/// Does `wait_one` at its registers: it is answered with the active signals, if one of the mask is
 /// among them, and else the process blocks until one is.
 ///
 /// `BadHandle`, `AccessDenied` without the right to wait, `InvalidArgs` for a mask of more than 32
 /// bits. It takes no memory.
 /// Source: the page "zx_object_wait_one" of the Fuchsia documentation, without a deadline.
-#[tactic(auto, unfolding(zl_code::specs::Request::site_of, zl_code::specs::Instructions::row_of, zl_code::specs::Spells::call_parts))]
-pub fn wait_one(
-    process: &mut Process,
-    objects: &Objects,
-    handle: Register,
-    mask: Register,
-    to: SignalRegisters,
-) -> Outcome
-    requires { process.old.cpu.counter < 2 ^ 32 }
-    ensures { Acted (site_of (call.WaitOne to.status handle mask to.observed) process.old.cpu)
+#[tactic(auto, unfolding(zl_code::specs::Request::site_of))]
+pub fn wait_one(process: &mut Process, objects: &Objects, call: &CallInstr) -> Outcome
+    requires counter { process.old.cpu.counter < 2 ^ 32 }
+    requires name { call.now.name ≡ name.WaitOne }
+    ensures { Acted (site_of call.now process.old.cpu)
         process.old objects.now result process.new objects.now }
 {
+    let [status, handle, mask, observed, ..] = call.registers;
+    let to = SignalRegisters { status, observed };
     let value = process.cpu.register(handle);
     let mask = process.cpu.register(mask);
     let watched = match watch(&process.table, objects, value, mask) {
@@ -53,24 +50,21 @@ pub fn wait_one(
     Outcome::Blocked
 }
 
-/// Does `port_wait` at these registers: it is answered with the first packet of the port, which it
+/// Does `port_wait` at its registers: it is answered with the first packet of the port, which it
 /// takes out, and else the process blocks until one is there.
 ///
 /// `BadHandle`, `WrongType` for what is no port, `AccessDenied` without the right to read. It takes
 /// no memory.
 /// Source: the page "zx_port_wait" of the Fuchsia documentation, without a deadline.
-#[tactic(auto, unfolding(zl_code::specs::Request::site_of, zl_code::specs::Instructions::row_of, zl_code::specs::Spells::call_parts))]
-pub fn port_wait(
-    process: &mut Process,
-    objects: &mut Objects,
-    port: Register,
-    to: PacketRegisters,
-) -> Outcome
-    requires { process.old.cpu.counter < 2 ^ 32 }
-    ensures { Acted
-        (site_of (call.PortWait to.status port to.key to.kind to.trigger to.observed)
-        process.old.cpu) process.old objects.old result process.new objects.new }
+#[tactic(auto, unfolding(zl_code::specs::Request::site_of))]
+pub fn port_wait(process: &mut Process, objects: &mut Objects, call: &CallInstr) -> Outcome
+    requires counter { process.old.cpu.counter < 2 ^ 32 }
+    requires name { call.now.name ≡ name.PortWait }
+    ensures { Acted (site_of call.now process.old.cpu)
+        process.old objects.old result process.new objects.new }
 {
+    let to = PacketRegisters::of(call);
+    let [_, port, ..] = call.registers;
     let value = process.cpu.register(port);
     let entry = match look_up(&process.table, value, &[Kind::Port], Rights::READ) {
         Ok(entry) => entry,

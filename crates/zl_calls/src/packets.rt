@@ -1,11 +1,11 @@
 //! How a process gets a packet.
 
-ghost use Rattle.std.specs.Prelude.{◌≡◌, ◌<◌, ◌^◌, [], ◌∷◌};
+ghost use Rattle.std.specs.Prelude.{◌≡◌, ◌<◌, ◌^◌, [], ◌∷◌, slice_index};
 ghost use Rattle.zl_rights.specs.Wakes.{packet_values};
 ghost use Rattle.zl_calls.specs.calls.Answer.{status_of, answered_in};
 
 use crate::process::Process;
-use zl_code::{Outcome, Register};
+use zl_code::{CallInstr, Outcome, Register};
 use zl_port::Packet;
 use zl_rights::Status;
 
@@ -17,6 +17,29 @@ pub struct PacketRegisters {
     pub kind: Register,
     pub trigger: Register,
     pub observed: Register,
+}
+
+impl PacketRegisters {
+    /// Those of `port_wait` and of `port_poll`.
+    #[inline(always)]
+    pub fn of(call: &CallInstr) -> PacketRegisters
+        ensures { result ≡ record {
+          status = slice_index call.now.registers 0;
+          key = slice_index call.now.registers 2;
+          kind = slice_index call.now.registers 3;
+          trigger = slice_index call.now.registers 4;
+          observed = slice_index call.now.registers 5;
+        } }
+    {
+        let [status, _, key, kind, trigger, observed, _] = call.registers;
+        PacketRegisters {
+            status,
+            key,
+            kind,
+            trigger,
+            observed,
+        }
+    }
 }
 
 impl Process {

@@ -5,12 +5,12 @@ ghost use Rattle.std.specs.Result.{result_err};
 ghost use Rattle.zl_rights.specs.LookUp.{looked_up};
 ghost use Rattle.zl_rights.specs.Numbers.{bits};
 ghost use Rattle.zl_code.specs.Instructions.{field_of, kinds_of};
-ghost use Rattle.zl_code.specs.Parts.{last_of};
-ghost use Rattle.zl_code.specs.Refusals.{condition_of, handle_operands};
+ghost use Rattle.zl_code.specs.Limits.{most_registers};
+ghost use Rattle.zl_code.specs.Refusals.{condition_of};
 ghost use Rattle.zl_code.specs.Request.{site_of};
 ghost use Rattle.zl_objects.specs.Jobs.{action_of, job_at};
 ghost use Rattle.zl_calls.specs.FieldFaults.{field_fault, fields_fault, last_fault};
-ghost use Rattle.zl_calls.specs.Policed.{IsDenied, Policed, on_fault, on_making, operands_fault, verdict_on};
+ghost use Rattle.zl_calls.specs.Policed.{IsDenied, Policed, on_fault, verdict_by, verdict_on};
 ghost use Rattle.zl_calls.specs.calls.Channel.{fault_of};
 
 use crate::calls::channel::examine_list;
@@ -18,7 +18,7 @@ use crate::calls::look_up;
 use crate::calls::process::end;
 use crate::process::Process;
 use std::alloc::Global;
-use zl_code::{CallInstr, CallParts, Field, Kinds, Last, Outcome, Register};
+use zl_code::{CallInstr, CallName, Columns, Ending, Field, Kinds, Outcome};
 use zl_interp::Cpu;
 use zl_objects::Objects;
 use zl_rights::{Action, Condition, Kind, Koid, Rights, Status};
@@ -80,17 +80,19 @@ fn judge(process: &Process, objects: &Objects, call: &CallInstr) -> Option<Verdi
         // So it is in most jobs, and spares the examination.
         return None;
     }
-    match examine(&process.table, &process.cpu, *call) {
-        Ok(()) => on_making(objects.action(job, made_by(call)?)),
+    let columns = call.name.row().columns;
+    match examine(&process.table, &process.cpu, columns, call) {
+        Ok(()) => on_making(objects, job, columns.condition),
         Err(fault) => on_fault(objects, job, fault),
     }
 }
 
-/// How a call ends that makes an object, where this is the action for it.
-fn on_making(action: Action) -> Option<Verdict>
-    ensures { result ≡ on_making action }
+/// How a call ends that makes an object under this condition, if it makes one of which a policy
+/// decides.
+fn on_making(objects: &Objects, job: Koid, condition: Option<Condition>) -> Option<Verdict>
+    ensures { result ≡ verdict_by (action_of (job_at objects.now.objects job)) None condition }
 {
-    match action {
+    match objects.action(job, condition?) {
         Action::Allow => None,
         Action::Deny => Some(Verdict::Denied),
         Action::Kill => Some(Verdict::Killed),
@@ -113,16 +115,8 @@ fn on_fault(objects: &Objects, job: Koid, fault: Status) -> Option<Verdict>
     }
 }
 
-/// The condition of making the object that the call makes, if it makes one of which a policy decides.
-fn made_by(call: &CallInstr) -> Option<Condition>
-    ensures { (cpu : Cpu) → IfSome (site_of call.now cpu)
-        (λ s. result ≡ condition_of s.request) }
-{
-    call.row().condition
-}
-
 /// Answers a call that makes an object with `AccessDenied`, and 0 in the registers of its handles.
-#[tactic(auto, unfolding(zl_code::specs::Request::site_of, zl_code::specs::Instructions::row_of, zl_code::specs::Spells::call_parts))]
+#[tactic(auto, unfolding(zl_code::specs::Request::site_of))]
 fn deny(process: &mut Process, call: &CallInstr) -> Option<Outcome>
     requires counter { process.old.cpu.counter < 2 ^ 32 }
     ensures denied { IfSome result (λ outcome. (r : Objects)
@@ -132,58 +126,33 @@ fn deny(process: &mut Process, call: &CallInstr) -> Option<Outcome>
         (λ s. condition_of s.request ≡ None)) }
     ensures unchanged { IfNone result (process.new ≡ process.old) }
 {
+    let [a, b, c, d, ..] = call.registers;
     let denied = Err(Status::AccessDenied);
-    match call {
-        CallInstr::ChanCreate {
-            status,
-            first,
-            second,
-        } => Some(process.answer_made_two(*status, *first, *second, Err(Status::AccessDenied))),
-        CallInstr::EventCreate { status, event } => {
-            Some(process.answer_made(*status, *event, denied))
-        }
-        CallInstr::PortCreate { status, port } => Some(process.answer_made(*status, *port, denied)),
-        CallInstr::ProcessCreate {
-            status,
-            process: made,
-            ..
-        } => Some(process.answer_made(*status, *made, denied)),
+    match call.name {
+        CallName::ChanCreate => Some(process.answer_made_two(a, b, c, Err(Status::AccessDenied))),
+        CallName::EventCreate | CallName::PortCreate => Some(process.answer_made(a, b, denied)),
+        CallName::ProcessCreate => Some(process.answer_made(a, d, denied)),
         _ => None,
     }
 }
 
-/// Examines the handle operands of the call from left to right, and gives the fault of the first that
-/// has one. A handle that stands in a list twice isn't live any more at the second place.
-fn examine(table: &Table, cpu: &Cpu, call: CallInstr) -> Result<(), Status>
-    ensures { IfSome (site_of call cpu.now) (λ s. result_err result
-        ≡ operands_fault table.now.entries [] (handle_operands s.request)) }
+/// Examines the handle operands of the call from left to right, and behind them those of its list,
+/// and gives the fault of the first that has one. A handle that stands in a list twice isn't live any
+/// more at the second place.
+fn examine(table: &Table, cpu: &Cpu, columns: &Columns, call: &CallInstr) -> Result<(), Status>
+    requires { length columns.now.fields.now ≤ most_registers }
+    ensures { fault_of result ≡ fields_fault table.now.entries cpu.now
+        (map field_of columns.now.fields.now) 0 call.now.registers
+        (last_fault table.now.entries cpu.now columns.now.ending call.now) }
 {
-    // Lent, as it is asked twice.
-    let call = &call;
-    let CallParts {
-        registers,
-        last,
-        ..
-    } = call.parts();
-    examine_parts(table, cpu, call.row().fields, &registers, last)
-}
-
-/// Examines the registers by their fields, and behind them those of the list.
-fn examine_parts(
-    table: &Table,
-    cpu: &Cpu,
-    fields: &[Field],
-    registers: &[Register],
-    last: Last,
-) -> Result<(), Status>
-    requires { length fields.now ≤ length registers.now }
-    ensures { fault_of result ≡ fields_fault table.now.entries cpu.now (map field_of fields.now)
-        registers.now (last_fault table.now.entries cpu.now (last_of last)) }
-{
-    for (n, field) in fields.iter().enumerate() {
-        examine_one(table, *field, cpu.register(registers[n]))?;
+    for (n, field) in columns.fields.iter().enumerate() {
+        examine_one(table, *field, cpu.register(call.registers[n]))?;
     }
-    examine_last(table, cpu, last)
+    if let Ending::Handles = columns.ending {
+        let (values, count) = cpu.listed(&call.handles());
+        return examine_list(table, &values[..count]);
+    }
+    Ok(())
 }
 
 /// The fault of the value in a register of this field, if it is a handle operand that has one.
@@ -204,20 +173,6 @@ fn examine_one(table: &Table, field: Field, value: u64) -> Result<(), Status>
         Field::Writes => Ok(()),
         Field::Changes => Ok(()),
         Field::Triples => Ok(()),
-    }
-}
-
-/// The fault of the first handle of the list that has one, if the last eight bytes have a list.
-fn examine_last(table: &Table, cpu: &Cpu, last: Last) -> Result<(), Status>
-    ensures { fault_of result ≡ last_fault table.now.entries cpu.now (last_of last) }
-{
-    match last {
-        Last::Handles(handles) => {
-            let (values, count) = cpu.listed(&handles);
-            examine_list(table, &values[..count])
-        }
-        Last::Number(_) => Ok(()),
-        Last::Room(_) => Ok(()),
     }
 }
 

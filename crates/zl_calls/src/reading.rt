@@ -6,29 +6,18 @@ ghost use Rattle.zl_rights.specs.World.{answered, written};
 ghost use Rattle.zl_code.specs.Asked.{triples_from};
 ghost use Rattle.zl_code.specs.Effects.{told_of};
 ghost use Rattle.zl_code.specs.Request.{site_of};
-ghost use Rattle.zl_code.specs.declared.instr.CallInstr.TheVariants as call;
+ghost use Rattle.zl_code.specs.declared.history.CallName.TheVariants as name;
 ghost use Rattle.zl_calls.specs.Acted.{Acted};
-ghost use Rattle.zl_calls.specs.calls.Reading.{triple_of};
+ghost use Rattle.zl_calls.specs.calls.Reading.{read_into, triple_of};
 
 use crate::calls::reading::{ReadFault, chan_read_etc};
 use crate::process::Process;
 use bitflags::Flags;
 use std::alloc::Global;
-use zl_code::{Outcome, Register};
+use zl_code::{CallInstr, Outcome, Register};
 use zl_interp::Cpu;
 use zl_objects::Objects;
 use zl_rights::{Entry, HValue, Status};
-
-/// The registers that get the answer of a read: the status, both counts, and a triple for each of so
-/// many handles, from the first on.
-#[derive(Clone, Copy)]
-pub struct Destinations {
-    pub status: Register,
-    pub bytes: Register,
-    pub handles: Register,
-    pub first: Register,
-    pub places: u32,
-}
 
 /// So many triples of registers, from the first on, are told of handles: value, kind and rights of
 /// each. Where there is no handle they become 0.
@@ -62,12 +51,12 @@ fn triple(handles: &[Entry], values: &[HValue], n: usize) -> [u64; 3]
 }
 
 impl Process {
-    /// The read is answered: the registers get the status, both sizes, and what is told of these
+    /// The read is answered: its registers get the status, both sizes, and what is told of these
     /// handles, and the next instruction stands next.
     #[tactic(auto, unfolding(zl_rights::specs::World::answered))]
     pub fn answer_read(
         &mut self,
-        to: Destinations,
+        call: &CallInstr,
         answer: Status,
         bytes: usize,
         handles: usize,
@@ -77,52 +66,50 @@ impl Process {
         requires { self.old.cpu.counter < 2 ^ 32 }
         ensures ends { result ≡ Outcome.Answered answer }
         ensures process { self.new ≡ record self.old {
-          cpu = answered self.old.cpu
-              (to.status ∷ to.bytes ∷ to.handles ∷ triples_from to.first to.places)
+          cpu = answered self.old.cpu (read_into call.now)
               (status_magnitude answer ∷ bytes ∷ handles ∷ told_of entries.now values.now);
         } }
     {
-        self.cpu.set(to.status, u64::from(answer.magnitude()));
-        self.cpu.set(to.bytes, bytes as u64);
-        self.cpu.set(to.handles, handles as u64);
-        tell(&mut self.cpu, to.first, to.places, entries, values);
+        let [status, _, _, _, size, count, first] = call.registers;
+        self.cpu.set(status, u64::from(answer.magnitude()));
+        self.cpu.set(size, bytes as u64);
+        self.cpu.set(count, handles as u64);
+        tell(&mut self.cpu, first, call.number(), entries, values);
         self.cpu.advance();
         Outcome::Answered(answer)
     }
 }
 
-/// Does `chan_read_etc` at these registers. Its room lies in the memory.
-#[tactic(auto, unfolding(zl_code::specs::Request::site_of, zl_code::specs::Instructions::row_of, zl_code::specs::Spells::call_parts, zl_rights::specs::World::answered))]
+/// Does `chan_read_etc` at its registers. Its room lies in the memory.
+#[tactic(auto, unfolding(zl_code::specs::Request::site_of, zl_rights::specs::World::answered))]
 pub fn read(
     alloc: Global,
     process: &mut Process,
     objects: &mut Objects,
-    channel: Register,
-    address: Register,
-    room: Register,
-    to: Destinations,
+    call: &CallInstr,
 ) -> Outcome
     requires counter { process.old.cpu.counter < 2 ^ 32 }
-    requires there { IsSome (site_of (call.ChanReadEtc to.status channel address room
-        to.bytes to.handles to.first to.places) process.old.cpu) }
-    ensures { Acted (site_of (call.ChanReadEtc to.status channel address room
-        to.bytes to.handles to.first to.places) process.old.cpu)
+    requires name { call.now.name ≡ name.ChanReadEtc }
+    requires there { IsSome (site_of call.now process.old.cpu) }
+    ensures { Acted (site_of call.now process.old.cpu)
         process.old objects.old result process.new objects.new }
 {
+    let [_, channel, address, room, ..] = call.registers;
     let address = process.cpu.register(address);
     let room = process.cpu.register(room);
     let channel = process.cpu.register(channel);
-    match chan_read_etc(alloc, &mut process.table, objects, channel, room, to.places) {
+    let places = call.number();
+    match chan_read_etc(alloc, &mut process.table, objects, channel, room, places) {
         Ok(received) => {
             let bytes = &received.message.bytes;
-            let handles = received.message.handles.as_slice();
+            let sent = received.message.handles.as_slice();
             process.cpu.store(address, bytes);
             let values = received.values.as_slice();
-            process.answer_read(to, Status::Ok, bytes.len(), handles.len(), handles, values)
+            process.answer_read(call, Status::Ok, bytes.len(), sent.len(), sent, values)
         }
         Err(ReadFault::TooSmall { bytes, handles }) => {
-            process.answer_read(to, Status::BufferTooSmall, bytes, handles, &[], &[])
+            process.answer_read(call, Status::BufferTooSmall, bytes, handles, &[], &[])
         }
-        Err(ReadFault::Refused(status)) => { process.answer_read(to, status, 0, 0, &[], &[]) }
+        Err(ReadFault::Refused(status)) => { process.answer_read(call, status, 0, 0, &[], &[]) }
     }
 }

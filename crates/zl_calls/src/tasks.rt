@@ -25,7 +25,7 @@ use crate::calls::{insert, look_up};
 use crate::process::{Process, State};
 use crate::stepping::place_of;
 use std::alloc::{AllocError, Global};
-use zl_code::{CallInstr, Image, Outcome, Register};
+use zl_code::{CallInstr, CallName, Image, Outcome, Register};
 use zl_interp::{Cpu, Library};
 use zl_objects::Objects;
 use zl_rights::{Entry, HValue, Kind, Koid, Pid, Rights, Status};
@@ -36,7 +36,7 @@ const KILLED: i32 = -1024;
 
 /// Does the call of the process at this place, if it is one that reaches other processes.
 #[inline(always)]
-#[tactic(auto, unfolding(zl_code::specs::Request::site_of, zl_code::specs::Instructions::row_of, zl_code::specs::Spells::call_parts))]
+#[tactic(auto, unfolding(zl_code::specs::Request::site_of))]
 pub fn reach(
     alloc: Global,
     library: &Library,
@@ -68,36 +68,25 @@ pub fn reach(
     ensures same_objects { IfNone result (objects.new ≡ objects.old) }
     ensures same_blocked { IfNone result (blocked.new.items ≡ blocked.old.items) }
 {
-    match call {
-        CallInstr::ProcessCreate {
-            status,
-            job,
-            program,
-            process,
-        } => {
-            let job = processes[place].cpu.register(*job);
-            let program = processes[place].cpu.register(*program);
+    let [a, b, c, d, ..] = call.registers;
+    let cpu = &processes[place].cpu;
+    match call.name {
+        CallName::ProcessCreate => {
+            let (job, program) = (cpu.register(b), cpu.register(c));
             let made = process_create(
                 alloc, library, processes, objects, blocked, place, job, program,
             );
-            Some(processes[place].answer_made(*status, *process, made))
+            Some(processes[place].answer_made(a, d, made))
         }
-        CallInstr::ProcessStart {
-            status,
-            process,
-            handle,
-            word,
-        } => {
-            let cpu = &processes[place].cpu;
-            let (process, word) = (cpu.register(*process), cpu.register(*word));
-            let value = cpu.register(*handle);
-            let answer = process_start(library, processes, objects, place, process, value, word);
-            Some(answer_taking(&mut processes[place], *status, *handle, answer))
+        CallName::ProcessStart => {
+            let (process, handle, word) = (cpu.register(b), cpu.register(c), cpu.register(d));
+            let answer = process_start(library, processes, objects, place, process, handle, word);
+            Some(answer_taking(&mut processes[place], a, c, answer))
         }
-        CallInstr::TaskKill { status, task } => {
-            let task = processes[place].cpu.register(*task);
+        CallName::TaskKill => {
+            let task = cpu.register(b);
             let answer = task_kill(alloc, processes, objects, blocked, place, task);
-            Some(answer_unless_over(&mut processes[place], *status, answer))
+            Some(answer_unless_over(&mut processes[place], a, answer))
         }
         _ => None,
     }

@@ -1,36 +1,32 @@
 //! What chan_write reads of its caller, and how it gets its answer.
 
-ghost use Rattle.std.specs.Prelude.{◌≡◌, ◌<◌, ◌^◌, length, IsSome};
-ghost use Rattle.zl_code.specs.Limits.{most_handles};
+ghost use Rattle.std.specs.Prelude.{◌≡◌, ◌<◌, ◌^◌, IsSome};
 ghost use Rattle.zl_code.specs.Request.{site_of};
-ghost use Rattle.zl_code.specs.declared.instr.CallInstr.TheVariants as call;
+ghost use Rattle.zl_code.specs.declared.history.CallName.TheVariants as name;
 ghost use Rattle.zl_calls.specs.Acted.{Acted};
 
 use crate::calls::channel::chan_write;
 use crate::process::Process;
 use std::alloc::Global;
-use zl_code::{HandleList, Outcome, Register};
+use zl_code::{CallInstr, Outcome};
 use zl_objects::Objects;
 
-/// Does `chan_write` at these registers. Its bytes lie in the memory.
-#[tactic(auto, unfolding(zl_code::specs::Request::site_of, zl_code::specs::Instructions::row_of, zl_code::specs::Spells::call_parts))]
+/// Does `chan_write` at its registers. Its bytes lie in the memory.
+#[tactic(auto, unfolding(zl_code::specs::Request::site_of))]
 pub fn write(
     alloc: Global,
     process: &mut Process,
     objects: &mut Objects,
-    status: Register,
-    channel: Register,
-    address: Register,
-    size: Register,
-    handles: HandleList,
+    call: &CallInstr,
 ) -> Outcome
     requires counter { process.old.cpu.counter < 2 ^ 32 }
-    requires places { length handles.places ≡ most_handles }
-    requires there { IsSome
-        (site_of (call.ChanWrite status channel address size handles) process.old.cpu) }
-    ensures { Acted (site_of (call.ChanWrite status channel address size handles) process.old.cpu)
+    requires name { call.now.name ≡ name.ChanWrite }
+    requires there { IsSome (site_of call.now process.old.cpu) }
+    ensures { Acted (site_of call.now process.old.cpu)
         process.old objects.old result process.new objects.new }
 {
+    let [status, channel, address, size, ..] = call.registers;
+    let handles = call.handles();
     let (values, count) = process.cpu.listed(&handles);
     let address = process.cpu.register(address);
     let size = process.cpu.register(size);

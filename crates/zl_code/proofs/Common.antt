@@ -1,8 +1,8 @@
 -- The names that most proofs cite, of this crate and those above, passed on from one place. Declares nothing.
 pub use Rattle.zl_rights.proofs.Common.{All, All-nil, Blocked, Body, Bool, ChannelEnd, Cpu, Created, DUPLICATE, Ended, Err, EventBody, Gone, IfErr, IfNone, IfOk, IfSome, IsSome, IsTrue, JobBody, Koids, List, Map, None, Object, Ok, OnOk, Option, PortBody, Process, ProcessBody, Ready, Result, SIGNAL, SIGNALED, STUCK, Settles, Some, State, World, [], and_from, and_parts, ap, append-nil, append_assoc, arith, at_drop_all, at_drop_more, below_all, bit_and, bits, cases_Bool, cases_lt, codes, cond, condition_name, condition_number, count_by, decimal, default_rights_of, drop, drop_at, eq-eqb, eqb, eqb-true, err_from_is_err_and, false, false≢true, filter, find, flat_map, flat_map-append, fold, get_or, get_or-drop, get_or-map, has_key, if◌then◌else◌, inl, inr, is_empty, is_ready, is_some, is_sorted, kind_of, le-leb, leb, leb-true, length, length-append, length-drop, length-map, length-take, length-take-le, list_all, list_all-append, list_any, lives, lt-ltb, ltb, ltb-true, map, map-append, narrowed, nat_cmp, nat_le, nat_lt, nat_tests, ne_eqb, none-some, not, option_map, option_or, or_left, or_right, pos, position, process_settled, queue_of, refl, replicate, rights_of, rules, runs, same_Some, set, slice_get, slice_get-get_or, slice_index, slice_set, starts_with, state_passes, string_bytes, subst, suc, sum_by, sum_by-cons, sym, take, take-append-drop, take_all, take_at, take_more, then_some, true, true≢false, within, zero, ℕ, ℤ, ⊤, ◌%◌, ◌&&◌, ◌*◌, ◌++◌, ◌+◌, ◌-◌, ◌/◌, ◌<◌, ◌==◌, ◌^◌, ◌||◌, ◌∙◌, ◌∷◌, ◌≡◌, ◌≢◌, ◌≤◌, ◌⊎◌}
 unfoldable pub use Rattle.zl_rights.proofs.Common.{answered, each, fired, get, has_living_child, in_queue, in_table, is_held, is_process, put, update, wakes, where_key, without, without_others}
-pub use Rattle.zl_code.specs.Common.{Acts, AtCall, Boots, Calls, Choice, FirstFault, HandlesAreNamed, HandlesAreSound, HasGivenKoids, Image, IsBoot, IsLegalHistory, IsSound, IsStuck, Layout, Library, MOST_ITEMS, Moves, Next, Program, Reading, Refused, Request, Row, Site, Spells, Step, Values, WantsMemory, answer_if, any, are_needs, are_registers, at_limit, at_statement, body_in, body_of, by_look_up, bytes_of, call_name, calls_at, chan_create, chan_read_etc, chan_write, close, copy_of, cpu_answered, dup, entry_at, event_create, first_some, grows, has_default_rights, in_order, instr_bytes, is_among, is_in_range, is_instr_in_range, is_job_body, is_slot_in_range, is_start_in_range, layout_of, may_boot, may_get, name_of, names_its_object, needs_byte, needs_named, needs_value, next_for, number_at, number_of, object_at, ok_outcome, operand_of, origin, pid_of, process_exit, process_with, process_without, raisable, reading_of, replace, row_bytes, seven, signal, single, site, slot_bytes, spelling, start_bytes, table_of, taken, with_effect, with_rights}
-unfoldable pub use Rattle.zl_code.specs.Common.{boot_effect, boot_fault, call_parts, effect, ended, examined, first_fault, gives_ok, gives_refused, handle_operands, handles_to, has_koids, has_room, header_fault, insert_all, instr_fault, listed, local_effect, local_parts, may_choose, new_handles, on_process, operand, pieces, refusal, remove_all, replied, row_named, row_of, site_of, slot_fault, start_fault, taken_handles, with_object}
+pub use Rattle.zl_code.specs.Common.{Acts, AtCall, Boots, Calls, Choice, FirstFault, HandlesAreNamed, HandlesAreSound, HasGivenKoids, Image, IsBoot, IsLegalHistory, IsSound, IsStuck, Layout, Library, MOST_ITEMS, Moves, Next, Program, Reading, Refused, Request, Row, Site, Spells, Step, Values, WantsMemory, answer_if, any, are_needs, are_registers, at_limit, at_statement, body_in, body_of, by_look_up, bytes_of, call_name, call_row, calls_at, chan_create, chan_read_etc, chan_write, close, copy_of, cpu_answered, dup, entry_at, event_create, first_some, grows, has_default_rights, in_order, instr_bytes, is_among, is_in_range, is_instr_in_range, is_job_body, is_slot_in_range, is_start_in_range, layout_of, may_boot, may_get, names_its_object, needs_byte, needs_named, needs_value, next_for, number_at, number_of, object_at, ok_outcome, operand_of, origin, pid_of, process_exit, process_with, process_without, raisable, reading_of, replace, row_bytes, seven, signal, single, site, slot_bytes, spelling, start_bytes, table_of, taken, with_effect, with_rights}
+unfoldable pub use Rattle.zl_code.specs.Common.{boot_effect, boot_fault, effect, ended, examined, first_fault, gives_ok, gives_refused, handle_operands, handles_to, has_koids, has_room, header_fault, insert_all, instr_fault, listed, local_effect, local_parts, may_choose, new_handles, on_process, operand, pieces, refusal, remove_all, replied, row_named, row_of, site_of, slot_fault, start_fault, taken_handles, with_object}
 pub use Rattle.std.proofs.Common.{MatchResult, T, add-zero, max, min, slice_index_or}
 pub use Rattle.std.proofs.lemmas.Bool.{le-ltb, ltb-false, not-false, or_parts}
 pub use Rattle.std.proofs.lemmas.List.{drop-drop, drop_all, get_or-take, get_or_past, map_more, take_rest}
@@ -10,7 +10,7 @@ pub use Rattle.zl_code.specs.Boot.{IsBooted, MOST_GRANTS, MOST_KOIDS, MOST_PROCE
 pub use Rattle.zl_code.specs.Effects.{gets_all, may_get_after, may_get_all, new_entry, object_changed, process_ended, with_process}
 unfoldable pub use Rattle.zl_code.specs.Effects.{on_object}
 pub use Rattle.zl_code.specs.Sound.{HasItsObject, HasPeer, IsSoundTable, IsSoundWait, KeepsProcesses, is_blocked, is_end_if_there, is_port_there, is_value}
-pub use Rattle.zl_code.specs.Spells.{Last, Numbers, Parts, Places, Room, allows, are_parts_in_range, are_places, ascend_from, code_pieces, count_at, ending_bytes, fault_by, has_length, has_rights, header, is_32_bits, is_call_in_range, is_ending_clear, is_header_in_range, is_last_in_range, is_local_in_range, is_needs_byte, is_packed, is_raw_at, is_room, is_unused_zero, kind_at, kind_byte, last_bytes, length_at, magic, names_registers, parts_bytes, registers_at, rights_allowed, slot_pieces, slots_at, start_pieces, starts_at}
+pub use Rattle.zl_code.specs.Spells.{Parts, allows, are_places, ascend_from, code_pieces, count_at, ending_bytes, fault_by, has_length, has_rights, header, is_32_bits, is_call_in_range, is_ending_clear, is_header_in_range, is_local_in_range, is_needs_byte, is_packed, is_raw_at, is_room, is_unused_zero, kind_at, kind_byte, length_at, magic, names_registers, registers_at, rights_allowed, slot_pieces, slots_at, start_pieces, starts_at}
 pub use Rattle.zl_code.specs.Tests.{action_of, handles_in, parent_of, settable_of}
 pub use Rattle.zl_code.specs.Operands.{Operand, by_policy, contains, ends_if_kill, faults, operand_after, seen_after, unless_allowed}
 unfoldable pub use Rattle.zl_code.specs.Operands.{creates}

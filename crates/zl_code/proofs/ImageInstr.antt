@@ -33,7 +33,7 @@ ending_clear ending.Both r same h = same
 ending_clear ending.Handles r same h = refl
 
 -- where what the layout doesn't use is 0, nothing is lost
-row_bytes-unused : (opcode : ℕ) (l : Layout) (r : Reading) → length r.registers ≡ 7 → HasNumbers r → is_unused_zero l r ≡ true → row_bytes opcode l r ≡ opcode ∷ (r.registers ++ r.places)
+pub row_bytes-unused : (opcode : ℕ) (l : Layout) (r : Reading) → length r.registers ≡ 7 → HasNumbers r → is_unused_zero l r ≡ true → row_bytes opcode l r ≡ opcode ∷ (r.registers ++ r.places)
 row_bytes-unused opcode l r len same h =
     let zeros = and_parts (list_all (λ b. b == 0) (drop l.registers r.registers)) (is_ending_clear l.ending r) h in
     let front : seven (take l.registers r.registers) ≡ r.registers = ap (λ (k : ℕ). take k (take l.registers r.registers ++ replicate 7 0)) (sym len) ∙ padded 7 l.registers r.registers (omega arith) zeros.0 in

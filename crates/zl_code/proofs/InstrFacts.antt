@@ -1,13 +1,14 @@
 -- What holds of the 16 bytes of an instruction in range, and of 16 bytes without a fault.
-use Rattle.zl_code.proofs.Common.{◌≡◌, ℕ, zero, suc, ◌<◌, ◌%◌, Bool, true, false, List, [], ◌∷◌, ◌++◌, length, replicate, Some, None, ◌==◌, ◌&&◌, ◌||◌, not, nat_lt, refl, sym, ap, ◌∙◌, inl, inr, arith, slice_index, is_some, list_all, and_parts, eqb-true, ltb-true, cases_Bool, then_some, first_some, Layout, layout_of, local_parts, call_parts, seven, bytes_of, are_registers, is_instr_in_range, instr_bytes, instr_fault, reading_of, row_bytes, Parts, Last, Numbers, Room, Places, parts_bytes, last_bytes, are_places, is_packed, is_last_in_range, are_parts_in_range, fault_by, names_registers, is_unused_zero}
+use Rattle.zl_code.proofs.Common.{◌≡◌, ℕ, zero, suc, ◌<◌, ◌%◌, Bool, true, false, List, [], ◌∷◌, ◌++◌, length, replicate, Some, None, ◌==◌, ◌&&◌, ◌||◌, not, nat_lt, refl, sym, ap, ◌∙◌, inl, inr, arith, slice_index, is_some, list_all, and_parts, eqb-true, ltb-true, cases_Bool, then_some, first_some, Layout, layout_of, local_parts, seven, bytes_of, are_registers, is_instr_in_range, instr_bytes, instr_fault, reading_of, row_bytes, is_32_bits, is_local_in_range, is_call_in_range, fault_by, names_registers, is_unused_zero}
 use Rattle.zl_code.specs.declared.instr.Instr.{Instr}
 use Rattle.zl_code.specs.declared.instr.Instr.TheVariants as instr
 use Rattle.zl_code.specs.declared.instr.LocalInstr.{LocalInstr}
 use Rattle.zl_code.specs.declared.instr.LocalInstr.TheVariants as local
 use Rattle.zl_code.specs.declared.instr.CallInstr.{CallInstr}
-use Rattle.zl_code.specs.declared.instr.CallInstr.TheVariants as call
 use Rattle.zl_code.specs.declared.image.DecodeFault.TheVariants as faults
+use Rattle.zl_code.specs.Spells.{local_bytes, call_bytes}
 use Rattle.zl_code.proofs.ImageBytes.{IsBytes, IsBytes-take}
+use Rattle.zl_code.proofs.ImageCalls.{whole, opcode_is_byte}
 use Rattle.zl_code.proofs.ImageTable.{instr_fits}
 use Rattle.zl_code.proofs.ImageInstr.{row_bytes-read}
 
@@ -55,32 +56,30 @@ small_place b h =
       | inr apart ↦ let e : b ≡ 255 = eqb-true b 255 (sym (ap (λ (r : Bool). r || (b == 0xff)) apart) ∙ h) in omega arith
     ]
 
-IsBytes-last : (registers : List ℕ) (l : Last) → is_last_in_range registers l ≡ true → IsBytes (last_bytes l)
-IsBytes-last registers (Numbers imm target) h = IsBytes-append (bytes_of 4 imm) (bytes_of 4 target) (IsBytes-bytes_of 4 imm) (IsBytes-bytes_of 4 target)
-IsBytes-last registers (Room handles) h = IsBytes-append (bytes_of 4 handles) (bytes_of 4 0) (IsBytes-bytes_of 4 handles) (IsBytes-bytes_of 4 0)
-IsBytes-last registers (Places places) h =
-    let p = and_parts (length places == 8) (are_places places && is_packed places) h in
-    IsBytes-all (λ b. nat_lt b 32 || (b == 0xff)) small_place places (and_parts (are_places places) (is_packed places) p.1).0
-
-IsBytes-parts : (p : Parts) → p.opcode < 256 → are_parts_in_range p ≡ true → IsBytes (parts_bytes p)
-IsBytes-parts p lt h =
-    let both = and_parts (is_last_in_range p.registers p.last) (are_registers p.registers) h in
-    let registers = IsBytes-take 7 (p.registers ++ replicate 7 0) (IsBytes-append p.registers (replicate 7 0) (IsBytes-all (λ r. nat_lt r 32) small_register p.registers both.1) (IsBytes-zeros 7)) in
-    IsBytes-cons p.opcode _ lt (IsBytes-append (seven p.registers) (last_bytes p.last) registers (IsBytes-last p.registers p.last both.0))
+IsBytes-registers : (rs : List ℕ) → are_registers rs ≡ true → IsBytes rs
+IsBytes-registers rs h = IsBytes-all (λ r. nat_lt r 32) small_register rs h
 
 local_opcode : (i : LocalInstr) → nat_lt (local_parts i).opcode 256 ≡ true
 unfolding local_parts
 local_opcode (local.Const a imm) = refl
 local_opcode _ = refl
 
-call_opcode : (i : CallInstr) → nat_lt (call_parts i).opcode 256 ≡ true
-unfolding call_parts
-call_opcode (call.Close a b) = refl
-call_opcode _ = refl
+IsBytes-local : (i : LocalInstr) → is_local_in_range i ≡ true → IsBytes (local_bytes i)
+IsBytes-local i h =
+    let p = local_parts i in
+    let both = and_parts (is_32_bits p.imm && is_32_bits p.target) (are_registers p.registers) h in
+    let registers = IsBytes-take 7 (p.registers ++ replicate 7 0) (IsBytes-append p.registers (replicate 7 0) (IsBytes-registers p.registers both.1) (IsBytes-zeros 7)) in
+    let last = IsBytes-append (bytes_of 4 p.imm) (bytes_of 4 p.target) (IsBytes-bytes_of 4 p.imm) (IsBytes-bytes_of 4 p.target) in
+    IsBytes-cons p.opcode _ (ltb-true _ 256 (local_opcode i)) (IsBytes-append (seven p.registers) _ registers last)
+
+IsBytes-call : (i : CallInstr) → is_call_in_range i ≡ true → IsBytes (call_bytes i)
+IsBytes-call i h =
+    let w = whole i h in
+    IsBytes-cons _ _ (ltb-true _ 256 (opcode_is_byte i.name)) (IsBytes-append i.registers i.last (IsBytes-registers i.registers w.registers) (IsBytes-all (λ b. nat_lt b 256) (λ b e. ltb-true b 256 e) i.last w.bytes))
 
 pub IsBytes-instr_bytes : (raw : Bool) (i : Instr) → is_instr_in_range raw i ≡ true → IsBytes (instr_bytes i)
-IsBytes-instr_bytes raw (instr.Local i) h = IsBytes-parts (local_parts i) (ltb-true _ 256 (local_opcode i)) h
-IsBytes-instr_bytes raw (instr.Call i) h = IsBytes-parts (call_parts i) (ltb-true _ 256 (call_opcode i)) h
+IsBytes-instr_bytes raw (instr.Local i) h = IsBytes-local i h
+IsBytes-instr_bytes raw (instr.Call i) h = IsBytes-call i h
 IsBytes-instr_bytes raw (instr.Unknown bytes) h =
     let marked = and_parts raw ((length bytes == 16) && (list_all (λ b. nat_lt b 256) bytes && not (is_some (layout_of (slice_index bytes 0))))) h in
     let sixteen = and_parts (length bytes == 16) (list_all (λ b. nat_lt b 256) bytes && not (is_some (layout_of (slice_index bytes 0)))) marked.1 in

@@ -104,8 +104,8 @@ row_by_name r name opcode has same = sym (row_named-of opcode r (sym has)) ∙ a
 
 -- the layout of a row in code
 pub laid_out : (row : RowInCode) (o : Option Row) → Some (row_value row) ≡ o
-    → Some (layout (length row.fields.now) row.ending) ≡ option_map (λ r. layout (length r.fields) r.ending) o
-laid_out row o e = ap (λ n. Some (layout n row.ending)) (sym (length-map row.fields.now field_of))
+    → Some (layout (length row.columns.now.fields.now) row.columns.now.ending) ≡ option_map (λ r. layout (length r.fields) r.ending) o
+laid_out row o e = ap (λ n. Some (layout n row.columns.now.ending)) (sym (length-map row.columns.now.fields.now field_of))
     ∙ ap (option_map (λ r. layout (length r.fields) r.ending)) e
 
 -- opcodes below have other names, and so has this one

@@ -9,12 +9,12 @@ use Rattle.zl_rights.specs.declared.policy.Condition.{Condition}
 use Rattle.zl_rights.specs.declared.policy.Condition.TheVariants as condition
 use Rattle.zl_code.specs.declared.instr.Instr.TheVariants as instr
 use Rattle.zl_code.specs.declared.instr.CallInstr.{CallInstr}
-use Rattle.zl_code.specs.declared.instr.CallInstr.TheVariants as call
 use Rattle.zl_code.specs.declared.history.CallName.TheVariants as name
 use Rattle.zl_code.specs.declared.history.Outcome.TheVariants as outcome
 use Rattle.zl_code.specs.declared.history.TraceItem.TheVariants as item
 use Rattle.zl_code.proofs.Running.{Acted, step_by, computing}
 use Rattle.zl_code.proofs.RowsWords.{Refuses, Passes, world_of, process_of, event_with, job_with, FIRST_RIGHTS, times, program_of, told, after, state_of, last_of}
+use Rattle.zl_code.proofs.Called.{called}
 
 -- ---- the words of the rows
 
@@ -48,19 +48,19 @@ rows_of_close :
     -- The value 5 isn't live.
     (Refuses bare (close 5) (outcome.Answered status.BadHandle))
     -- The status goes to its register, and the closed register becomes 0 all the same.
-    × (told (turn (call.Close 0 1) bare Refused)
+    × (told (turn (called name.Close (0 ∷ 1 ∷ []) 0) bare Refused)
     ≡ Some (item.Call 2 name.Close (outcome.Answered status.BadHandle), 11 ∷ 0 ∷ 9 ∷ 0 ∷ 0 ∷ 0 ∷ []))
     -- A value that isn't live isn't the value removed last.
-    × (last_of (after bare (turn (call.Close 0 1) bare Refused)) 2 ≡ None)
+    × (last_of (after bare (turn (called name.Close (0 ∷ 1 ∷ []) 0) bare Refused)) 2 ≡ None)
     -- 0 is no handle, and closing it is no fault.
     × (Passes bare (close 0))
     -- Closing 0 is answered OK.
-    × (told (turn (call.Close 0 3) bare (Values []))
+    × (told (turn (called name.Close (0 ∷ 3 ∷ []) 0) bare (Values []))
     ≡ Some (item.Call 2 name.Close (outcome.Answered status.Ok), 0 ∷ 5 ∷ 9 ∷ 0 ∷ 0 ∷ 0 ∷ []))
     -- Where the policy kills for a bad handle, the process ends with -1026.
     × (Refuses (bare_under condition.BadHandle action.Kill) (close 5) (outcome.Ended (negsuc 1025)))
     -- It has ended then.
-    × (state_of (after bare (turn (call.Close 0 1) (bare_under condition.BadHandle action.Kill) Refused)) 2 ≡ Some (Ended (negsuc 1025)))
+    × (state_of (after bare (turn (called name.Close (0 ∷ 1 ∷ []) 0) (bare_under condition.BadHandle action.Kill) Refused)) 2 ≡ Some (Ended (negsuc 1025)))
     -- A policy that denies changes nothing at a bad handle.
     × (Refuses (bare_under condition.BadHandle action.Deny) (close 5) (outcome.Answered status.BadHandle))
     -- Closing 0 is no bad handle under such a policy either.
@@ -68,17 +68,17 @@ rows_of_close :
     -- A handle without any right may be closed.
     × (Passes (with_rights 0) (close 7))
     -- Closing a live handle is answered OK, and its register becomes 0.
-    × (told (turn (call.Close 0 1) (with_rights 0) (Values []))
+    × (told (turn (called name.Close (0 ∷ 1 ∷ []) 0) (with_rights 0) (Values []))
     ≡ Some (item.Call 2 name.Close (outcome.Answered status.Ok), 0 ∷ 0 ∷ 9 ∷ 0 ∷ 0 ∷ 0 ∷ []))
     -- Where the status goes to the closed register, the status stands.
-    × (told (turn (call.Close 1 1) bare Refused)
+    × (told (turn (called name.Close (1 ∷ 1 ∷ []) 0) bare Refused)
     ≡ Some (item.Call 2 name.Close (outcome.Answered status.BadHandle), 9 ∷ 11 ∷ 9 ∷ 0 ∷ 0 ∷ 0 ∷ []))
 unfolding computing
 rows_of_close = (refl, refl, refl, refl, refl, refl, refl, refl, refl, refl, refl, refl)
 
 -- the world after the close of 7
 abbrev closed : World
-closed = after bare (turn (call.Close 0 1) (with_rights 0) (Values []))
+closed = after bare (turn (called name.Close (0 ∷ 1 ∷ []) 0) (with_rights 0) (Values []))
 
 rows_of_close_2 :
     -- The closed value is the value removed last.
@@ -103,7 +103,7 @@ rows_of_dup :
     -- The value 5 isn't live.
     (Refuses bare (dup 5 SAME_RIGHTS) (outcome.Answered status.BadHandle))
     -- The status goes to its register, and the register of the copy becomes 0.
-    × (told (turn (call.Dup 0 1 2 SAME_RIGHTS) bare Refused)
+    × (told (turn (called name.Dup (0 ∷ 1 ∷ 2 ∷ []) SAME_RIGHTS) bare Refused)
     ≡ Some (item.Call 2 name.Dup (outcome.Answered status.BadHandle), 11 ∷ 5 ∷ 0 ∷ 0 ∷ 0 ∷ 0 ∷ []))
     -- 0 is no handle, and only close takes it.
     × (Refuses bare (dup 0 SAME_RIGHTS) (outcome.Answered status.BadHandle))
@@ -112,7 +112,7 @@ rows_of_dup :
     -- The handle has no right to duplicate.
     × (Refuses (with_rights SIGNAL) (dup 7 SAME_RIGHTS) (outcome.Answered status.AccessDenied))
     -- The handle stays.
-    × (told (turn (call.Dup 0 1 2 SAME_RIGHTS) (with_rights SIGNAL) Refused)
+    × (told (turn (called name.Dup (0 ∷ 1 ∷ 2 ∷ []) SAME_RIGHTS) (with_rights SIGNAL) Refused)
     ≡ Some (item.Call 2 name.Dup (outcome.Answered status.AccessDenied), 30 ∷ 7 ∷ 0 ∷ 0 ∷ 0 ∷ 0 ∷ []))
     -- A copy can't have a right that the handle hasn't.
     × (Refuses (with_rights DUPLICATE) (dup 7 SIGNAL) (outcome.Answered status.InvalidArgs))
@@ -133,10 +133,10 @@ rows_of_dup :
     -- The bad handle comes before the wrong rights and the full table.
     × (Refuses (with_many 1024) (dup 2000 0x1_0000) (outcome.Answered status.BadHandle))
     -- A copy gets a value that isn't used.
-    × (told (turn (call.Dup 0 1 2 SIGNAL) (with_rights FIRST_RIGHTS) (Values (65535 ∷ [])))
+    × (told (turn (called name.Dup (0 ∷ 1 ∷ 2 ∷ []) SIGNAL) (with_rights FIRST_RIGHTS) (Values (65535 ∷ [])))
     ≡ Some (item.Call 2 name.Dup (outcome.Answered status.Ok), 0 ∷ 7 ∷ 65535 ∷ 0 ∷ 0 ∷ 0 ∷ []))
     -- The copy has the rights that were asked for, and the handle keeps its own.
-    × (table_of (after bare (turn (call.Dup 0 1 2 SIGNAL) (with_rights FIRST_RIGHTS) (Values (65535 ∷ [])))) 2
+    × (table_of (after bare (turn (called name.Dup (0 ∷ 1 ∷ 2 ∷ []) SIGNAL) (with_rights FIRST_RIGHTS) (Values (65535 ∷ [])))) 2
     ≡ (7, event_with FIRST_RIGHTS) ∷ (65535, event_with SIGNAL) ∷ [])
     -- No copy gets a value that is used.
     × (may_choose (with_rights FIRST_RIGHTS) (with_rights FIRST_RIGHTS) 2 (dup 7 SIGNAL) (7 ∷ []) ≡ false)
@@ -145,7 +145,7 @@ rows_of_dup :
     -- No copy gets a value above 65,535.
     × (may_choose (with_rights FIRST_RIGHTS) (with_rights FIRST_RIGHTS) 2 (dup 7 SIGNAL) (65536 ∷ []) ≡ false)
     -- Where memory is wanted, no handle is made.
-    × (told (turn (call.Dup 0 1 2 SIGNAL) (with_rights FIRST_RIGHTS) WantsMemory)
+    × (told (turn (called name.Dup (0 ∷ 1 ∷ 2 ∷ []) SIGNAL) (with_rights FIRST_RIGHTS) WantsMemory)
     ≡ Some (item.Call 2 name.Dup (outcome.Answered status.NoMemory), 4 ∷ 7 ∷ 0 ∷ 0 ∷ 0 ∷ 0 ∷ []))
 unfolding computing
 rows_of_dup = (refl, refl, refl, refl, refl, refl, refl, refl, refl, refl, refl, refl, refl, refl, refl, refl, refl, refl, refl, refl, refl)
@@ -158,12 +158,12 @@ rows_of_event_create :
     -- The policy denies new events.
     × (Refuses (bare_under condition.NewEvent action.Deny) event_create (outcome.Answered status.AccessDenied))
     -- The register of the event becomes 0.
-    × (told (turn (call.EventCreate 0 1) (bare_under condition.NewEvent action.Deny) Refused)
+    × (told (turn (called name.EventCreate (0 ∷ 1 ∷ []) 0) (bare_under condition.NewEvent action.Deny) Refused)
     ≡ Some (item.Call 2 name.EventCreate (outcome.Answered status.AccessDenied), 30 ∷ 0 ∷ 9 ∷ 0 ∷ 0 ∷ 0 ∷ []))
     -- The policy kills for new events.
     × (Refuses (bare_under condition.NewEvent action.Kill) event_create (outcome.Ended (negsuc 1025)))
     -- It has ended then.
-    × (state_of (after bare (turn (call.EventCreate 0 1) (bare_under condition.NewEvent action.Kill) Refused)) 2 ≡ Some (Ended (negsuc 1025)))
+    × (state_of (after bare (turn (called name.EventCreate (0 ∷ 1 ∷ []) 0) (bare_under condition.NewEvent action.Kill) Refused)) 2 ≡ Some (Ended (negsuc 1025)))
     -- A policy that allows new events.
     × (Passes (bare_under condition.NewEvent action.Allow) event_create)
     -- A policy for new channels says nothing of events.
@@ -183,17 +183,17 @@ rows_of_event_create :
     -- The policy comes before the full table.
     × (Refuses (world_of ((condition_number condition.NewEvent, action.Deny) ∷ []) (process_of [] (times 1024 (event_with FIRST_RIGHTS)) None)) event_create (outcome.Answered status.AccessDenied))
     -- The event's handle gets a value that isn't used.
-    × (told (turn (call.EventCreate 0 1) bare (Values (6 ∷ [])))
+    × (told (turn (called name.EventCreate (0 ∷ 1 ∷ []) 0) bare (Values (6 ∷ [])))
     ≡ Some (item.Call 2 name.EventCreate (outcome.Answered status.Ok), 0 ∷ 6 ∷ 9 ∷ 0 ∷ 0 ∷ 0 ∷ []))
     -- It names object 4, the next koid, with the rights of a first handle.
-    × (table_of (after bare (turn (call.EventCreate 0 1) bare (Values (6 ∷ [])))) 2
+    × (table_of (after bare (turn (called name.EventCreate (0 ∷ 1 ∷ []) 0) bare (Values (6 ∷ [])))) 2
     ≡ (6, record (event_with FIRST_RIGHTS) { koid = 4 }) ∷ [])
 unfolding computing
 rows_of_event_create = (refl, refl, refl, refl, refl, refl, refl, refl, refl, refl, refl, refl, refl, refl, refl, refl)
 
 -- Where the next koid is that of an object, here of the job, the event would take its place:
 -- so the laws of koids ask that each object's koid was given.
-create_at_used_koid : kind_at_1 (after bare (turn (call.EventCreate 0 1) (record bare { next_koid = 1 }) (Values (6 ∷ [])))) ≡ Some kind.Event
+create_at_used_koid : kind_at_1 (after bare (turn (called name.EventCreate (0 ∷ 1 ∷ []) 0) (record bare { next_koid = 1 }) (Values (6 ∷ [])))) ≡ Some kind.Event
 unfolding computing
 create_at_used_koid = refl
 
@@ -231,7 +231,7 @@ rows_of_signal_2 :
     -- The user signals may be set at a job.
     × (Passes with_job (signal 7 0 0x100_0000))
     -- The answer is a status alone.
-    × (told (turn (call.Signal 0 1 3 4) (record bare { processes = (2, process_of (9 ∷ 7 ∷ 9 ∷ 0 ∷ SIGNALED ∷ []) ((7, event_with SIGNAL) ∷ []) None) ∷ [] }) (Values []))
+    × (told (turn (called name.Signal (0 ∷ 1 ∷ 3 ∷ 4 ∷ []) 0) (record bare { processes = (2, process_of (9 ∷ 7 ∷ 9 ∷ 0 ∷ SIGNALED ∷ []) ((7, event_with SIGNAL) ∷ []) None) ∷ [] }) (Values []))
     ≡ Some (item.Call 2 name.Signal (outcome.Answered status.Ok), 0 ∷ 7 ∷ 9 ∷ 0 ∷ 8 ∷ 0 ∷ []))
     -- What is cleared and set stays set, as set comes last.
     × (active (effect [] (with_rights SIGNAL) (with_rights SIGNAL) 2 (signal 7 SIGNALED SIGNALED) []) 3 ≡ SIGNALED)
@@ -252,8 +252,8 @@ rows_of_process_exit :
     -- The largest code is 2^31 - 1.
     × (ok_outcome bare 2 (process_exit 0x7fff_ffff) ≡ outcome.Ended (pos 2147483647))
     -- The process has ended with the code of its register.
-    × (state_of (after bare (turn (call.ProcessExit 1) bare (Values []))) 2 ≡ Some (Ended (pos 5)))
+    × (state_of (after bare (turn (called name.ProcessExit (1 ∷ []) 0) bare (Values []))) 2 ≡ Some (Ended (pos 5)))
     -- Its handles are closed, so the event goes, and its job too, which nothing else keeps.
-    × ((after bare (turn (call.ProcessExit 1) (with_rights FIRST_RIGHTS) (Values []))).objects ≡ [])
+    × ((after bare (turn (called name.ProcessExit (1 ∷ []) 0) (with_rights FIRST_RIGHTS) (Values []))).objects ≡ [])
 unfolding computing
 rows_of_process_exit = (refl, refl, refl, refl, refl, refl, refl)

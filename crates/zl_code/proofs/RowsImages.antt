@@ -1,12 +1,13 @@
 -- The table of instructions, and images with declarations and messages, by computation.
-use Rattle.zl_code.proofs.Common.{◌≡◌, ℕ, zero, suc, ◌+◌, true, List, [], ◌∷◌, ◌++◌, map, length, refl, replicate, Some, None, nat_le, slice_set, false, list_all, rights_of, Image, row_of, Spells, local_parts, call_parts, first_fault, header_fault, start_fault, slot_fault, instr_fault, pieces, rows}
+use Rattle.zl_code.proofs.Common.{◌≡◌, ℕ, zero, suc, ◌+◌, true, List, [], ◌∷◌, ◌++◌, map, length, refl, replicate, Some, None, nat_le, slice_set, false, list_all, rights_of, Image, row_of, Spells, local_parts, first_fault, header_fault, start_fault, slot_fault, instr_fault, pieces, rows}
 use Rattle.zl_rights.specs.declared.kind.Kind.TheVariants as kind
 use Rattle.zl_rights.specs.declared.policy.Condition.TheVariants as condition
 use Rattle.zl_code.specs.declared.image.DecodeFault.{DecodeFault}
 use Rattle.zl_code.specs.declared.image.DecodeFault.TheVariants as fault
 use Rattle.zl_code.specs.declared.instr.Instr.TheVariants as instr
 use Rattle.zl_code.specs.declared.instr.LocalInstr.TheVariants as local
-use Rattle.zl_code.specs.declared.instr.CallInstr.TheVariants as call
+use Rattle.zl_code.specs.declared.history.CallName.TheVariants as name
+use Rattle.zl_code.proofs.Called.{called, sending}
 
 -- ---- the table
 
@@ -91,9 +92,8 @@ messages_spelled : Spells messages (record declared_image {
   needs = [];
   starts = [];
   slots = [];
-  code = instr.Call (call.ChanWrite 1 2 3 4 (record { places = 5 ∷ 6 ∷ replicate 6 255 })) ∷ instr.Call (call.ChanReadEtc 1 2 3 4 5 6 8 8) ∷ [];
+  code = instr.Call (sending (1 ∷ 2 ∷ 3 ∷ 4 ∷ []) (5 ∷ 6 ∷ [])) ∷ instr.Call (called name.ChanReadEtc (1 ∷ 2 ∷ 3 ∷ 4 ∷ 5 ∷ 6 ∷ 8 ∷ []) 8) ∷ [];
 })
-unfolding call_parts
 messages_spelled = record { same = refl; in_range = refl }
 
 rows_of_messages :

@@ -1,17 +1,17 @@
 -- The stored run: its bytes, its boot world and its history, by computation.
-use Rattle.zl_code.proofs.Common.{◌≡◌, ℕ, List, [], ◌∷◌, refl, Some, true, false, pos, World, Ended, Image, Library, Spells, local_parts, call_parts, Choice, Refused, Values, IsLegalHistory, IsBoot, boot_fault, boot_effect, origin, settled_in, Settles-by}
+use Rattle.zl_code.proofs.Common.{◌≡◌, ℕ, List, [], ◌∷◌, refl, Some, true, false, pos, World, Ended, Image, Library, Spells, local_parts, Choice, Refused, Values, IsLegalHistory, IsBoot, boot_fault, boot_effect, origin, settled_in, Settles-by}
 use Rattle.zl_rights.specs.declared.status.Status.TheVariants as status
 use Rattle.zl_code.specs.declared.boot.Statement.{Statement}
 use Rattle.zl_code.specs.declared.boot.Statement.TheVariants as statement
 use Rattle.zl_code.specs.declared.instr.Instr.TheVariants as instr
 use Rattle.zl_code.specs.declared.instr.LocalInstr.TheVariants as local
-use Rattle.zl_code.specs.declared.instr.CallInstr.TheVariants as call
 use Rattle.zl_code.specs.declared.history.CallName.TheVariants as name
 use Rattle.zl_code.specs.declared.history.Outcome.TheVariants as outcome
 use Rattle.zl_code.specs.declared.history.TraceItem.{TraceItem}
 use Rattle.zl_code.specs.declared.history.TraceItem.TheVariants as item
 use Rattle.zl_code.proofs.Running.{run_by, IsLegalHistory-by, computing, world_after}
 use Rattle.zl_code.proofs.RowsWords.{state_of}
+use Rattle.zl_code.proofs.Called.{called}
 
 -- ---- the program
 
@@ -36,20 +36,20 @@ image = record {
   starts = [];
   slots = [];
   code =
-      instr.Call (call.EventCreate 2 3)
+      instr.Call (called name.EventCreate (2 ∷ 3 ∷ []) 0)
       ∷ instr.Local (local.Const 5 8)
-      ∷ instr.Call (call.Signal 2 3 0 5)
-      ∷ instr.Call (call.Dup 2 3 4 0x8000_0000)
-      ∷ instr.Call (call.Close 2 3)
-      ∷ instr.Call (call.Close 2 4)
-      ∷ instr.Call (call.Close 2 4)
-      ∷ instr.Call (call.ProcessExit 0)
+      ∷ instr.Call (called name.Signal (2 ∷ 3 ∷ 0 ∷ 5 ∷ []) 0)
+      ∷ instr.Call (called name.Dup (2 ∷ 3 ∷ 4 ∷ []) 0x8000_0000)
+      ∷ instr.Call (called name.Close (2 ∷ 3 ∷ []) 0)
+      ∷ instr.Call (called name.Close (2 ∷ 4 ∷ []) 0)
+      ∷ instr.Call (called name.Close (2 ∷ 4 ∷ []) 0)
+      ∷ instr.Call (called name.ProcessExit (0 ∷ []) 0)
       ∷ [];
 }
 
 -- The 148 bytes are those of the image of eight instructions.
 bytes_spell_image : Spells bytes image
-unfolding local_parts call_parts
+unfolding local_parts
 bytes_spell_image = record { same = refl; in_range = refl }
 
 -- ---- its run

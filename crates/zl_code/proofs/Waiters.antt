@@ -217,7 +217,10 @@ module _ (lib : Library) (w : World) (p : ℕ) where
 
   replace_refuses : (h rights : ℕ) → refuses (refusal lib w p (replace h rights)) ≡ true
   unfolding refusal
-  replace_refuses h rights = first_refuses _ _ (examined_refuses [] (handle_operands (replace h rights))) (first_refuses _ _ (policy_refuses (condition_of (replace h rights))) (listed_refuses h rights))
+  replace_refuses h rights =
+      let r : Request = replace h rights in
+      first_refuses _ _ (examined_refuses [] (handle_operands r))
+      (first_refuses (by_policy w p (condition_of r)) (listed lib w p r) (policy_refuses (condition_of r)) (listed_refuses h rights))
 
   -- a refusal takes no wait away
   refused_waits : (ws : List Wait) (r : Request) (o : Outcome) → refusal lib w p r ≡ Some o → waits_after r o p ws ≡ ws

@@ -21,10 +21,9 @@ use Rattle.zl_code.specs.declared.instr.Instr.TheVariants as instr
 use Rattle.zl_code.specs.declared.instr.LocalInstr.{LocalInstr}
 use Rattle.zl_code.specs.declared.instr.LocalInstr.TheVariants as local
 use Rattle.zl_code.specs.declared.instr.CallInstr.{CallInstr}
-use Rattle.zl_code.specs.declared.instr.CallInstr.TheVariants as call
 use Rattle.zl_code.specs.Limits.{most_instructions, most_memory, most_budget, most_starts, most_slot_arrays, most_places, register_count, most_registers, most_handles, no_register, header_length, declaration_length, instruction_length}
 use Rattle.zl_code.specs.Image.{Image, is_among}
-use Rattle.zl_code.specs.Instructions.{Layout, layout_of}
+use Rattle.zl_code.specs.Instructions.{Layout, call_row, layout_in, layout_of}
 
 -- ---- numbers as bytes
 
@@ -38,24 +37,24 @@ abbrev pub bytes_of : ℕ → ℕ → List ℕ
 bytes_of zero v = []
 bytes_of (suc n) v = v % 256 ∷ bytes_of n (v / 256)
 
--- ---- the parts of an instruction
+-- the number in the bytes from the offset on
+abbrev pub number_at : List ℕ → ℕ → ℕ → ℕ
+number_at bytes offset n = number_of (take n (drop offset bytes))
 
--- what stands in the last eight bytes: a number with a target, the room in handles, or a list of handles
-pub data Last : Type 0 where
-  Numbers : (imm target : ℕ) → Last
-  Room : (handles : ℕ) → Last
-  Places : (places : List ℕ) → Last
+-- ---- the parts of a local instruction
 
--- what the 16 bytes of an instruction are made of
+-- what the 16 bytes of a local instruction are made of
 pub record Parts : Type 0 where
   pub opcode : ℕ
   -- the registers that are used, from the first on
   pub registers : List ℕ
-  pub last : Last
+  -- the number and the target in the last eight bytes
+  pub imm : ℕ
+  pub target : ℕ
 
--- an instruction that ends with a number and a target
+-- the parts one by one
 abbrev pub parts : ℕ → List ℕ → ℕ → ℕ → Parts
-parts opcode registers imm target = record { opcode = opcode; registers = registers; last = Numbers imm target }
+parts opcode registers imm target = record { opcode = opcode; registers = registers; imm = imm; target = target }
 
 -- the parts of each local instruction, in the order of the table; what it has no use for is 0
 unfoldable pub local_parts : LocalInstr → Parts
@@ -85,32 +84,6 @@ local_parts (local.JumpNotBelow a imm target) = parts 23 (a ∷ []) imm target
 local_parts (local.JumpHas a imm target) = parts 24 (a ∷ []) imm target
 local_parts (local.JumpHasNot a imm target) = parts 25 (a ∷ []) imm target
 
--- the parts of each system call, in the order of the table
-unfoldable pub call_parts : CallInstr → Parts
-call_parts (call.Close a b) = parts 64 (a ∷ b ∷ []) 0 0
-call_parts (call.Dup a b c imm) = parts 65 (a ∷ b ∷ c ∷ []) imm 0
-call_parts (call.Replace a b c imm) = parts 66 (a ∷ b ∷ c ∷ []) imm 0
-call_parts (call.ChanCreate a b c) = parts 67 (a ∷ b ∷ c ∷ []) 0 0
-call_parts (call.ChanWrite a b c d hs) = record { opcode = 68; registers = a ∷ b ∷ c ∷ d ∷ []; last = Places hs.places }
-call_parts (call.ChanReadEtc a b c d e f g imm) = record { opcode = 69; registers = a ∷ b ∷ c ∷ d ∷ e ∷ f ∷ g ∷ []; last = Room imm }
-call_parts (call.EventCreate a b) = parts 70 (a ∷ b ∷ []) 0 0
-call_parts (call.Signal a b c d) = parts 71 (a ∷ b ∷ c ∷ d ∷ []) 0 0
-call_parts (call.SignalPeer a b c d) = parts 72 (a ∷ b ∷ c ∷ d ∷ []) 0 0
-call_parts (call.WaitOne a b c d) = parts 73 (a ∷ b ∷ c ∷ d ∷ []) 0 0
-call_parts (call.WaitPoll a b c d) = parts 74 (a ∷ b ∷ c ∷ d ∷ []) 0 0
-call_parts (call.WaitAsync a b c d e) = parts 75 (a ∷ b ∷ c ∷ d ∷ e ∷ []) 0 0
-call_parts (call.PortCreate a b) = parts 76 (a ∷ b ∷ []) 0 0
-call_parts (call.PortQueue a b c d) = parts 77 (a ∷ b ∷ c ∷ d ∷ []) 0 0
-call_parts (call.PortWait a b c d e f) = parts 78 (a ∷ b ∷ c ∷ d ∷ e ∷ f ∷ []) 0 0
-call_parts (call.PortPoll a b c d e f) = parts 79 (a ∷ b ∷ c ∷ d ∷ e ∷ f ∷ []) 0 0
-call_parts (call.PortCancel a b c d) = parts 80 (a ∷ b ∷ c ∷ d ∷ []) 0 0
-call_parts (call.ProcessCreate a b c d) = parts 81 (a ∷ b ∷ c ∷ d ∷ []) 0 0
-call_parts (call.ProcessStart a b c d) = parts 82 (a ∷ b ∷ c ∷ d ∷ []) 0 0
-call_parts (call.ProcessExit a) = parts 83 (a ∷ []) 0 0
-call_parts (call.TaskKill a b) = parts 84 (a ∷ b ∷ []) 0 0
-call_parts (call.JobCreate a b c) = parts 85 (a ∷ b ∷ c ∷ []) 0 0
-call_parts (call.JobSetPolicy a b c d e) = parts 86 (a ∷ b ∷ c ∷ d ∷ e ∷ []) 0 0
-
 -- ---- the bytes of an instruction
 
 -- the seven registers, 0 where none is used
@@ -121,23 +94,13 @@ seven registers = take most_registers (registers ++ replicate most_registers 0)
 abbrev pub fields : ℕ → List ℕ → ℕ → ℕ → List ℕ
 fields opcode registers imm target = opcode ∷ (seven registers ++ (bytes_of 4 imm ++ bytes_of 4 target))
 
--- the last eight bytes of an instruction
-abbrev pub last_bytes : Last → List ℕ
-last_bytes (Numbers imm target) = bytes_of 4 imm ++ bytes_of 4 target
-last_bytes (Room handles) = bytes_of 4 handles ++ bytes_of 4 0
-last_bytes (Places places) = places
-
--- the 16 bytes of an instruction with these parts
-abbrev pub parts_bytes : Parts → List ℕ
-parts_bytes p = p.opcode ∷ (seven p.registers ++ last_bytes p.last)
-
 -- the 16 bytes of a local instruction
 abbrev pub local_bytes : LocalInstr → List ℕ
-local_bytes i = parts_bytes (local_parts i)
+local_bytes i = let p = local_parts i in fields p.opcode p.registers p.imm p.target
 
--- the 16 bytes of a system call
+-- the 16 bytes of a system call: the opcode of its row, seven registers, and eight bytes that its row says how to read
 abbrev pub call_bytes : CallInstr → List ℕ
-call_bytes i = parts_bytes (call_parts i)
+call_bytes i = (call_row i.name).opcode ∷ (i.registers ++ i.last)
 
 -- the 16 bytes of an instruction
 abbrev pub instr_bytes : Instr → List ℕ
@@ -173,23 +136,47 @@ abbrev pub register_in : Option ℕ → Option ℕ
 register_in None = None
 register_in (Some b) = if nat_lt b register_count then Some b else None
 
--- the last eight bytes have room for what stands there, and each register that they name is one
-abbrev pub is_last_in_range : List ℕ → Last → Bool
-is_last_in_range registers (Numbers imm target) = is_32_bits imm && is_32_bits target
-is_last_in_range registers (Room handles) = is_room (slice_index registers 6) handles
-is_last_in_range registers (Places places) = (length places == most_handles) && (are_places places && is_packed places)
-
--- an instruction with these parts can stand in an image
-abbrev pub are_parts_in_range : Parts → Bool
-are_parts_in_range p = is_last_in_range p.registers p.last && are_registers p.registers
-
 -- the local instruction can stand in an image
 abbrev pub is_local_in_range : LocalInstr → Bool
-is_local_in_range i = are_parts_in_range (local_parts i)
+is_local_in_range i = let p = local_parts i in (is_32_bits p.imm && is_32_bits p.target) && are_registers p.registers
 
--- the system call can stand in an image
+-- what is read of the 16 bytes of an instruction behind its opcode
+pub record Reading : Type 0 where
+  pub registers : List ℕ
+  pub imm : ℕ
+  pub target : ℕ
+  pub places : List ℕ
+
+-- what is read of a system call
+abbrev pub call_reading : CallInstr → Reading
+call_reading i = record { registers = i.registers; imm = number_at i.last 0 4; target = number_at i.last 4 4; places = i.last }
+
+-- each register that the last eight bytes name is there
+abbrev pub names_registers : Ending → Reading → Bool
+names_registers ending.Room r = is_room (slice_index r.registers 6) r.imm
+names_registers ending.Handles r = are_places r.places
+names_registers _ r = true
+
+-- what isn't used of the last eight bytes is 0
+abbrev pub is_ending_clear : Ending → Reading → Bool
+is_ending_clear ending.Nothing r = (r.imm == 0) && (r.target == 0)
+is_ending_clear ending.Number r = r.target == 0
+is_ending_clear ending.Room r = r.target == 0
+is_ending_clear ending.Target r = r.imm == 0
+is_ending_clear ending.Both r = true
+is_ending_clear ending.Handles r = is_packed r.places
+
+-- what the layout doesn't use is 0
+abbrev pub is_unused_zero : Layout → Reading → Bool
+is_unused_zero l r = list_all (λ b. b == 0) (drop l.registers r.registers) && is_ending_clear l.ending r
+
+-- the system call can stand in an image: it has its seven registers and eight bytes, and they have no fault by its row
 abbrev pub is_call_in_range : CallInstr → Bool
-is_call_in_range i = are_parts_in_range (call_parts i)
+is_call_in_range i =
+    ((length i.registers == most_registers) && ((length i.last == most_handles) && list_all (λ b. nat_lt b 256) i.last))
+    && (are_registers i.registers
+    && (names_registers (call_row i.name).ending (call_reading i)
+    && is_unused_zero (layout_in (call_row i.name)) (call_reading i)))
 
 -- the fields of the instruction are in their ranges; an unknown opcode stands under the raw mark alone
 abbrev pub is_instr_in_range : Bool → Instr → Bool
@@ -293,10 +280,6 @@ pub record Spells (bytes : List ℕ) (i : Image) : Type 0 where
 
 -- ---- the first fault of bytes
 
--- the number in the bytes from the offset on
-abbrev pub number_at : List ℕ → ℕ → ℕ → ℕ
-number_at bytes offset n = number_of (take n (drop offset bytes))
-
 -- how many instructions the header says that there are
 abbrev pub count_at : List ℕ → ℕ
 count_at bytes = number_at bytes 6 2
@@ -383,35 +366,9 @@ slot_fault bytes = then_some (not (has_length bytes && has_rights bytes)) fault.
 abbrev pub registers_at : List ℕ → List ℕ
 registers_at bytes = take most_registers (drop 1 bytes)
 
--- what is read of the 16 bytes of an instruction behind its opcode
-pub record Reading : Type 0 where
-  pub registers : List ℕ
-  pub imm : ℕ
-  pub target : ℕ
-  pub places : List ℕ
-
 -- the fields of the 16 bytes, whichever of them the instruction uses
 abbrev pub reading_of : List ℕ → Reading
 reading_of bytes = record { registers = registers_at bytes; imm = number_at bytes 8 4; target = number_at bytes 12 4; places = drop 8 bytes }
-
--- each register that the last eight bytes name is there
-abbrev pub names_registers : Ending → Reading → Bool
-names_registers ending.Room r = is_room (slice_index r.registers 6) r.imm
-names_registers ending.Handles r = are_places r.places
-names_registers _ r = true
-
--- what isn't used of the last eight bytes is 0
-abbrev pub is_ending_clear : Ending → Reading → Bool
-is_ending_clear ending.Nothing r = (r.imm == 0) && (r.target == 0)
-is_ending_clear ending.Number r = r.target == 0
-is_ending_clear ending.Room r = r.target == 0
-is_ending_clear ending.Target r = r.imm == 0
-is_ending_clear ending.Both r = true
-is_ending_clear ending.Handles r = is_packed r.places
-
--- what the layout doesn't use is 0
-abbrev pub is_unused_zero : Layout → Reading → Bool
-is_unused_zero l r = list_all (λ b. b == 0) (drop l.registers r.registers) && is_ending_clear l.ending r
 
 -- the fault of an instruction by the layout of its opcode; only the raw mark lets pass one that has none
 abbrev pub fault_by : Bool → Reading → Option Layout → Option DecodeFault

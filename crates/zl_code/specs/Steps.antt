@@ -10,7 +10,7 @@ use Rattle.zl_code.specs.declared.history.TraceItem.{TraceItem}
 use Rattle.zl_code.specs.declared.history.TraceItem.TheVariants as item
 use Rattle.zl_code.specs.Image.{Library, Program, Image, instr_at}
 use Rattle.zl_code.specs.Local.{local_effect}
-use Rattle.zl_code.specs.Request.{Site, site_of, name_of}
+use Rattle.zl_code.specs.Request.{Site, site_of}
 use Rattle.zl_code.specs.Effects.{on_process, ended}
 use Rattle.zl_code.specs.Calls.{Calls}
 
@@ -37,7 +37,7 @@ calls_at call (Some s) = AtCall call s
 abbrev pub next_of : Option Instr → Cpu → Next
 next_of None c = IsStuck
 next_of (Some (instr.Local i)) c = moves (local_effect i c)
-next_of (Some (instr.Call i)) c = calls_at (name_of i) (site_of i c)
+next_of (Some (instr.Call i)) c = calls_at i.name (site_of i c)
 next_of (Some (instr.Unknown bytes)) c = IsStuck
 
 -- what the Cpu does next

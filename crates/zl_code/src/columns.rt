@@ -1,20 +1,10 @@
 //! What each instruction does with its registers and the last eight bytes, under its name; local
 //! instructions that have the same stand under the name of the first of them.
 
-use crate::layout::{Ending, Field, Kinds};
+use crate::layout::{Columns, Ending, Field, Kinds};
 use zl_rights::{Condition, Kind, Rights};
 
-/// What a row has beside opcode and name.
-#[derive(Clone, Copy)]
-pub(crate) struct Columns {
-    pub fields: &'static [Field],
-    pub ending: Ending,
-    pub condition: Option<Condition>,
-    pub grows: bool,
-    pub in_list: Option<Field>,
-}
-
-pub(crate) const CONST: Columns = Columns {
+pub(crate) const CONST: &'static Columns = &Columns {
     fields: &[Field::Writes],
     ending: Ending::Number,
     condition: None,
@@ -22,7 +12,7 @@ pub(crate) const CONST: Columns = Columns {
     in_list: None,
 };
 
-pub(crate) const MOV: Columns = Columns {
+pub(crate) const MOV: &'static Columns = &Columns {
     fields: &[Field::Writes, Field::Reads],
     ending: Ending::Nothing,
     condition: None,
@@ -30,7 +20,7 @@ pub(crate) const MOV: Columns = Columns {
     in_list: None,
 };
 
-pub(crate) const ADD: Columns = Columns {
+pub(crate) const ADD: &'static Columns = &Columns {
     fields: &[Field::Writes, Field::Reads, Field::Reads],
     ending: Ending::Nothing,
     condition: None,
@@ -38,7 +28,7 @@ pub(crate) const ADD: Columns = Columns {
     in_list: None,
 };
 
-pub(crate) const ADDI: Columns = Columns {
+pub(crate) const ADDI: &'static Columns = &Columns {
     fields: &[Field::Writes, Field::Reads],
     ending: Ending::Number,
     condition: None,
@@ -46,7 +36,7 @@ pub(crate) const ADDI: Columns = Columns {
     in_list: None,
 };
 
-pub(crate) const TAKE: Columns = Columns {
+pub(crate) const TAKE: &'static Columns = &Columns {
     fields: &[Field::Writes, Field::Changes],
     ending: Ending::Nothing,
     condition: None,
@@ -54,7 +44,7 @@ pub(crate) const TAKE: Columns = Columns {
     in_list: None,
 };
 
-pub(crate) const SWAP: Columns = Columns {
+pub(crate) const SWAP: &'static Columns = &Columns {
     fields: &[Field::Changes, Field::Reads],
     ending: Ending::Number,
     condition: None,
@@ -62,7 +52,7 @@ pub(crate) const SWAP: Columns = Columns {
     in_list: None,
 };
 
-pub(crate) const ST8: Columns = Columns {
+pub(crate) const ST8: &'static Columns = &Columns {
     fields: &[Field::Reads, Field::Reads],
     ending: Ending::Number,
     condition: None,
@@ -70,7 +60,7 @@ pub(crate) const ST8: Columns = Columns {
     in_list: None,
 };
 
-pub(crate) const JMP: Columns = Columns {
+pub(crate) const JMP: &'static Columns = &Columns {
     fields: &[],
     ending: Ending::Target,
     condition: None,
@@ -78,7 +68,7 @@ pub(crate) const JMP: Columns = Columns {
     in_list: None,
 };
 
-pub(crate) const JZ: Columns = Columns {
+pub(crate) const JZ: &'static Columns = &Columns {
     fields: &[Field::Reads],
     ending: Ending::Target,
     condition: None,
@@ -86,7 +76,7 @@ pub(crate) const JZ: Columns = Columns {
     in_list: None,
 };
 
-pub(crate) const JEQ: Columns = Columns {
+pub(crate) const JEQ: &'static Columns = &Columns {
     fields: &[Field::Reads],
     ending: Ending::Both,
     condition: None,
@@ -94,7 +84,7 @@ pub(crate) const JEQ: Columns = Columns {
     in_list: None,
 };
 
-pub(crate) const CLOSE: Columns = Columns {
+pub(crate) const CLOSE: &'static Columns = &Columns {
     fields: &[Field::Writes, Field::Closes],
     ending: Ending::Nothing,
     condition: None,
@@ -102,7 +92,7 @@ pub(crate) const CLOSE: Columns = Columns {
     in_list: None,
 };
 
-pub(crate) const DUP: Columns = Columns {
+pub(crate) const DUP: &'static Columns = &Columns {
     fields: &[
         Field::Writes,
         Field::Names(Kinds::Any, Rights::DUPLICATE),
@@ -114,7 +104,7 @@ pub(crate) const DUP: Columns = Columns {
     in_list: None,
 };
 
-pub(crate) const REPLACE: Columns = Columns {
+pub(crate) const REPLACE: &'static Columns = &Columns {
     fields: &[
         Field::Writes,
         Field::Consumes(Kinds::Any, Rights::NONE),
@@ -126,7 +116,7 @@ pub(crate) const REPLACE: Columns = Columns {
     in_list: None,
 };
 
-pub(crate) const CHAN_CREATE: Columns = Columns {
+pub(crate) const CHAN_CREATE: &'static Columns = &Columns {
     fields: &[Field::Writes, Field::Writes, Field::Writes],
     ending: Ending::Nothing,
     condition: Some(Condition::NewChannel),
@@ -134,7 +124,7 @@ pub(crate) const CHAN_CREATE: Columns = Columns {
     in_list: None,
 };
 
-pub(crate) const CHAN_WRITE: Columns = Columns {
+pub(crate) const CHAN_WRITE: &'static Columns = &Columns {
     fields: &[
         Field::Writes,
         Field::Names(Kinds::Only(Kind::Channel), Rights::WRITE),
@@ -147,7 +137,7 @@ pub(crate) const CHAN_WRITE: Columns = Columns {
     in_list: Some(Field::Consumes(Kinds::Any, Rights::TRANSFER)),
 };
 
-pub(crate) const CHAN_READ_ETC: Columns = Columns {
+pub(crate) const CHAN_READ_ETC: &'static Columns = &Columns {
     fields: &[
         Field::Writes,
         Field::Names(Kinds::Only(Kind::Channel), Rights::READ),
@@ -163,7 +153,7 @@ pub(crate) const CHAN_READ_ETC: Columns = Columns {
     in_list: None,
 };
 
-pub(crate) const EVENT_CREATE: Columns = Columns {
+pub(crate) const EVENT_CREATE: &'static Columns = &Columns {
     fields: &[Field::Writes, Field::Writes],
     ending: Ending::Nothing,
     condition: Some(Condition::NewEvent),
@@ -171,7 +161,7 @@ pub(crate) const EVENT_CREATE: Columns = Columns {
     in_list: None,
 };
 
-pub(crate) const SIGNAL: Columns = Columns {
+pub(crate) const SIGNAL: &'static Columns = &Columns {
     fields: &[
         Field::Writes,
         Field::Names(Kinds::Any, Rights::SIGNAL),
@@ -184,7 +174,7 @@ pub(crate) const SIGNAL: Columns = Columns {
     in_list: None,
 };
 
-pub(crate) const SIGNAL_PEER: Columns = Columns {
+pub(crate) const SIGNAL_PEER: &'static Columns = &Columns {
     fields: &[
         Field::Writes,
         Field::Names(Kinds::Only(Kind::Channel), Rights::SIGNAL_PEER),
@@ -197,7 +187,7 @@ pub(crate) const SIGNAL_PEER: Columns = Columns {
     in_list: None,
 };
 
-pub(crate) const WAIT_ONE: Columns = Columns {
+pub(crate) const WAIT_ONE: &'static Columns = &Columns {
     fields: &[
         Field::Writes,
         Field::Names(Kinds::Any, Rights::WAIT),
@@ -210,7 +200,7 @@ pub(crate) const WAIT_ONE: Columns = Columns {
     in_list: None,
 };
 
-pub(crate) const WAIT_POLL: Columns = Columns {
+pub(crate) const WAIT_POLL: &'static Columns = &Columns {
     fields: &[
         Field::Writes,
         Field::Names(Kinds::Any, Rights::WAIT),
@@ -223,7 +213,7 @@ pub(crate) const WAIT_POLL: Columns = Columns {
     in_list: None,
 };
 
-pub(crate) const WAIT_ASYNC: Columns = Columns {
+pub(crate) const WAIT_ASYNC: &'static Columns = &Columns {
     fields: &[
         Field::Writes,
         Field::Names(Kinds::Any, Rights::WAIT),
@@ -237,7 +227,7 @@ pub(crate) const WAIT_ASYNC: Columns = Columns {
     in_list: None,
 };
 
-pub(crate) const PORT_CREATE: Columns = Columns {
+pub(crate) const PORT_CREATE: &'static Columns = &Columns {
     fields: &[Field::Writes, Field::Writes],
     ending: Ending::Nothing,
     condition: Some(Condition::NewPort),
@@ -245,7 +235,7 @@ pub(crate) const PORT_CREATE: Columns = Columns {
     in_list: None,
 };
 
-pub(crate) const PORT_QUEUE: Columns = Columns {
+pub(crate) const PORT_QUEUE: &'static Columns = &Columns {
     fields: &[
         Field::Writes,
         Field::Names(Kinds::Only(Kind::Port), Rights::WRITE),
@@ -258,7 +248,7 @@ pub(crate) const PORT_QUEUE: Columns = Columns {
     in_list: None,
 };
 
-pub(crate) const PORT_WAIT: Columns = Columns {
+pub(crate) const PORT_WAIT: &'static Columns = &Columns {
     fields: &[
         Field::Writes,
         Field::Names(Kinds::Only(Kind::Port), Rights::READ),
@@ -273,7 +263,7 @@ pub(crate) const PORT_WAIT: Columns = Columns {
     in_list: None,
 };
 
-pub(crate) const PORT_POLL: Columns = Columns {
+pub(crate) const PORT_POLL: &'static Columns = &Columns {
     fields: &[
         Field::Writes,
         Field::Names(Kinds::Only(Kind::Port), Rights::READ),
@@ -288,7 +278,7 @@ pub(crate) const PORT_POLL: Columns = Columns {
     in_list: None,
 };
 
-pub(crate) const PORT_CANCEL: Columns = Columns {
+pub(crate) const PORT_CANCEL: &'static Columns = &Columns {
     fields: &[
         Field::Writes,
         Field::Names(Kinds::Only(Kind::Port), Rights::WRITE),
@@ -301,7 +291,7 @@ pub(crate) const PORT_CANCEL: Columns = Columns {
     in_list: None,
 };
 
-pub(crate) const PROCESS_CREATE: Columns = Columns {
+pub(crate) const PROCESS_CREATE: &'static Columns = &Columns {
     fields: &[
         Field::Writes,
         Field::Names(Kinds::Only(Kind::Job), Rights::MANAGE_PROCESS),
@@ -314,7 +304,7 @@ pub(crate) const PROCESS_CREATE: Columns = Columns {
     in_list: None,
 };
 
-pub(crate) const PROCESS_START: Columns = Columns {
+pub(crate) const PROCESS_START: &'static Columns = &Columns {
     fields: &[
         Field::Writes,
         Field::Names(Kinds::Only(Kind::Process), Rights::WRITE),
@@ -327,7 +317,7 @@ pub(crate) const PROCESS_START: Columns = Columns {
     in_list: None,
 };
 
-pub(crate) const PROCESS_EXIT: Columns = Columns {
+pub(crate) const PROCESS_EXIT: &'static Columns = &Columns {
     fields: &[Field::Reads],
     ending: Ending::Nothing,
     condition: None,
@@ -335,7 +325,7 @@ pub(crate) const PROCESS_EXIT: Columns = Columns {
     in_list: None,
 };
 
-pub(crate) const TASK_KILL: Columns = Columns {
+pub(crate) const TASK_KILL: &'static Columns = &Columns {
     fields: &[Field::Writes, Field::Names(Kinds::Tasks, Rights::DESTROY)],
     ending: Ending::Nothing,
     condition: None,
@@ -343,7 +333,7 @@ pub(crate) const TASK_KILL: Columns = Columns {
     in_list: None,
 };
 
-pub(crate) const JOB_CREATE: Columns = Columns {
+pub(crate) const JOB_CREATE: &'static Columns = &Columns {
     fields: &[
         Field::Writes,
         Field::Names(Kinds::Only(Kind::Job), Rights::MANAGE_JOB),
@@ -355,7 +345,7 @@ pub(crate) const JOB_CREATE: Columns = Columns {
     in_list: None,
 };
 
-pub(crate) const JOB_SET_POLICY: Columns = Columns {
+pub(crate) const JOB_SET_POLICY: &'static Columns = &Columns {
     fields: &[
         Field::Writes,
         Field::Names(Kinds::Only(Kind::Job), Rights::SET_POLICY),

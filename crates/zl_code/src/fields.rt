@@ -10,7 +10,7 @@ ghost use Rattle.zl_code.specs.Fields.{read_in};
 
 use crate::image::DecodeFault;
 use crate::instr::{HandleList, Instr};
-use crate::instr_bytes::InstrBytes;
+use crate::instr_bytes::{InstrBytes, imm_in, target_in};
 use crate::layout::{Ending, Row};
 use crate::register::Register;
 
@@ -18,17 +18,25 @@ use crate::register::Register;
 #[derive(Clone, Copy)]
 pub(crate) struct Fields {
     pub opcode: u8,
-    pub a: Register,
-    pub b: Register,
-    pub c: Register,
-    pub d: Register,
-    pub e: Register,
-    pub f: Register,
-    pub g: Register,
-    pub imm: u32,
-    pub target: u32,
-    /// The last eight bytes again, as the places of a list of handles.
-    pub places: [u8; HandleList::MOST],
+    pub registers: [Register; InstrBytes::REGISTERS],
+    /// A number and a target, or the places of a list of handles.
+    pub last: [u8; HandleList::MOST],
+}
+
+impl Fields {
+    /// The number in the last eight bytes.
+    pub fn imm(self) -> u32
+        ensures { result ≡ (read_in self).imm }
+    {
+        imm_in(self.last)
+    }
+
+    /// The target in the last eight bytes.
+    pub fn target(self) -> u32
+        ensures { result ≡ (read_in self).target }
+    {
+        target_in(self.last)
+    }
 }
 
 /// The register of this number.
@@ -45,27 +53,28 @@ fn register(number: u8) -> Result<Register, DecodeFault>
 pub(crate) fn fields_of(bytes: [u8; Instr::LEN]) -> Result<Fields, DecodeFault>
     ensures opcode { IfOk result (λ fields. fields.opcode ≡ slice_index bytes 0) }
     ensures registers { IfOk result (λ fields. (read_in fields).registers ≡ registers_at bytes) }
-    ensures imm { IfOk result (λ fields. fields.imm ≡ number_at bytes 8 4) }
-    ensures target { IfOk result (λ fields. fields.target ≡ number_at bytes 12 4) }
-    ensures places { IfOk result (λ fields. fields.places ≡ drop 8 bytes) }
+    ensures imm { IfOk result (λ fields. (read_in fields).imm ≡ number_at bytes 8 4) }
+    ensures target { IfOk result (λ fields. (read_in fields).target ≡ number_at bytes 12 4) }
+    ensures places { IfOk result (λ fields. (read_in fields).places ≡ drop 8 bytes) }
     ensures in_range { OnOk result (are_registers (registers_at bytes) ≡ true) }
     ensures fault { IfErr result (λ fault.
         (fault ≡ faults.BadRegister) × (are_registers (registers_at bytes) ≡ false)) }
 {
     let parts = InstrBytes::split(bytes);
     let [a, b, c, d, e, f, g] = parts.registers;
+    let registers = [
+        register(a)?,
+        register(b)?,
+        register(c)?,
+        register(d)?,
+        register(e)?,
+        register(f)?,
+        register(g)?,
+    ];
     Ok(Fields {
         opcode: parts.opcode,
-        a: register(a)?,
-        b: register(b)?,
-        c: register(c)?,
-        d: register(d)?,
-        e: register(e)?,
-        f: register(f)?,
-        g: register(g)?,
-        imm: parts.imm(),
-        target: parts.target(),
-        places: parts.last,
+        registers,
+        last: parts.last,
     })
 }
 
@@ -89,8 +98,8 @@ pub(crate) fn names_registers(ending: Ending, fields: &Fields) -> bool
     ensures { result ≡ names_registers ending (read_in fields.now) }
 {
     match ending {
-        Ending::Room => is_room(fields.g, fields.imm),
-        Ending::Handles => are_places(&fields.places),
+        Ending::Room => is_room(fields.registers[6], fields.imm()),
+        Ending::Handles => are_places(&fields.last),
         _ => true,
     }
 }
@@ -124,22 +133,21 @@ fn is_ending_clear(ending: Ending, fields: &Fields) -> bool
     ensures { result ≡ is_ending_clear ending (read_in fields.now) }
 {
     match ending {
-        Ending::Nothing => fields.imm == 0 && fields.target == 0,
-        Ending::Number | Ending::Room => fields.target == 0,
-        Ending::Target => fields.imm == 0,
+        Ending::Nothing => fields.imm() == 0 && fields.target() == 0,
+        Ending::Number | Ending::Room => fields.target() == 0,
+        Ending::Target => fields.imm() == 0,
         Ending::Both => true,
-        Ending::Handles => is_packed(&fields.places),
+        Ending::Handles => is_packed(&fields.last),
     }
 }
 
 /// Whether the fields that the row doesn't use are 0.
 pub(crate) fn is_unused_zero(row: Row, fields: &Fields) -> bool
-    requires { length row.fields.now ≤ most_registers }
+    requires { length row.columns.now.fields.now ≤ most_registers }
     ensures { result ≡ is_unused_zero
-        (layout_with (length row.fields.now) row.ending) (read_in fields.now) }
+        (layout_with (length row.columns.now.fields.now) row.columns.now.ending)
+        (read_in fields.now) }
 {
-    let registers: &[Register] = &[
-        fields.a, fields.b, fields.c, fields.d, fields.e, fields.f, fields.g,
-    ];
-    are_zero(&registers[row.registers()..]) && is_ending_clear(row.ending, fields)
+    let registers: &[Register] = &fields.registers;
+    are_zero(&registers[row.registers()..]) && is_ending_clear(row.columns.ending, fields)
 }

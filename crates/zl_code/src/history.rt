@@ -1,5 +1,4 @@
 ghost use Rattle.std.specs.Prelude.{◌≡◌, ◌↔◌, IsTrue};
-ghost use Rattle.zl_code.specs.CallNames.{call_name};
 
 use zl_rights::{Pid, Status};
 
@@ -32,46 +31,6 @@ pub enum CallName {
     TaskKill,
     JobCreate,
     JobSetPolicy,
-}
-
-impl CallName {
-    /// The name of the call, as programs and traces have it (own profile).
-    pub fn name(self) -> &'static str
-        ensures { result.now ≡ call_name self }
-    {
-        match self {
-            CallName::Close => "close",
-            CallName::Dup => "dup",
-            CallName::Replace => "replace",
-            CallName::ChanCreate => "chan_create",
-            CallName::ChanWrite => "chan_write",
-            CallName::ChanReadEtc => "chan_read_etc",
-            CallName::EventCreate => "event_create",
-            CallName::Signal => "signal",
-            CallName::SignalPeer => "signal_peer",
-            CallName::WaitOne => "wait_one",
-            CallName::WaitPoll => "wait_poll",
-            CallName::WaitAsync => "wait_async",
-            CallName::PortCreate => "port_create",
-            CallName::PortQueue => "port_queue",
-            CallName::PortWait => "port_wait",
-            CallName::PortPoll => "port_poll",
-            CallName::PortCancel => "port_cancel",
-            CallName::ProcessCreate => "process_create",
-            CallName::ProcessStart => "process_start",
-            CallName::ProcessExit => "process_exit",
-            CallName::TaskKill => "task_kill",
-            CallName::JobCreate => "job_create",
-            CallName::JobSetPolicy => "job_set_policy",
-        }
-    }
-
-    /// Whether the other is the same call: no two have one name.
-    pub fn is_same(self, other: CallName) -> bool
-        ensures { IsTrue result ↔ self ≡ other }
-    {
-        self.name() == other.name()
-    }
 }
 
 /// How a system call ends. Own profile.

@@ -1,8 +1,8 @@
 ghost use Rattle.std.specs.Prelude.{◌≡◌, slice_get};
-ghost use Rattle.zl_code.specs.Request.{name_of};
-ghost use Rattle.zl_code.specs.Spells.{register_in};
+ghost use Rattle.zl_code.specs.Spells.{number_at, register_in};
 
 use crate::history::CallName;
+use crate::instr_bytes::{InstrBytes, imm_in};
 use crate::register::Register;
 
 /// An instruction. The opcodes and the fields are own profile.
@@ -170,182 +170,30 @@ pub enum LocalInstr {
     },
 }
 
-/// A system call with its registers. The status register gets the answer. The fields are own
-/// profile; `CallName` says where the calls come from.
+/// A system call with its registers. Its row says what it does with them, and what stands in the
+/// last eight bytes. The fields are own profile; `CallName` says where the calls come from.
 #[derive(Clone, Copy)]
-pub enum CallInstr {
-    Close {
-        status: Register,
-        handle: Register,
-    },
-    Dup {
-        status: Register,
-        handle: Register,
-        copy: Register,
-        rights: u32,
-    },
-    Replace {
-        status: Register,
-        handle: Register,
-        replacement: Register,
-        rights: u32,
-    },
-    ChanCreate {
-        status: Register,
-        first: Register,
-        second: Register,
-    },
-    ChanWrite {
-        status: Register,
-        channel: Register,
-        address: Register,
-        length: Register,
-        handles: HandleList,
-    },
-    /// The handles of the message go to `places` triples of registers, at most 8, from `first` on;
-    /// the last of them is at most register 31.
-    ChanReadEtc {
-        status: Register,
-        channel: Register,
-        address: Register,
-        room: Register,
-        bytes: Register,
-        handles: Register,
-        first: Register,
-        places: u32,
-    },
-    EventCreate {
-        status: Register,
-        event: Register,
-    },
-    Signal {
-        status: Register,
-        handle: Register,
-        clear: Register,
-        set: Register,
-    },
-    SignalPeer {
-        status: Register,
-        handle: Register,
-        clear: Register,
-        set: Register,
-    },
-    WaitOne {
-        status: Register,
-        handle: Register,
-        mask: Register,
-        observed: Register,
-    },
-    WaitPoll {
-        status: Register,
-        handle: Register,
-        mask: Register,
-        observed: Register,
-    },
-    WaitAsync {
-        status: Register,
-        handle: Register,
-        port: Register,
-        key: Register,
-        mask: Register,
-    },
-    PortCreate {
-        status: Register,
-        port: Register,
-    },
-    PortQueue {
-        status: Register,
-        port: Register,
-        key: Register,
-        value: Register,
-    },
-    /// `trigger` gets the mask of the wait, or the value that was queued.
-    PortWait {
-        status: Register,
-        port: Register,
-        key: Register,
-        kind: Register,
-        trigger: Register,
-        observed: Register,
-    },
-    /// `trigger` gets the mask of the wait, or the value that was queued.
-    PortPoll {
-        status: Register,
-        port: Register,
-        key: Register,
-        kind: Register,
-        trigger: Register,
-        observed: Register,
-    },
-    PortCancel {
-        status: Register,
-        port: Register,
-        source: Register,
-        key: Register,
-    },
-    ProcessCreate {
-        status: Register,
-        job: Register,
-        program: Register,
-        process: Register,
-    },
-    ProcessStart {
-        status: Register,
-        process: Register,
-        handle: Register,
-        word: Register,
-    },
-    ProcessExit {
-        code: Register,
-    },
-    TaskKill {
-        status: Register,
-        task: Register,
-    },
-    JobCreate {
-        status: Register,
-        job: Register,
-        child: Register,
-    },
-    JobSetPolicy {
-        status: Register,
-        job: Register,
-        mode: Register,
-        condition: Register,
-        action: Register,
-    },
+pub struct CallInstr {
+    pub name: CallName,
+    /// The registers from the first on, and register 0 behind those that its row has.
+    pub registers: [Register; InstrBytes::REGISTERS],
+    /// A number, the room in handles, or the places of a list of handles, as its row says.
+    pub last: [u8; HandleList::MOST],
 }
 
 impl CallInstr {
-    /// Which call it is, by its name in traces.
-    pub fn name(&self) -> CallName
-        ensures { result ≡ name_of self.now }
+    /// The number in the last eight bytes, or the room in handles.
+    pub fn number(&self) -> u32
+        ensures { result ≡ number_at self.now.last 0 4 }
     {
-        match self {
-            CallInstr::Close { .. } => CallName::Close,
-            CallInstr::Dup { .. } => CallName::Dup,
-            CallInstr::Replace { .. } => CallName::Replace,
-            CallInstr::ChanCreate { .. } => CallName::ChanCreate,
-            CallInstr::ChanWrite { .. } => CallName::ChanWrite,
-            CallInstr::ChanReadEtc { .. } => CallName::ChanReadEtc,
-            CallInstr::EventCreate { .. } => CallName::EventCreate,
-            CallInstr::Signal { .. } => CallName::Signal,
-            CallInstr::SignalPeer { .. } => CallName::SignalPeer,
-            CallInstr::WaitOne { .. } => CallName::WaitOne,
-            CallInstr::WaitPoll { .. } => CallName::WaitPoll,
-            CallInstr::WaitAsync { .. } => CallName::WaitAsync,
-            CallInstr::PortCreate { .. } => CallName::PortCreate,
-            CallInstr::PortQueue { .. } => CallName::PortQueue,
-            CallInstr::PortWait { .. } => CallName::PortWait,
-            CallInstr::PortPoll { .. } => CallName::PortPoll,
-            CallInstr::PortCancel { .. } => CallName::PortCancel,
-            CallInstr::ProcessCreate { .. } => CallName::ProcessCreate,
-            CallInstr::ProcessStart { .. } => CallName::ProcessStart,
-            CallInstr::ProcessExit { .. } => CallName::ProcessExit,
-            CallInstr::TaskKill { .. } => CallName::TaskKill,
-            CallInstr::JobCreate { .. } => CallName::JobCreate,
-            CallInstr::JobSetPolicy { .. } => CallName::JobSetPolicy,
-        }
+        imm_in(self.last)
+    }
+
+    /// The list of handles in the last eight bytes.
+    pub fn handles(&self) -> HandleList
+        ensures { result.places ≡ self.now.last }
+    {
+        HandleList { places: self.last }
     }
 }
 

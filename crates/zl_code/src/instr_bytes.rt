@@ -5,7 +5,6 @@ ghost use Rattle.zl_code.specs.Limits.{most_registers};
 ghost use Rattle.zl_code.specs.Spells.{bytes_of, seven, instr_bytes, local_bytes, call_bytes, fields, number_at, registers_at};
 
 use crate::instr::{CallInstr, HandleList, Instr, LocalInstr};
-use crate::parts::{CallParts, seven};
 use crate::register::Register;
 
 /// The 16 bytes of an instruction, by their parts. Own profile.
@@ -69,16 +68,14 @@ impl InstrBytes {
     pub fn imm(self) -> u32
         ensures { result ≡ number_at self.last 0 4 }
     {
-        let [i0, i1, i2, i3, ..] = self.last;
-        u32::from_le_bytes([i0, i1, i2, i3])
+        imm_in(self.last)
     }
 
     /// The target in the last eight bytes.
     pub fn target(self) -> u32
         ensures { result ≡ number_at self.last 4 4 }
     {
-        let [_, _, _, _, t0, t1, t2, t3] = self.last;
-        u32::from_le_bytes([t0, t1, t2, t3])
+        target_in(self.last)
     }
 
     /// The last eight bytes with a number and a target.
@@ -89,6 +86,35 @@ impl InstrBytes {
         let [t0, t1, t2, t3] = target.to_le_bytes();
         [i0, i1, i2, i3, t0, t1, t2, t3]
     }
+}
+
+/// The number in the last eight bytes of an instruction.
+#[inline(always)]
+pub(crate) fn imm_in(last: [u8; HandleList::MOST]) -> u32
+    ensures { result ≡ number_at last 0 4 }
+{
+    let [i0, i1, i2, i3, ..] = last;
+    u32::from_le_bytes([i0, i1, i2, i3])
+}
+
+/// The target in the last eight bytes of an instruction.
+pub(crate) fn target_in(last: [u8; HandleList::MOST]) -> u32
+    ensures { result ≡ number_at last 4 4 }
+{
+    let [_, _, _, _, t0, t1, t2, t3] = last;
+    u32::from_le_bytes([t0, t1, t2, t3])
+}
+
+/// The registers that are used, and register 0 behind them.
+fn seven(used: &[Register]) -> [Register; InstrBytes::REGISTERS]
+    requires { length used.now ≤ most_registers }
+    ensures { result ≡ seven used.now }
+{
+    let mut registers = [Register::zero(); InstrBytes::REGISTERS];
+    for (place, register) in used.iter().enumerate() {
+        registers[place] = *register;
+    }
+    registers
 }
 
 /// The numbers of the registers.
@@ -251,15 +277,15 @@ fn local_bytes(local: LocalInstr) -> [u8; Instr::LEN]
 fn call_bytes(call: CallInstr) -> [u8; Instr::LEN]
     ensures { result ≡ call_bytes call }
 {
-    let CallParts {
-        opcode,
+    let CallInstr {
+        name,
         registers,
         last,
-    } = call.parts();
+    } = call;
     InstrBytes {
-        opcode,
+        opcode: name.row().opcode,
         registers: numbers(registers),
-        last: last.bytes(),
+        last,
     }
     .join()
 }

@@ -11,9 +11,11 @@ ghost use Rattle.zl_code.specs.Spells.{are_registers, names_registers, is_unused
 ghost use Rattle.zl_code.specs.Fields.{read_in};
 
 use crate::fields::{Fields, fields_of, is_unused_zero, names_registers};
+use crate::history::CallName;
 use crate::image::DecodeFault;
-use crate::instr::{CallInstr, HandleList, Instr, LocalInstr};
-use crate::layout::{FIRST_CALL, Row};
+use crate::instr::{CallInstr, Instr, LocalInstr};
+use crate::layout::Row;
+use crate::rows::FIRST_CALL;
 use std::alloc::Global;
 
 /// The instruction of a known opcode below 64.
@@ -26,16 +28,9 @@ fn known_local(fields: Fields) -> LocalInstr
         local_bytes result ≡ row_bytes fields.opcode l (read_in fields)) }
     ensures in_range { IsTrue (is_local_in_range result) }
 {
-    let Fields {
-        opcode,
-        a,
-        b,
-        c,
-        imm,
-        target,
-        ..
-    } = fields;
-    match opcode {
+    let [a, b, c, ..] = fields.registers;
+    let (imm, target) = (fields.imm(), fields.target());
+    match fields.opcode {
         1 => LocalInstr::Const {
             destination: a,
             number: imm,
@@ -157,7 +152,6 @@ fn known_local(fields: Fields) -> LocalInstr
 }
 
 /// The system call of a known opcode from 64 on.
-#[tactic(auto, unfolding(crate::specs::Instructions::row_of, crate::specs::Spells::call_parts))]
 fn known_call(fields: Fields) -> CallInstr
     requires opcode { IsTrue (is_some (layout_of fields.opcode)) }
     requires from { first_call ≤ fields.opcode }
@@ -169,149 +163,18 @@ fn known_call(fields: Fields) -> CallInstr
         call_bytes result ≡ row_bytes fields.opcode l (read_in fields)) }
     ensures in_range { IsTrue (is_call_in_range result) }
 {
+    let Some(name) = CallName::of_opcode(fields.opcode) else {
+        unreachable!();
+    };
     let Fields {
-        opcode,
-        a,
-        b,
-        c,
-        d,
-        e,
-        f,
-        g,
-        imm,
-        places,
+        registers,
+        last,
         ..
     } = fields;
-    match opcode {
-        64 => CallInstr::Close {
-            status: a,
-            handle: b,
-        },
-        65 => CallInstr::Dup {
-            status: a,
-            handle: b,
-            copy: c,
-            rights: imm,
-        },
-        66 => CallInstr::Replace {
-            status: a,
-            handle: b,
-            replacement: c,
-            rights: imm,
-        },
-        67 => CallInstr::ChanCreate {
-            status: a,
-            first: b,
-            second: c,
-        },
-        68 => CallInstr::ChanWrite {
-            status: a,
-            channel: b,
-            address: c,
-            length: d,
-            handles: HandleList { places },
-        },
-        69 => CallInstr::ChanReadEtc {
-            status: a,
-            channel: b,
-            address: c,
-            room: d,
-            bytes: e,
-            handles: f,
-            first: g,
-            places: imm,
-        },
-        70 => CallInstr::EventCreate {
-            status: a,
-            event: b,
-        },
-        71 => CallInstr::Signal {
-            status: a,
-            handle: b,
-            clear: c,
-            set: d,
-        },
-        72 => CallInstr::SignalPeer {
-            status: a,
-            handle: b,
-            clear: c,
-            set: d,
-        },
-        73 => CallInstr::WaitOne {
-            status: a,
-            handle: b,
-            mask: c,
-            observed: d,
-        },
-        74 => CallInstr::WaitPoll {
-            status: a,
-            handle: b,
-            mask: c,
-            observed: d,
-        },
-        75 => CallInstr::WaitAsync {
-            status: a,
-            handle: b,
-            port: c,
-            key: d,
-            mask: e,
-        },
-        76 => CallInstr::PortCreate { status: a, port: b },
-        77 => CallInstr::PortQueue {
-            status: a,
-            port: b,
-            key: c,
-            value: d,
-        },
-        78 => CallInstr::PortWait {
-            status: a,
-            port: b,
-            key: c,
-            kind: d,
-            trigger: e,
-            observed: f,
-        },
-        79 => CallInstr::PortPoll {
-            status: a,
-            port: b,
-            key: c,
-            kind: d,
-            trigger: e,
-            observed: f,
-        },
-        80 => CallInstr::PortCancel {
-            status: a,
-            port: b,
-            source: c,
-            key: d,
-        },
-        81 => CallInstr::ProcessCreate {
-            status: a,
-            job: b,
-            program: c,
-            process: d,
-        },
-        82 => CallInstr::ProcessStart {
-            status: a,
-            process: b,
-            handle: c,
-            word: d,
-        },
-        83 => CallInstr::ProcessExit { code: a },
-        84 => CallInstr::TaskKill { status: a, task: b },
-        85 => CallInstr::JobCreate {
-            status: a,
-            job: b,
-            child: c,
-        },
-        86 => CallInstr::JobSetPolicy {
-            status: a,
-            job: b,
-            mode: c,
-            condition: d,
-            action: e,
-        },
-        _ => unreachable!(),
+    CallInstr {
+        name,
+        registers,
+        last,
     }
 }
 
@@ -360,7 +223,7 @@ impl Instr {
         match Row::of_opcode(bytes[0]) {
             Some(row) => {
                 let fields = fields_of(bytes)?;
-                if !names_registers(row.ending, &fields) {
+                if !names_registers(row.columns.ending, &fields) {
                     return Err(DecodeFault::BadRegister);
                 }
                 if !is_unused_zero(row, &fields) {

@@ -25,8 +25,8 @@ mod instr_bytes;
 mod known;
 pub mod laws;
 mod layout;
-mod parts;
 mod register;
+mod rows;
 
 pub use boot::{Boot, BootCause, BootFault, Grant, Grants, Statement};
 pub use decoding::decode;
@@ -35,6 +35,5 @@ pub use history::{CallName, Outcome, ProcState, TraceItem, are_same_items};
 pub use image::{DecodeFault, Image, SlotArray, Start};
 pub use instr::{CallInstr, HandleList, Instr, LocalInstr};
 pub use instr_bytes::InstrBytes;
-pub use layout::{Ending, Field, Kinds, Row};
-pub use parts::{CallParts, Last};
+pub use layout::{Columns, Ending, Field, Kinds, Row};
 pub use register::Register;

@@ -1,38 +1,41 @@
 -- What stands next, by the instruction at the counter.
-use Rattle.zl_code.proofs.Common.{◌≡◌, ◌∙◌, Option, Some, None, IfSome, IfNone, true, false, sym, refl, ap, none-some, same_Some, is_some, false≢true, Cpu, Image, Site, local_effect, name_of, site_of, AtCall, IsStuck, calls_at, next_at}
+use Rattle.zl_code.proofs.Common.{◌≡◌, ◌∙◌, Option, Some, None, IfSome, IfNone, true, false, sym, refl, ap, none-some, same_Some, is_some, false≢true, Cpu}
+use Rattle.zl_code.proofs.Common.{Image, Site, call_row, local_effect, site_of, IsStuck, calls_at, next_at}
 use Rattle.zl_code.specs.declared.history.CallName.{CallName}
 use Rattle.zl_code.specs.declared.instr.CallInstr.{CallInstr}
 use Rattle.zl_code.specs.declared.instr.Instr.{Instr}
 use Rattle.zl_code.specs.declared.instr.Instr.TheVariants as instr
 use Rattle.zl_code.specs.Image.{instr_at, call_at, call_in as call_found, local_at, local_in as local_found}
+use Rattle.zl_code.specs.Asked.{has_its_memory}
 use Rattle.zl_code.specs.Steps.{moves, next_of}
+use Rattle.zl_verify.proofs.Sites.{has_site}
 use Rattle.zl_interp.specs.Next.{IsStuckOrCalls, StandsNext, call_in}
 
 -- ---- a call
 
-call_of : (i : Option Instr) (c : Cpu) (x : CallInstr) → call_found i ≡ Some x → next_of i c ≡ calls_at (name_of x) (site_of x c)
+call_of : (i : Option Instr) (c : Cpu) (x : CallInstr) → call_found i ≡ Some x → next_of i c ≡ calls_at x.name (site_of x c)
 call_of None c x there = absurd (none-some x there)
 call_of (Some (instr.Local y)) c x there = absurd (none-some x there)
-call_of (Some (instr.Call y)) c x there = ap (λ (z : CallInstr). calls_at (name_of z) (site_of z c)) (same_Some y x there)
+call_of (Some (instr.Call y)) c x there = ap (λ (z : CallInstr). calls_at z.name (site_of z c)) (same_Some y x there)
 call_of (Some (instr.Unknown bytes)) c x there = absurd (none-some x there)
 
 -- the call at the counter stands next where its operands can be read, and else none does
 module _ (i : Image) (c : Cpu) (x : CallInstr) (there : call_at i c.counter ≡ Some x) where
-  comes : next_at i c ≡ calls_at (name_of x) (site_of x c)
+  comes : next_at i c ≡ calls_at x.name (site_of x c)
   unfolding next_at
   comes = call_of (instr_at i c.counter) c x there
 
-  pub call_stands : is_some (site_of x c) ≡ true → StandsNext i c x
-  call_stands has = by (site_of x c) refl has
+  pub call_stands : has_its_memory (call_row x.name).ending x c ≡ true → StandsNext i c x
+  call_stands has = by (site_of x c) refl (has_site x c ∙ has)
     where
       by : (s : Option Site) → site_of x c ≡ s → is_some s ≡ true → StandsNext i c x
       by None at has = absurd (false≢true has)
-      by (Some s) at has = record { site = s; at_site = at; next = comes ∙ ap (calls_at (name_of x)) at }
+      by (Some s) at has = record { site = s; at_site = at; next = comes ∙ ap (calls_at x.name) at }
 
-  pub call_missing : is_some (site_of x c) ≡ false → call_in (next_at i c) ≡ None
-  call_missing none = ap call_in comes ∙ by (site_of x c) none
+  pub call_missing : has_its_memory (call_row x.name).ending x c ≡ false → call_in (next_at i c) ≡ None
+  call_missing none = ap call_in comes ∙ by (site_of x c) (has_site x c ∙ none)
     where
-      by : (s : Option Site) → is_some s ≡ false → call_in (calls_at (name_of x) s) ≡ None
+      by : (s : Option Site) → is_some s ≡ false → call_in (calls_at x.name s) ≡ None
       by None none = refl
       by (Some s) none = absurd (false≢true (sym none))
 
@@ -67,7 +70,7 @@ local_moves i c = moves_by (instr_at i c.counter) c
 stuck_by : (i : Option Instr) (c : Cpu) → IfNone (local_found i) (IsStuckOrCalls (next_of i c))
 stuck_by None c = λ no_call. refl
 stuck_by (Some (instr.Local x)) c = tt
-stuck_by (Some (instr.Call x)) c = λ no_call. by_site (name_of x) (site_of x c) no_call
+stuck_by (Some (instr.Call x)) c = λ no_call. by_site x.name (site_of x c) no_call
   where
     by_site : (n : CallName) (s : Option Site) → call_in (calls_at n s) ≡ None → calls_at n s ≡ IsStuck
     by_site n None no_call = refl

@@ -1,5 +1,5 @@
 -- The programs of a library are as their checks promise, one more too.
-use Rattle.zl_code.proofs.Common.{◌≡◌, ℕ, zero, suc, List, [], ◌∷◌, ◌++◌, refl, sym, ap, ◌∙◌, subst, Option, Some, true, slice_get, none-some, same_Some, Image}
+use Rattle.zl_code.proofs.Common.{◌≡◌, ℕ, zero, suc, List, [], ◌∷◌, ◌++◌, refl, sym, subst, Some, true, slice_get, none-some, same_Some}
 use Rattle.std.proofs.Common.{map}
 use Rattle.std.proofs.lemmas.List.{map-append}
 use Rattle.std.specs.List.{AllByRecursion}

@@ -1,9 +1,10 @@
 //! What stands next for a Cpu in its program: a system call, or a local instruction, done here.
 
-ghost use Rattle.std.specs.Prelude.{◌≡◌, ◌<◌, None, is_some, IfSome, IfNone, OnSome};
+ghost use Rattle.std.specs.Prelude.{◌≡◌, ◌<◌, None, IfSome, IfNone, OnSome};
+ghost use Rattle.zl_code.specs.Asked.{has_its_memory};
+ghost use Rattle.zl_code.specs.Instructions.{call_row};
 ghost use Rattle.zl_code.specs.Limits.{most_instructions};
 ghost use Rattle.zl_code.specs.Local.{local_effect};
-ghost use Rattle.zl_code.specs.Request.{site_of};
 ghost use Rattle.zl_code.specs.Steps.{Moves, moves, next_at};
 ghost use Rattle.zl_interp.specs.Bursts.{stop_at};
 ghost use Rattle.zl_interp.specs.Next.{IsStuckOrCalls, StandsNext, call_in};
@@ -13,7 +14,7 @@ use crate::bursts::Stop;
 use crate::cpu::Cpu;
 use crate::program::Program;
 use crate::running::{can_run, run};
-use zl_code::{CallInstr, LocalInstr};
+use zl_code::{CallInstr, Ending, LocalInstr};
 
 /// The call that stands next for the Cpu, if one does.
 ///
@@ -35,22 +36,15 @@ pub fn call_at(program: &Program, cpu: &Cpu) -> Option<CallInstr>
 }
 
 /// Whether the range of memory that the call names is there; most calls name none.
-#[tactic(auto, unfolding(zl_code::specs::Request::site_of, zl_code::specs::Instructions::row_of, zl_code::specs::Spells::call_parts))]
 fn has_its_memory(call: &CallInstr, cpu: &Cpu) -> bool
-    ensures { result ≡ is_some (site_of call.now cpu.now) }
+    ensures { result ≡ has_its_memory (call_row call.now.name).ending call.now cpu.now }
 {
-    match call {
-        CallInstr::ChanReadEtc { address, room, .. } => {
-            cpu.bytes(cpu.register(*address), cpu.register(*room))
-                .is_some()
+    match call.name.row().columns.ending {
+        Ending::Room | Ending::Handles => {
+            let address = cpu.register(call.registers[2]);
+            let count = cpu.register(call.registers[3]);
+            cpu.bytes(address, count).is_some()
         }
-        CallInstr::ChanWrite {
-            address,
-            length,
-            ..
-        } => cpu
-            .bytes(cpu.register(*address), cpu.register(*length))
-            .is_some(),
         _ => true,
     }
 }

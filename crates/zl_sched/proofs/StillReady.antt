@@ -1,26 +1,26 @@
 -- Where a step starts, kills and ends no process, and as many are blocked after it, all are as ready as before.
-use Rattle.zl_code.proofs.Common.{◌≡◌, ◌<◌, ◌≤◌, ◌+◌, ◌⊎◌, ℕ, Bool, true, false, not, ◌==◌, List, [], ◌∷◌, length, refl, ap, sym, ◌∙◌, subst, arith, cases_Bool, eqb-true, false≢true, Option, Some, None, is_some, has_key, IsTrue, if◌then◌else◌, option_map, inl, inr, meets, fold, get, World, Process, State, Created, Ready, Blocked, Gone, Ended, Object, Body, PortBody, is_process, is_ready, is_blocked, without, local_effect, state_passes, process_settled, state_without, Settles, without_others, wakes, fired, active, with_body, woken_if_there, woken_from, woken_at_port, woken_by, woken_by_first, SignalOf, PacketAt, Packet, Library, Request, Site, Choice, Refused, WantsMemory, Values, CallBy, after_refusal, after_ok, refusal, taken, taken_handles, effect, new_handles, replied, on_process, on_object, with_object, insert_all, remove_all, process_with, process_without, Next, Moves, AtCall, IsStuck, Acts, Step, next_for, get-update, get-put, get-each, filter, IsSound}
+use Rattle.zl_code.proofs.Common.{◌≡◌, ◌<◌, ◌≤◌, ◌+◌, ◌⊎◌, ℕ, Bool, true, false, not, ◌==◌, List, [], ◌∷◌, length, refl, ap, sym, ◌∙◌, subst, arith, cases_Bool}
+use Rattle.zl_code.proofs.Common.{eqb-true, false≢true, Option, Some, None, is_some, has_key, IsTrue, if◌then◌else◌, option_map, inl, inr, meets, fold, get}
+use Rattle.zl_code.proofs.Common.{World, Process, State, Created, Ready, Blocked, Gone, Ended, Object, Body, PortBody, is_process, is_ready, is_blocked}
+use Rattle.zl_code.proofs.Common.{without, state_passes, process_settled, state_without, Settles, without_others, wakes, fired, active, with_body}
+use Rattle.zl_code.proofs.Common.{woken_if_there, woken_from, woken_at_port, woken_by, woken_by_first, SignalOf, PacketAt, Packet, Library, Request, Site}
+use Rattle.zl_code.proofs.Common.{Choice, Refused, WantsMemory, Values, CallBy, after_refusal, after_ok, refusal, taken, taken_handles, effect, new_handles}
+use Rattle.zl_code.proofs.Common.{replied, on_process, on_object, with_object, insert_all, remove_all, process_with, process_without, Next, Moves, AtCall}
+use Rattle.zl_code.proofs.Common.{IsStuck, Acts, Step, next_for, get-update, get-put, get-each, filter, IsSound}
 use Rattle.std.proofs.lemmas.Bool.{not-true}
 use Rattle.std.proofs.lemmas.List.Filters.{length-filter_both}
 use Rattle.zl_rights.specs.Wakes.{made_ready, woken}
 use Rattle.zl_rights.specs.declared.entry.Entry.{Entry}
 use Rattle.zl_rights.specs.declared.status.Status.{Status}
 use Rattle.zl_rights.specs.declared.status.Status.TheVariants as status
-use Rattle.zl_code.specs.declared.history.CallName.{CallName}
 use Rattle.zl_code.specs.declared.history.Outcome.{Outcome}
 use Rattle.zl_code.specs.declared.history.Outcome.TheVariants as outcome
 use Rattle.zl_code.specs.declared.history.TraceItem.{TraceItem}
-use Rattle.zl_code.specs.declared.instr.CallInstr.{CallInstr}
-use Rattle.zl_code.specs.declared.instr.Instr.{Instr}
-use Rattle.zl_code.specs.declared.instr.Instr.TheVariants as instr
-use Rattle.zl_code.specs.CallTable.{entering_at, process_create, process_start, receiver_of, stored_by, task_kill}
+use Rattle.zl_code.specs.CallTable.{asks, entering_at, process_create, process_start, receiver_of, stored_by, task_kill}
 use Rattle.zl_code.specs.Effects.{storing}
-use Rattle.zl_code.specs.Image.{Program, instr_at}
-use Rattle.zl_code.specs.Request.{name_of, site_of}
 use Rattle.zl_code.specs.Starting.{created_process}
-use Rattle.zl_code.specs.Steps.{next_at, next_in, next_of, moves, calls_at}
 use Rattle.zl_code.proofs.Changes.{times}
-use Rattle.zl_verify.proofs.Sites.{SiteAt, site_at, process_start_at, task_kill_at}
+use Rattle.zl_calls.proofs.StepItems.{asked_next}
 use Rattle.zl_sched.specs.Queueing.{leaves_ready, may_start_or_kill}
 
 -- ---- one turn of waking
@@ -51,10 +51,11 @@ module _ (u : World) (p : ℕ) (y : Process) (there : get u.processes p ≡ Some
   turn_by_port k ds (Some o) is = turn_by_body k ds o o.body is
 
   turn_by_state : (s : State) → y.state ≡ s → IsTurn u p (woken_from u p y s)
-  turn_by_state (Blocked (SignalOf k mask) ds) is = elim (meets (active u k) mask) as (λ b. IsTurn u p (if b then made_ready u p y ds (0 ∷ active u k ∷ []) else u)) [
-    | true ↦ turn_ready u ds _ refl (ap is_blocked is)
-    | false ↦ inl refl
-  ]
+  turn_by_state (Blocked (SignalOf k mask) ds) is =
+      elim (meets (active u k) mask) as (λ b. IsTurn u p (if b then made_ready u p y ds (0 ∷ active u k ∷ []) else u)) [
+        | true ↦ turn_ready u ds _ refl (ap is_blocked is)
+        | false ↦ inl refl
+      ]
   turn_by_state (Blocked (PacketAt k) ds) is = turn_by_port k ds (get u.objects k) (ap is_blocked is)
   turn_by_state _ is = inl refl
 
@@ -77,7 +78,8 @@ no_more_blocked u (p ∷ ps) =
     let rest : length (fold woken (woken u p) ps).blocked ≤ length (woken u p).blocked = no_more_blocked (woken u p) ps in
     elim (turn u p) as (λ _. length (fold woken (woken u p) ps).blocked ≤ length u.blocked) [
       | inl same ↦ let as_long : length (woken u p).blocked ≡ length u.blocked = ap (λ (v : World). length v.blocked) same in omega (arith, rest, as_long)
-      | inr woke ↦ let shorter : length (woken u p).blocked ≡ length (filter (λ q. not (q == p)) u.blocked) = ap length woke.1 in omega (arith, rest, shorter, without_one p u.blocked)
+      | inr woke ↦ let shorter : length (woken u p).blocked ≡ length (filter (λ q. not (q == p)) u.blocked) = ap length woke.1 in
+          omega (arith, rest, shorter, without_one p u.blocked)
     ]
 
 -- each blocked process is in the list
@@ -117,7 +119,9 @@ moved w p f keeps = record { same = λ test made gone k. rw (get-update w.proces
     by_test test true (Some x) = ap test (keeps x)
 
 without_keeps : (h : ℕ) (x : Process) → (process_without h x).state ≡ x.state
-without_keeps h x = elim (has_key x.handles h) as (λ b. (if b then record x { handles = without x.handles h; last = Some h } else x).state ≡ x.state) [ true ↦ refl | false ↦ refl ]
+without_keeps h x =
+    elim (has_key x.handles h)
+    as (λ b. (if b then record x { handles = without x.handles h; last = Some h } else x).state ≡ x.state) [ true ↦ refl | false ↦ refl ]
 
 removed : (w : World) (p : ℕ) (hs : List ℕ) → Left (remove_all w p hs) w
 unfolding remove_all
@@ -148,15 +152,20 @@ spares r = true
 made : (lib : Library) (w u : World) (program k : ℕ) (test : State → Bool) → test Created ≡ false → get u.processes w.next_koid ≡ None
     → state_passes test (if w.next_koid == k then Some (created_process lib program) else get u.processes k) ≡ state_passes test (get u.processes k)
 made lib w u program k test fresh free =
-    elim (cases_Bool (w.next_koid == k)) as (λ _. state_passes test (if w.next_koid == k then Some (created_process lib program) else get u.processes k) ≡ state_passes test (get u.processes k)) [
+    elim (cases_Bool (w.next_koid == k))
+    as (λ _. state_passes test (if w.next_koid == k then Some (created_process lib program) else get u.processes k) ≡ state_passes test (get u.processes k)) [
       | inl here ↦ rw here (fresh ∙ sym (ap (state_passes test) (subst (λ (j : ℕ). get u.processes j ≡ None) (eqb-true w.next_koid k here) free)))
       | inr apart ↦ rw apart refl
     ]
 
-effected : (lib : Library) (w u : World) (p : ℕ) (request : Request) (vs : List ℕ) → get u.processes w.next_koid ≡ None → spares request ≡ true → Left (effect lib w u p request vs) u
+effected : (lib : Library) (w u : World) (p : ℕ) (request : Request) (vs : List ℕ) → get u.processes w.next_koid ≡ None → spares request ≡ true
+    → Left (effect lib w u p request vs) u
 unfolding effect with_object on_object is_process
 effected lib w u p (process_create job program) vs free left =
-    record { same = λ test fresh gone k. rw (get-put u.processes w.next_koid (created_process lib program) k) (made lib w u program k test fresh free); blocked = refl }
+    record {
+      same = λ test fresh gone k. rw (get-put u.processes w.next_koid (created_process lib program) k) (made lib w u program k test fresh free);
+      blocked = refl;
+    }
 effected lib w u p (process_start process h word) vs free left = absurd (false≢true left)
 effected lib w u p (task_kill task) vs free left = absurd (false≢true left)
 effected lib w u p _ vs free left = record { same = λ test fresh gone k. refl; blocked = refl }
@@ -165,7 +174,8 @@ effected lib w u p _ vs free left = record { same = λ test fresh gone k. refl; 
 still_free : (w : World) (p k : ℕ) (hs : List ℕ) → get w.processes k ≡ None → get (remove_all w p hs).processes k ≡ None
 unfolding remove_all on_process
 still_free w p k [] free = free
-still_free w p k (h ∷ hs) free = still_free (on_process w p (process_without h)) p k hs (get-update w.processes p (process_without h) k ∙ rw free (by_test (p == k)))
+still_free w p k (h ∷ hs) free =
+    still_free (on_process w p (process_without h)) p k hs (get-update w.processes p (process_without h) k ∙ rw free (by_test (p == k)))
   where
     by_test : (b : Bool) → (if b then option_map (process_without h) None else None) ≡ None
     by_test true = refl
@@ -178,11 +188,14 @@ module _ (lib : Library) (w : World) (p : ℕ) (free : get w.processes w.next_ko
   done_so : (s : Site) (vs : List ℕ) (answer : Status) → spares s.request ≡ true → Left (after_ok lib w p s vs (outcome.Answered answer)) w
   done_so s vs answer left =
       let taking : Left (taken w p s) w = removed w p (taken_handles s.request) in
-      let doing : Left (effect lib w (taken w p s) p s.request vs) (taken w p s) = effected lib w (taken w p s) p s.request vs (still_free w p w.next_koid (taken_handles s.request) free) left in
+      let doing : Left (effect lib w (taken w p s) p s.request vs) (taken w p s) =
+      effected lib w (taken w p s) p s.request vs (still_free w p w.next_koid (taken_handles s.request) free) left in
       let giving = entered (effect lib w (taken w p s) p s.request vs) (receiver_of w p s.request) (new_handles w p s.request) (entering_at s.request vs) in
-      left_then _ _ w (answers _ p s status.Ok _) (left_then _ _ w (stored _ p (stored_by w p s.request)) (left_then _ _ w giving (left_then _ _ w doing taking)))
+      left_then _ _ w (answers _ p s status.Ok _)
+      (left_then _ _ w (stored _ p (stored_by w p s.request)) (left_then _ _ w giving (left_then _ _ w doing taking)))
 
-  called_so : (s : Site) (choice : Choice) (r : Option Outcome) (answer : Status) (w2 : World) → spares s.request ≡ true → CallBy lib w p s choice r (outcome.Answered answer) w2 → Left w2 w
+  called_so : (s : Site) (choice : Choice) (r : Option Outcome) (answer : Status) (w2 : World) → spares s.request ≡ true
+      → CallBy lib w p s choice r (outcome.Answered answer) w2 → Left w2 w
   called_so s Refused None answer w2 left c = absurd c
   called_so s Refused (Some o) answer w2 left c = rw c.1 (subst (λ x. Left (after_refusal w p s x) w) c.0 (refused_so s answer))
   called_so s WantsMemory None answer w2 left c = rw c.2 (refused_so s status.NoMemory)
@@ -192,39 +205,18 @@ module _ (lib : Library) (w : World) (p : ℕ) (free : get w.processes w.next_ko
 
 -- ---- which call it is
 
--- a call of a name that neither starts nor kills has such a request
-spares_so : (c : _) (x : CallInstr) (s : Site) → SiteAt c x s → may_start_or_kill (name_of x) ≡ false → spares s.request ≡ true
-spares_so c _ _ (process_start_at a b o d) spared = absurd (false≢true (sym spared))
-spares_so c _ _ (task_kill_at a b) spared = absurd (false≢true (sym spared))
-spares_so c _ _ _ spared = refl
-
-named_so : (x : CallInstr) (c : _) (o : Option Site) (call : CallName) (s : Site) → site_of x c ≡ o → calls_at (name_of x) o ≡ AtCall call s → may_start_or_kill call ≡ false → spares s.request ≡ true
-named_so x c None call s at is spared = cc
-named_so x c (Some t) call s at is spared =
-    let same : t ≡ s = cc in
-    let named : name_of x ≡ call = cc in
-    spares_so c x s (site_at c s x (at ∙ ap Some same)) (ap may_start_or_kill named ∙ spared)
-
-instr_so : (o : Option Instr) (c : _) (call : CallName) (s : Site) → next_of o c ≡ AtCall call s → may_start_or_kill call ≡ false → spares s.request ≡ true
-instr_so None c call s is spared = cc
-instr_so (Some (instr.Local i)) c call s is spared = local_so (local_effect i c) is
-  where
-    local_so : (o : _) → moves o ≡ AtCall call s → spares s.request ≡ true
-    local_so None is = cc
-    local_so (Some to) is = cc
-instr_so (Some (instr.Call x)) c call s is spared = named_so x c (site_of x c) call s refl is spared
-instr_so (Some (instr.Unknown bytes)) c call s is spared = cc
-
-next_so : (o : Option Program) (c : _) (call : CallName) (s : Site) → next_in o c ≡ AtCall call s → may_start_or_kill call ≡ false → spares s.request ≡ true
-unfolding next_at
-next_so None c call s is spared = cc
-next_so (Some g) c call s is spared = instr_so (instr_at g.image c.counter) c call s is spared
+-- a request whose name neither starts nor kills
+spares_so : (r : Request) → may_start_or_kill (asks r).0 ≡ false → spares r ≡ true
+spares_so (process_start process h word) spared = absurd (false≢true (sym spared))
+spares_so (task_kill task) spared = absurd (false≢true (sym spared))
+spares_so _ spared = refl
 
 -- ---- settling
 
 settled_so : (u v : World) → Settles u v → Left v u
 unfolding is_process without_others
-settled_so u v (K, largest, is) = rw is (record { same = λ test fresh gone k. rw (get-each u.processes (process_settled K) k) (by_process test fresh gone k (get u.processes k)); blocked = refl })
+settled_so u v (K, largest, is) = rw is
+    (record { same = λ test fresh gone k. rw (get-each u.processes (process_settled K) k) (by_process test fresh gone k (get u.processes k)); blocked = refl })
   where
     by_state : (test : State → Bool) → test Created ≡ false → test Gone ≡ false → (kept : Bool) (s : State) → test (state_without kept s) ≡ test s
     by_state test fresh gone true Created = refl
@@ -234,7 +226,8 @@ settled_so u v (K, largest, is) = rw is (record { same = λ test fresh gone k. r
     by_state test fresh gone kept (Ended code) = refl
     by_state test fresh gone kept Gone = refl
 
-    by_process : (test : State → Bool) → test Created ≡ false → test Gone ≡ false → (k : ℕ) (o : Option Process) → state_passes test (option_map (process_settled K k) o) ≡ state_passes test o
+    by_process : (test : State → Bool) → test Created ≡ false → test Gone ≡ false → (k : ℕ) (o : Option Process)
+        → state_passes test (option_map (process_settled K k) o) ≡ state_passes test o
     by_process test fresh gone k None = refl
     by_process test fresh gone k (Some x) = by_state test fresh gone (K k) x.state
 
@@ -252,7 +245,8 @@ module _ (lib : Library) (w : World) (p : ℕ) (x : TraceItem) (after : World) (
   acted_so (Moves c) at a leaves = rw a.1 (moved w p (λ y. record y { cpu = c }) (λ y. refl))
   acted_so (AtCall call s) at (outcome.Answered answer, is, calls) leaves =
       let spared : not (may_start_or_kill call) ≡ true = sym (ap leaves_ready is) ∙ leaves in
-      called_so lib w p no_process s calls.0 (refusal lib w p s.request) answer step.acted (next_so _ step.process.cpu call s at (not-true (may_start_or_kill call) spared)) calls.1
+      called_so lib w p no_process s calls.0 (refusal lib w p s.request) answer step.acted
+      (spares_so s.request (ap may_start_or_kill (asked_next step.process.cpu call s _ at) ∙ not-true (may_start_or_kill call) spared)) calls.1
   acted_so (AtCall call s) at (outcome.Blocked, is, calls) leaves = absurd (false≢true (sym (ap leaves_ready is) ∙ leaves))
   acted_so (AtCall call s) at (outcome.Ended code, is, calls) leaves = absurd (false≢true (sym (ap leaves_ready is) ∙ leaves))
   acted_so IsStuck at a leaves = absurd (false≢true (sym (ap leaves_ready a.0) ∙ leaves))
@@ -269,7 +263,9 @@ module _ (lib : Library) (w : World) (p : ℕ) (x : TraceItem) (after : World) (
 
     after_is : after ≡ fired step.settled
     unfolding wakes
-    after_is = step.ends_awake ∙ none_woke (fired step.settled) step.settled.blocked listed (ap (λ (u : World). length u.blocked) (sym step.ends_awake) ∙ (as_long ∙ sym (ap length before.blocked)))
+    after_is =
+        step.ends_awake ∙ none_woke (fired step.settled) step.settled.blocked listed
+        (ap (λ (u : World). length u.blocked) (sym step.ends_awake) ∙ (as_long ∙ sym (ap length before.blocked)))
 
     pub ready_as_before : (k : ℕ) → is_process after is_ready k ≡ is_process w is_ready k
     ready_as_before k = ap (λ (u : World). is_process u is_ready k) after_is ∙ before.same is_ready refl refl k

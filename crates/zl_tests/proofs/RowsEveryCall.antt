@@ -17,7 +17,6 @@ use Rattle.zl_code.specs.declared.history.Outcome.TheVariants as outcome
 use Rattle.zl_code.specs.declared.history.TraceItem.{TraceItem}
 use Rattle.zl_code.specs.declared.history.TraceItem.TheVariants as item
 use Rattle.zl_code.specs.declared.image.Start.{Start}
-use Rattle.zl_code.specs.declared.instr.CallInstr.TheVariants as call
 use Rattle.zl_code.specs.declared.instr.Instr.TheVariants as instr
 use Rattle.zl_code.specs.declared.instr.LocalInstr.TheVariants as local
 use Rattle.zl_code.specs.Image.{Image, Program}
@@ -28,6 +27,7 @@ use Rattle.zl_verify.specs.Checks.{IsAccepted, HasStepBound}
 use Rattle.zl_verify.specs.Covered.{IsVerified}
 use Rattle.zl_verify.proofs.CoveredRuns.{covered_go_well}
 use Rattle.zl_tests.proofs.Typed.{found, numbers, IsTyping-by, IsStepBound-by, typing}
+use Rattle.zl_code.proofs.Called.{called, sending}
 
 -- ---- the program
 
@@ -53,43 +53,43 @@ image = record {
   slots = [];
   code =
       instr.Local (local.Const 7 8)
-      ∷ instr.Call (call.Signal 31 3 16 7)
-      ∷ instr.Call (call.WaitOne 31 3 7 30)
-      ∷ instr.Call (call.WaitPoll 31 3 7 30)
-      ∷ instr.Call (call.WaitAsync 31 3 4 7 7)
-      ∷ instr.Call (call.PortWait 31 4 26 27 28 29)
-      ∷ instr.Call (call.PortQueue 31 4 7 7)
-      ∷ instr.Call (call.PortPoll 31 4 26 27 28 29)
-      ∷ instr.Call (call.WaitAsync 31 3 4 7 7)
-      ∷ instr.Call (call.PortCancel 31 4 3 7)
+      ∷ instr.Call (called name.Signal (31 ∷ 3 ∷ 16 ∷ 7 ∷ []) 0)
+      ∷ instr.Call (called name.WaitOne (31 ∷ 3 ∷ 7 ∷ 30 ∷ []) 0)
+      ∷ instr.Call (called name.WaitPoll (31 ∷ 3 ∷ 7 ∷ 30 ∷ []) 0)
+      ∷ instr.Call (called name.WaitAsync (31 ∷ 3 ∷ 4 ∷ 7 ∷ 7 ∷ []) 0)
+      ∷ instr.Call (called name.PortWait (31 ∷ 4 ∷ 26 ∷ 27 ∷ 28 ∷ 29 ∷ []) 0)
+      ∷ instr.Call (called name.PortQueue (31 ∷ 4 ∷ 7 ∷ 7 ∷ []) 0)
+      ∷ instr.Call (called name.PortPoll (31 ∷ 4 ∷ 26 ∷ 27 ∷ 28 ∷ 29 ∷ []) 0)
+      ∷ instr.Call (called name.WaitAsync (31 ∷ 3 ∷ 4 ∷ 7 ∷ 7 ∷ []) 0)
+      ∷ instr.Call (called name.PortCancel (31 ∷ 4 ∷ 3 ∷ 7 ∷ []) 0)
       ∷ instr.Local (local.Const 8 16777216)
-      ∷ instr.Call (call.SignalPeer 31 0 16 8)
-      ∷ instr.Call (call.ChanWrite 31 0 16 16 (record { places = 6 ∷ replicate 7 255 }))
-      ∷ instr.Call (call.ChanReadEtc 31 2 16 16 26 27 9 1)
-      ∷ instr.Call (call.Close 31 9)
-      ∷ instr.Call (call.Dup 31 3 12 4096)
-      ∷ instr.Call (call.Close 31 12)
-      ∷ instr.Call (call.ChanCreate 31 12 13)
-      ∷ instr.Call (call.Close 31 12)
-      ∷ instr.Call (call.Close 31 13)
-      ∷ instr.Call (call.EventCreate 31 12)
-      ∷ instr.Call (call.Close 31 12)
-      ∷ instr.Call (call.PortCreate 31 12)
-      ∷ instr.Call (call.Close 31 12)
+      ∷ instr.Call (called name.SignalPeer (31 ∷ 0 ∷ 16 ∷ 8 ∷ []) 0)
+      ∷ instr.Call (sending (31 ∷ 0 ∷ 16 ∷ 16 ∷ []) (6 ∷ []))
+      ∷ instr.Call (called name.ChanReadEtc (31 ∷ 2 ∷ 16 ∷ 16 ∷ 26 ∷ 27 ∷ 9 ∷ []) 1)
+      ∷ instr.Call (called name.Close (31 ∷ 9 ∷ []) 0)
+      ∷ instr.Call (called name.Dup (31 ∷ 3 ∷ 12 ∷ []) 4096)
+      ∷ instr.Call (called name.Close (31 ∷ 12 ∷ []) 0)
+      ∷ instr.Call (called name.ChanCreate (31 ∷ 12 ∷ 13 ∷ []) 0)
+      ∷ instr.Call (called name.Close (31 ∷ 12 ∷ []) 0)
+      ∷ instr.Call (called name.Close (31 ∷ 13 ∷ []) 0)
+      ∷ instr.Call (called name.EventCreate (31 ∷ 12 ∷ []) 0)
+      ∷ instr.Call (called name.Close (31 ∷ 12 ∷ []) 0)
+      ∷ instr.Call (called name.PortCreate (31 ∷ 12 ∷ []) 0)
+      ∷ instr.Call (called name.Close (31 ∷ 12 ∷ []) 0)
       ∷ instr.Local (local.Const 14 6)
-      ∷ instr.Call (call.JobSetPolicy 31 5 16 14 16)
-      ∷ instr.Call (call.JobCreate 31 5 12)
-      ∷ instr.Call (call.Close 31 12)
+      ∷ instr.Call (called name.JobSetPolicy (31 ∷ 5 ∷ 16 ∷ 14 ∷ 16 ∷ []) 0)
+      ∷ instr.Call (called name.JobCreate (31 ∷ 5 ∷ 12 ∷ []) 0)
+      ∷ instr.Call (called name.Close (31 ∷ 12 ∷ []) 0)
       ∷ instr.Local (local.Const 18 1)
-      ∷ instr.Call (call.ProcessCreate 31 5 18 12)
+      ∷ instr.Call (called name.ProcessCreate (31 ∷ 5 ∷ 18 ∷ 12 ∷ []) 0)
       ∷ instr.Local (local.JumpZero 12 37)
-      ∷ instr.Call (call.ProcessStart 31 12 3 16)
-      ∷ instr.Call (call.WaitOne 31 12 7 30)
-      ∷ instr.Call (call.TaskKill 31 5)
-      ∷ instr.Call (call.Close 31 12)
-      ∷ instr.Call (call.Replace 31 4 13 4)
-      ∷ instr.Call (call.ProcessExit 31)
-      ∷ instr.Call (call.ProcessExit 16)
+      ∷ instr.Call (called name.ProcessStart (31 ∷ 12 ∷ 3 ∷ 16 ∷ []) 0)
+      ∷ instr.Call (called name.WaitOne (31 ∷ 12 ∷ 7 ∷ 30 ∷ []) 0)
+      ∷ instr.Call (called name.TaskKill (31 ∷ 5 ∷ []) 0)
+      ∷ instr.Call (called name.Close (31 ∷ 12 ∷ []) 0)
+      ∷ instr.Call (called name.Replace (31 ∷ 4 ∷ 13 ∷ []) 4)
+      ∷ instr.Call (called name.ProcessExit (31 ∷ []) 0)
+      ∷ instr.Call (called name.ProcessExit (16 ∷ []) 0)
       ∷ [];
 }
 
@@ -103,7 +103,7 @@ child_image = record {
   starts = start kind.Event 4096 ∷ [];
   slots = [];
   code = instr.Call
-      (call.ProcessExit 1) ∷ [];
+      (called name.ProcessExit (1 ∷ []) 0) ∷ [];
 }
 
 -- program 0 is the first, program 1 that of the child, both checked
@@ -235,7 +235,7 @@ abbrev turns : List (ℕ × Choice)
 turns = first_turns ++ (own_turns ((9 ∷ []) ∷ [] ∷ []) ++ ((13, Values []) ∷ own_turns (replicate 4 [])))
 
 abbrev ok : CallName → TraceItem
-ok called = item.Call 7 called (outcome.Answered status.Ok)
+ok call = item.Call 7 call (outcome.Answered status.Ok)
 
 abbrev one : TraceItem
 one = item.Run 7 1

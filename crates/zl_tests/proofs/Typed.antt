@@ -5,7 +5,7 @@ use Rattle.zl_code.specs.declared.instr.Instr.{Instr}
 use Rattle.zl_code.specs.Image.{Image}
 use Rattle.zl_code.specs.Instructions.{row_of}
 use Rattle.zl_code.specs.Limits.{register_count}
-use Rattle.zl_code.specs.Spells.{local_parts, call_parts}
+use Rattle.zl_code.specs.Spells.{local_parts}
 use Rattle.zl_abs.specs.declared.cause.Cause.{Cause}
 use Rattle.zl_abs.specs.declared.value.AbsVal.{AbsVal}
 use Rattle.zl_abs.specs.declared.value.AbsVal.TheVariants.{Word}
@@ -180,5 +180,5 @@ IsStepBound-by i f steps h = record {
 
 -- names what has to unfold for both to compute
 unfoldable pub typing : Unit {0}
-unfolding below joined all_below all_joined with_value with_all start_state imm_of least_from local_rule call_rule uses_of examined_all are_distinct rule_with row_of local_parts call_parts
+unfolding below joined all_below all_joined with_value with_all start_state imm_of least_from local_rule call_rule uses_of examined_all are_distinct rule_with row_of local_parts
 typing = tt

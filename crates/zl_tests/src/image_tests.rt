@@ -2,7 +2,7 @@
 
 use std::alloc::Global;
 use std::test::*;
-use zl_code::{DecodeFault, Ending, Image, Instr, Row, decode, encode};
+use zl_code::{Columns, DecodeFault, Ending, Image, Instr, Row, decode, encode};
 use zl_rights::Condition;
 
 /// A raw program of eight instructions, which makes an event, signals, duplicates and closes it, and
@@ -140,8 +140,11 @@ fn rows_by_name(rt: HostRuntime) {
             Row::named(b"chan_write"),
             Some(Row {
                 opcode: 68,
-                fields: [_, _, _, _],
-                ending: Ending::Handles,
+                columns: Columns {
+                    fields: [_, _, _, _],
+                    ending: Ending::Handles,
+                    ..
+                },
                 ..
             })
         )

@@ -1,25 +1,19 @@
 -- A status or a system call that is found by its name.
 use Rattle.zl_trace.proofs.Common.{◌≡◌, ◌==◌, ℕ, Bool, true, List, [], ◌∷◌, Option, None, Some, slice_get, zero, suc, refl, sym, subst, eq-eqb, eqb-true, and_parts, cases_Bool, inl, inr}
-use Rattle.std.specs.Prelude.{IfSome, IfNone, ◌≢◌}
+use Rattle.std.specs.Prelude.{IfSome, IfNone, ◌≢◌, ◌-◌}
 use Rattle.std.specs.List.{find}
 use Rattle.std.specs.Cmp.Lexicographic.{pointwise}
 use Rattle.zl_rights.specs.declared.status.Status.{Status}
 use Rattle.zl_rights.specs.declared.status.Status.TheVariants as status
 use Rattle.zl_code.specs.declared.history.CallName.{CallName}
 use Rattle.zl_code.specs.declared.history.CallName.TheVariants as call
+use Rattle.zl_code.specs.Instructions.{call_row, calls}
 
 -- all statuses
 abbrev pub statuses : List Status
 statuses = status.Ok ∷ status.NotSupported ∷ status.NoResources ∷ status.NoMemory ∷ status.InvalidArgs ∷ status.BadHandle
     ∷ status.WrongType ∷ status.OutOfRange ∷ status.BufferTooSmall ∷ status.BadState ∷ status.TimedOut ∷ status.ShouldWait
     ∷ status.PeerClosed ∷ status.NotFound ∷ status.AlreadyExists ∷ status.AccessDenied ∷ []
-
--- all system calls
-abbrev pub calls : List CallName
-calls = call.Close ∷ call.Dup ∷ call.Replace ∷ call.ChanCreate ∷ call.ChanWrite ∷ call.ChanReadEtc ∷ call.EventCreate
-    ∷ call.Signal ∷ call.SignalPeer ∷ call.WaitOne ∷ call.WaitPoll ∷ call.WaitAsync ∷ call.PortCreate ∷ call.PortQueue
-    ∷ call.PortWait ∷ call.PortPoll ∷ call.PortCancel ∷ call.ProcessCreate ∷ call.ProcessStart ∷ call.ProcessExit
-    ∷ call.TaskKill ∷ call.JobCreate ∷ call.JobSetPolicy ∷ []
 
 same_to : (xs ys : List ℕ) → pointwise ◌==◌ xs ys ≡ true → xs ≡ ys
 same_to [] [] h = refl
@@ -86,27 +80,9 @@ status_among status.NotFound = (13, refl)
 status_among status.AlreadyExists = (14, refl)
 status_among status.AccessDenied = (15, refl)
 
+call_at : (c : CallName) → slice_get calls ((call_row c).opcode - 64) ≡ Some c
+call_at call.Close = refl
+call_at _ = refl
+
 pub call_among : (c : CallName) → (i : ℕ) × (slice_get calls i ≡ Some c)
-call_among call.Close = (0, refl)
-call_among call.Dup = (1, refl)
-call_among call.Replace = (2, refl)
-call_among call.ChanCreate = (3, refl)
-call_among call.ChanWrite = (4, refl)
-call_among call.ChanReadEtc = (5, refl)
-call_among call.EventCreate = (6, refl)
-call_among call.Signal = (7, refl)
-call_among call.SignalPeer = (8, refl)
-call_among call.WaitOne = (9, refl)
-call_among call.WaitPoll = (10, refl)
-call_among call.WaitAsync = (11, refl)
-call_among call.PortCreate = (12, refl)
-call_among call.PortQueue = (13, refl)
-call_among call.PortWait = (14, refl)
-call_among call.PortPoll = (15, refl)
-call_among call.PortCancel = (16, refl)
-call_among call.ProcessCreate = (17, refl)
-call_among call.ProcessStart = (18, refl)
-call_among call.ProcessExit = (19, refl)
-call_among call.TaskKill = (20, refl)
-call_among call.JobCreate = (21, refl)
-call_among call.JobSetPolicy = (22, refl)
+call_among c = ((call_row c).opcode - 64, call_at c)

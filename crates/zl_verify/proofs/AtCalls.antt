@@ -10,7 +10,7 @@ use Rattle.zl_code.specs.declared.instr.CallInstr.{CallInstr}
 use Rattle.zl_code.specs.Image.{Image, instr_at, call_at, call_in}
 use Rattle.zl_code.specs.Spells.{is_call_in_range}
 use Rattle.zl_code.specs.Local.{local_effect}
-use Rattle.zl_code.specs.Request.{Site, name_of, site_of}
+use Rattle.zl_code.specs.Request.{Site, site_of}
 use Rattle.zl_code.specs.Steps.{AtCall, IsStuck, moves, calls_at, next_of, next_at}
 use Rattle.zl_code.specs.Operands.{by_policy}
 use Rattle.zl_code.proofs.ImageRanges.{ranges}
@@ -19,12 +19,11 @@ use Rattle.zl_abs.specs.Bounds.{bounds_of}
 use Rattle.zl_abs.specs.States.{State, with_all}
 use Rattle.zl_abs.specs.Rule.{and_then, edges, passes}
 use Rattle.zl_abs.specs.Outcome.{Outcome as Ways}
-use Rattle.zl_abs.specs.CallRules.{Uses, is_declared, goes_on, stops, call_rule}
+use Rattle.zl_abs.specs.CallRules.{is_declared, uses_of, goes_on, stops, call_rule}
 use Rattle.zl_abs.specs.Typing.{rule_with}
 use Rattle.zl_abs.specs.Typing.{Holds as RuleHolds}
 use Rattle.zl_verify.specs.CallLaws.{StandsAtCall}
 use Rattle.zl_verify.proofs.LocalSteps.{in_range_at}
-use Rattle.zl_verify.proofs.Sites.{SiteAt, site_at}
 use Rattle.zl_verify.proofs.Aligned.{aligned}
 use Rattle.zl_verify.proofs.Standing.{has_rule, Stands}
 
@@ -34,7 +33,7 @@ use Rattle.zl_verify.proofs.Standing.{has_rule, Stands}
 pub record IsAtCall (i : Image) (c : Cpu) (called : CallName) (s : Site) : Type 0 where
   pub call : CallInstr
   pub stands : instr_at i c.counter ≡ Some (instr.Call call)
-  pub named : name_of call ≡ called
+  pub named : call.name ≡ called
   pub site : site_of call c ≡ Some s
 
 module _ (i : Image) (c : Cpu) where
@@ -42,10 +41,11 @@ module _ (i : Image) (c : Cpu) where
   unfolding next_at
   at_call called s = by (instr_at i c.counter) refl
     where
-      one : (x : CallInstr) → instr_at i c.counter ≡ Some (instr.Call x) → (o : Option Site) → site_of x c ≡ o → calls_at (name_of x) o ≡ AtCall called s → IsAtCall i c called s
+      one : (x : CallInstr) → instr_at i c.counter ≡ Some (instr.Call x) → (o : Option Site) → site_of x c ≡ o → calls_at x.name o ≡ AtCall called s
+          → IsAtCall i c called s
       one x is None site e = cc
       one x is (Some u) site e =
-          let named : name_of x ≡ called = cc in
+          let named : x.name ≡ called = cc in
           let same : u ≡ s = cc in
           record { call = x; stands = is; named = named; site = site ∙ ap Some same }
 
@@ -60,15 +60,15 @@ module _ (i : Image) (c : Cpu) where
       by (Some (instr.Unknown bytes)) is e = cc
 
   -- a call that isn't stuck is read
-  pub reads : (call : CallInstr) → call_at i c.counter ≡ Some call → (next_at i c ≡ IsStuck) ⊎ ((s : Site) × (next_at i c ≡ AtCall (name_of call) s))
+  pub reads : (call : CallInstr) → call_at i c.counter ≡ Some call → (next_at i c ≡ IsStuck) ⊎ ((s : Site) × (next_at i c ≡ AtCall call.name s))
   unfolding next_at
   reads call = by (instr_at i c.counter)
     where
-      one : (x : CallInstr) → x ≡ call → (o : Option Site) → (calls_at (name_of x) o ≡ IsStuck) ⊎ ((s : Site) × (calls_at (name_of x) o ≡ AtCall (name_of call) s))
+      one : (x : CallInstr) → x ≡ call → (o : Option Site) → (calls_at x.name o ≡ IsStuck) ⊎ ((s : Site) × (calls_at x.name o ≡ AtCall call.name s))
       one x same None = inl refl
-      one x same (Some s) = inr (s, ap (λ y. AtCall (name_of y) s) same)
+      one x same (Some s) = inr (s, ap (λ y. AtCall y.name s) same)
 
-      by : (o : Option Instr) → call_in o ≡ Some call → (next_of o c ≡ IsStuck) ⊎ ((s : Site) × (next_of o c ≡ AtCall (name_of call) s))
+      by : (o : Option Instr) → call_in o ≡ Some call → (next_of o c ≡ IsStuck) ⊎ ((s : Site) × (next_of o c ≡ AtCall call.name s))
       by None e = cc
       by (Some (instr.Local x)) e = cc
       by (Some (instr.Call x)) e = let same : x ≡ call = cc in one x same (site_of x c)
@@ -79,14 +79,13 @@ module _ (i : Image) (c : Cpu) where
 -- the rule of the call holds where it stands, and leads there
 pub record IsRuled (i : Image) (t : ℕ → Option State) (w : World) (p : ℕ) (q : Process) (called : CallName) (s : Site) (state : State) : Type 0 where
   pub at : IsAtCall i q.cpu called s
-  pub uses : Uses
   -- the state behind the operands
   pub left : State
   pub ways : Ways
   pub rule : call_rule (bounds_of i.code) i at.call state ≡ Ok ways
-  pub leads : (if goes_on at.call then passes (with_all left uses.results) else stops) ≡ ways
+  pub leads : (if goes_on at.call.name then passes (with_all left (uses_of (bounds_of i.code) state at.call).results) else stops) ≡ ways
   pub holds : RuleHolds t (and_then (Ok ways) (edges (length i.code) q.cpu.counter 0))
-  pub before : Stands w p q at.call s state i.slots uses left
+  pub before : Stands w p q at.call s state i.slots (bounds_of i.code) left
 
 module _ (i : Image) (t : ℕ → Option State) (w : World) (p : ℕ) (q : Process) (called : CallName) (s : Site) (k : StandsAtCall i t w p q called s) where
   policy_allows : (c : Option Condition) → is_declared i c ≡ true → by_policy w p c ≡ None
@@ -101,15 +100,11 @@ module _ (i : Image) (t : ℕ → Option State) (w : World) (p : ℕ) (q : Proce
     in_range_here : is_call_in_range at.call ≡ true
     in_range_here = rw at.stands at (in_range_at i.raw i.code q.cpu.counter (ranges i k.range).code)
 
-    site_here : SiteAt q.cpu at.call s
-    site_here = site_at q.cpu s at.call at.site
-
     ruled : (ways : Ways) → call_rule (bounds_of i.code) i at.call k.conforms.state ≡ Ok ways → RuleHolds t (and_then (Ok ways) (edges (length i.code) q.cpu.counter 0)) → IsRuled i t w p q called s k.conforms.state
     ruled ways is holds =
-        let (u, r, uses, has) = has_rule i k.conforms.state at.call (bounds_of i.code) ways is in
+        let (r, has) = has_rule i k.conforms.state at.call (bounds_of i.code) ways is in
         record {
           at = at;
-          uses = u;
           left = r;
           ways = ways;
           rule = is;
@@ -117,16 +112,14 @@ module _ (i : Image) (t : ℕ → Option State) (w : World) (p : ℕ) (q : Proce
           holds = holds;
           before = record {
             there = k.there;
-            bounds = bounds_of i.code;
-            uses = uses;
-            site = site_here;
+            site = at.site;
             holds = k.conforms.holds;
             states = k.typing.state q.cpu.counter k.conforms.state k.conforms.stands;
             in_range = in_range_here;
             operands = has.operands;
             distinct = has.distinct;
             free = has.free;
-            allowed = ap (by_policy w p) (aligned (bounds_of i.code) k.conforms.state at.call q.cpu s site_here u uses).condition ∙ policy_allows u.condition has.declared;
+            allowed = ap (by_policy w p) (aligned (bounds_of i.code) k.conforms.state at.call q.cpu s at.site).condition ∙ policy_allows _ has.declared;
           };
         }
 

@@ -1,7 +1,7 @@
 -- A process that waits as its typing says gets an answer that fits: then it stands at the end of a followed edge, as the typing says there.
-use Rattle.std.proofs.Common.{◌≡◌, ℕ, ◌≤◌, Bool, true, List, [], ◌∷◌, length, refl, sym, ap, ◌∙◌, subst, Option, Some, None, Result, Ok, Err, inr, arith, slice_set}
+use Rattle.std.proofs.Common.{◌≡◌, ℕ, ◌≤◌, Bool, true, List, [], ◌∷◌, length, refl, sym, ap, ◌∙◌, subst, Option, Some, None, Result, Ok, Err, inr, arith}
+use Rattle.std.proofs.Common.{slice_set, slice_index}
 use Rattle.std.specs.Prelude.{if◌then◌else◌}
-use Rattle.std.proofs.lemmas.Option.{same_Some}
 use Rattle.zl_rights.specs.Common.{answered, get, World, Process, Ready, Blocked}
 use Rattle.zl_rights.specs.World.{State as Life, SignalOf, PacketAt, Packet}
 use Rattle.zl_rights.specs.Wakes.{packet_values}
@@ -9,15 +9,15 @@ use Rattle.zl_rights.specs.declared.status.Status.TheVariants as status
 use Rattle.zl_code.specs.declared.instr.Instr.{Instr}
 use Rattle.zl_code.specs.declared.instr.Instr.TheVariants as instr
 use Rattle.zl_code.specs.declared.instr.CallInstr.{CallInstr}
-use Rattle.zl_code.specs.declared.instr.CallInstr.TheVariants as call
+use Rattle.zl_code.specs.declared.history.CallName.{CallName}
+use Rattle.zl_code.specs.declared.history.CallName.TheVariants as name
 use Rattle.zl_code.specs.Image.{Image, instr_at, call_at, call_in}
-use Rattle.zl_code.specs.Instructions.{row_of}
-use Rattle.zl_code.specs.Spells.{is_in_range, is_call_in_range, call_parts}
+use Rattle.zl_code.specs.Spells.{is_in_range, is_call_in_range}
 use Rattle.zl_code.specs.Local.{reg}
 use Rattle.zl_code.specs.Operands.{by_policy}
 use Rattle.zl_code.specs.CallTable.{wait_one, port_wait}
 use Rattle.zl_code.specs.Refusals.{handle_operands, condition_of}
-use Rattle.zl_code.specs.Request.{Site, site}
+use Rattle.zl_code.specs.Request.{Site, site, site_of}
 use Rattle.zl_code.specs.Calls.{taken_handles, cpu_answered}
 use Rattle.zl_code.proofs.ImageRanges.{ranges}
 use Rattle.zl_abs.specs.declared.value.AbsVal.TheVariants.{Word}
@@ -31,7 +31,7 @@ use Rattle.zl_abs.specs.CallRules.{Uses, uses_of, goes_on, stops, call_rule}
 use Rattle.zl_abs.specs.Typing.{rule_with, IsTyping}
 use Rattle.zl_abs.specs.Typing.{Holds as RuleHolds}
 use Rattle.zl_verify.specs.Steps.{targets_of, OneOf}
-use Rattle.zl_verify.specs.Conforms.{Holds, IsMemory, WaitsAt, Conforms}
+use Rattle.zl_verify.specs.Conforms.{Holds, IsMemory, waits_for, answered_in, WaitsAt, Conforms}
 use Rattle.zl_verify.specs.CallLaws.{IsSizedPacket, ends_of}
 use Rattle.zl_verify.proofs.LocalSteps.{in_range_at, reached}
 use Rattle.zl_verify.proofs.Refining.{Known}
@@ -39,7 +39,7 @@ use Rattle.zl_verify.proofs.Agreeing.{Arrives}
 use Rattle.zl_verify.proofs.Fitting.{Fits}
 use Rattle.zl_verify.proofs.Giving.{status_fits}
 use Rattle.zl_verify.proofs.OwnTable.{losing_all}
-use Rattle.zl_verify.proofs.Sites.{SiteAt, wait_one_at, port_wait_at}
+use Rattle.zl_verify.proofs.Sites.{call}
 use Rattle.zl_verify.proofs.Standing.{HasRule, has_rule, Stands, left, left_there, zeroed, answer_holds}
 use Rattle.zl_verify.proofs.Working.{packets_fit}
 
@@ -61,11 +61,16 @@ pub record IsAwake (i : Image) (t : ℕ → Option State) (q after : Process) : 
   pub program : after.program ≡ q.program
   pub typed : IsTyped i t after
 
-module _ (i : Image) (t : ℕ → Option State) (range : is_in_range i ≡ true) (typing : IsTyping i t) (w : World) (p : ℕ) (q : Process) (there : get w.processes p ≡ Some q) (k : IsTyped i t q) where
-  module _ (x : CallInstr) (is : instr_at i q.cpu.counter ≡ Some (instr.Call x)) (on : goes_on x ≡ true) (s : Site) (here : SiteAt q.cpu x s) (no_condition : condition_of s.request ≡ None) (none_taken : taken_handles s.request ≡ []) (values : List ℕ) where
+module _ (i : Image) (t : ℕ → Option State) (range : is_in_range i ≡ true) (typing : IsTyping i t) (w : World) (p : ℕ) (q : Process)
+    (there : get w.processes p ≡ Some q) (k : IsTyped i t q) where
+  module _ (x : CallInstr) (is : instr_at i q.cpu.counter ≡ Some (instr.Call x)) (on : goes_on x.name ≡ true) (s : Site) (here : site_of x q.cpu ≡ Some s)
+      (no_condition : condition_of s.request ≡ None) (none_taken : taken_handles s.request ≡ []) (values : List ℕ) where
     -- the process with the answer OK and these values
     abbrev after : Process
     after = record q { state = Ready; cpu = cpu_answered s status.Ok values q.cpu }
+
+    abbrev u : Uses
+    u = uses_of (bounds_of i.code) k.state x
 
     holds_here : RuleHolds t (and_then (call_rule (bounds_of i.code) i x k.state) (edges (length i.code) q.cpu.counter 0))
     unfolding rule_with
@@ -78,13 +83,12 @@ module _ (i : Image) (t : ℕ → Option State) (range : is_in_range i ≡ true)
     unfolding rule_with
     leads_here ways rule = rw (k.stands, is, rule) refl
 
-    module _ (ways : Ways) (rule : call_rule (bounds_of i.code) i x k.state ≡ Ok ways) (leads_on : RuleHolds t (and_then (Ok ways) (edges (length i.code) q.cpu.counter 0))) (u : Uses) (r : State) (uses : uses_of (bounds_of i.code) k.state x ≡ Some u) (has : HasRule i k.state x u r ways)
+    module _ (ways : Ways) (rule : call_rule (bounds_of i.code) i x k.state ≡ Ok ways)
+        (leads_on : RuleHolds t (and_then (Ok ways) (edges (length i.code) q.cpu.counter 0))) (r : State) (has : HasRule i k.state x u r ways)
         (fits : (xs : List ℕ) → Fits (get q.handles) r xs u.results (0 ∷ values) (get q.handles)) where
-      before : Stands w p q x s k.state i.slots u r
+      before : Stands w p q x s k.state i.slots (bounds_of i.code) r
       before = record {
         there = there;
-        bounds = bounds_of i.code;
-        uses = uses;
         site = here;
         holds = k.holds;
         states = typing.state q.cpu.counter k.state k.stands;
@@ -117,36 +121,48 @@ module _ (i : Image) (t : ℕ → Option State) (range : is_in_range i ≡ true)
             typed = record { state = r.1.state; stands = r.1.stands; holds = r.1.holds; memory = r.0; waits = tt };
           }
 
-    awake_at : ((u : Uses) (r : State) (xs : List ℕ) → uses_of (bounds_of i.code) k.state x ≡ Some u → Fits (get q.handles) r xs u.results (0 ∷ values) (get q.handles)) → IsAwake i t q after
+    awake_at : ((r : State) (xs : List ℕ) → Fits (get q.handles) r xs u.results (0 ∷ values) (get q.handles)) → IsAwake i t q after
     awake_at fits = by (call_rule (bounds_of i.code) i x k.state) refl holds_here
       where
         by : (o : Result Ways Cause) → call_rule (bounds_of i.code) i x k.state ≡ o → RuleHolds t (and_then o (edges (length i.code) q.cpu.counter 0)) → IsAwake i t q after
         by (Err c) rule holds = absurd holds
-        by (Ok ways) rule holds = let (u, r, uses, has) = has_rule i k.state x (bounds_of i.code) ways rule in is_awake ways rule holds u r uses has (λ xs. fits u r xs uses)
+        by (Ok ways) rule holds = let (r, has) = has_rule i k.state x (bounds_of i.code) ways rule in is_awake ways rule holds r has (fits r)
 
   -- a signal that it waits for is there
   pub signal_wakes : (koid mask : ℕ) (ds : List ℕ) → q.state ≡ Blocked (SignalOf koid mask) ds → (n : ℕ) → n ≤ 0xffff_ffff → IsAwake i t q (record q { state = Ready; cpu = answered q.cpu ds (0 ∷ n ∷ []) })
-  unfolding uses_of row_of call_parts taken_handles handle_operands
+  unfolding uses_of site_of taken_handles handle_operands
   signal_wakes koid mask ds blocked n few = by (instr_at i q.cpu.counter) refl (subst (λ (l : Life). WaitsAt l (call_at i q.cpu.counter)) blocked k.waits)
     where
+      named : (c : CallName) (rs last : List ℕ) → instr_at i q.cpu.counter ≡ Some (instr.Call (call c rs last)) → waits_for (SignalOf koid mask) c ≡ true
+          → IsAwake i t q (record q { state = Ready; cpu = answered q.cpu (answered_in (call c rs last)) (0 ∷ n ∷ []) })
+      named name.WaitOne rs last is e =
+          awake_at (call name.WaitOne rs last) is refl
+          (site (wait_one (reg q.cpu (slice_index rs 1)) (reg q.cpu (slice_index rs 2))) [] (slice_index rs 0 ∷ slice_index rs 3 ∷ [])) refl refl refl
+          (n ∷ []) (λ r xs. (get q.handles, (omega arith, omega arith, refl), (get q.handles, (few, omega arith, refl), refl)))
+      named _ rs last is e = cc
+
       by : (o : Option Instr) → instr_at i q.cpu.counter ≡ o → WaitsAt (Blocked (SignalOf koid mask) ds) (call_in o) → IsAwake i t q (record q { state = Ready; cpu = answered q.cpu ds (0 ∷ n ∷ []) })
-      by (Some (instr.Call (call.WaitOne a b m d))) is same =
-          subst (λ (e : List ℕ). IsAwake i t q (record q { state = Ready; cpu = answered q.cpu e (0 ∷ n ∷ []) })) (sym same)
-          (awake_at (call.WaitOne a b m d) is refl (site (wait_one (reg q.cpu b) (reg q.cpu m)) [] (a ∷ d ∷ [])) (wait_one_at a b m d) refl refl (n ∷ [])
-          (λ u r xs uses. subst (λ (y : Uses). Fits (get q.handles) r xs y.results (0 ∷ n ∷ []) (get q.handles)) (same_Some _ u uses)
-          (get q.handles, (omega arith, omega arith, refl), (get q.handles, (few, omega arith, refl), refl))))
+      by (Some (instr.Call x)) is (e, same) = rw same (named x.name x.registers x.last is e)
       by _ is bad = absurd bad
 
   -- a packet that it waits for is there
   pub packet_wakes : (koid : ℕ) (ds : List ℕ) → q.state ≡ Blocked (PacketAt koid) ds → (y : Packet) → IsSizedPacket y → IsAwake i t q (record q { state = Ready; cpu = answered q.cpu ds (0 ∷ packet_values y) })
-  unfolding uses_of row_of call_parts taken_handles handle_operands
+  unfolding uses_of site_of taken_handles handle_operands
   packet_wakes koid ds blocked y sized = by (instr_at i q.cpu.counter) refl (subst (λ (l : Life). WaitsAt l (call_at i q.cpu.counter)) blocked k.waits)
     where
+      named : (c : CallName) (rs last : List ℕ) → instr_at i q.cpu.counter ≡ Some (instr.Call (call c rs last)) → waits_for (PacketAt koid) c ≡ true
+          → IsAwake i t q (record q { state = Ready; cpu = answered q.cpu (answered_in (call c rs last)) (0 ∷ packet_values y) })
+      named name.PortWait rs last is e =
+          let at : ℕ → ℕ = slice_index rs in
+          awake_at (call name.PortWait rs last) is refl (site (port_wait (reg q.cpu (at 1))) [] (at 0 ∷ at 2 ∷ at 3 ∷ at 4 ∷ at 5 ∷ [])) refl refl refl
+          (packet_values y)
+          (λ r xs.
+          status_fits (get q.handles) r xs (at 0) ((at 2, Word ANY) ∷ (at 3, Word (rounded (bounds_of i.code) 1)) ∷ (at 4, Word ANY) ∷ (at 5, Word ANY) ∷ []) 0
+          (packet_values y) (get q.handles) (omega arith)
+          (packets_fit (bounds_of i.code) (y ∷ []) (sized, tt) (get q.handles) (with_value r (at 0) (Word 30)) (slice_set xs (at 0) 0) (at 2) (at 3)
+          (at 4) (at 5)))
+      named _ rs last is e = cc
+
       by : (o : Option Instr) → instr_at i q.cpu.counter ≡ o → WaitsAt (Blocked (PacketAt koid) ds) (call_in o) → IsAwake i t q (record q { state = Ready; cpu = answered q.cpu ds (0 ∷ packet_values y) })
-      by (Some (instr.Call (call.PortWait a b d e g h))) is same =
-          subst (λ (f : List ℕ). IsAwake i t q (record q { state = Ready; cpu = answered q.cpu f (0 ∷ packet_values y) })) (sym same)
-          (awake_at (call.PortWait a b d e g h) is refl (site (port_wait (reg q.cpu b)) [] (a ∷ d ∷ e ∷ g ∷ h ∷ [])) (port_wait_at a b d e g h) refl refl (packet_values y)
-          (λ u r xs uses. subst (λ (z : Uses). Fits (get q.handles) r xs z.results (0 ∷ packet_values y) (get q.handles)) (same_Some _ u uses)
-          (status_fits (get q.handles) r xs a ((d, Word ANY) ∷ (e, Word (rounded (bounds_of i.code) 1)) ∷ (g, Word ANY) ∷ (h, Word ANY) ∷ []) 0 (packet_values y) (get q.handles) (omega arith)
-          (packets_fit (bounds_of i.code) (y ∷ []) (sized, tt) (get q.handles) (with_value r a (Word 30)) (slice_set xs a 0) d e g h))))
+      by (Some (instr.Call x)) is (e, same) = rw same (named x.name x.registers x.last is e)
       by _ is bad = absurd bad

@@ -1,18 +1,16 @@
 -- Where the rule of a call holds, what the call asks for can be read.
-use Rattle.std.proofs.Common.{◌≡◌, ◌≢◌, ℕ, ◌+◌, ◌≤◌, Bool, true, false, not, List, length, refl, subst, Option, Some, None, Result, Ok, Err, arith, slice_index}
+use Rattle.std.proofs.Common.{◌≡◌, ℕ, ◌+◌, ◌≤◌, Bool, true, false, not, List, length, refl, subst, Option, Some, None, Result, Ok, Err, arith, slice_index}
 use Rattle.std.proofs.lemmas.Option.{same_Some}
 use Rattle.std.specs.Prelude.{if◌then◌else◌, nat_le}
-use Rattle.std.specs.Bool.{then_some}
 use Rattle.std.proofs.lemmas.Bool.Decides.{nat_tests}
 use Rattle.zl_rights.specs.Common.{Cpu}
 use Rattle.zl_code.specs.declared.instr.CallInstr.{CallInstr}
-use Rattle.zl_code.specs.declared.instr.CallInstr.TheVariants as call
+use Rattle.zl_code.specs.declared.layout.Ending.{Ending}
+use Rattle.zl_code.specs.declared.layout.Ending.TheVariants as ending
 use Rattle.zl_code.specs.Image.{Image}
-use Rattle.zl_code.specs.Instructions.{Row, row_of}
-use Rattle.zl_code.specs.Spells.{Last, Numbers, Room, Places, Parts, call_parts}
+use Rattle.zl_code.specs.Instructions.{call_row}
 use Rattle.zl_code.specs.Local.{reg, is_in_memory}
 use Rattle.zl_code.specs.Asked.{has_its_memory}
-use Rattle.zl_code.specs.Request.{Site, site_of}
 use Rattle.zl_abs.specs.declared.value.AbsVal.{AbsVal}
 use Rattle.zl_abs.specs.declared.value.AbsVal.TheVariants.{Word, Has, KindOf, RightsOf}
 use Rattle.zl_abs.specs.declared.cause.Cause.{Cause}
@@ -20,7 +18,8 @@ use Rattle.zl_abs.specs.declared.cause.Cause.TheVariants as cause
 use Rattle.zl_abs.specs.Values.{ANY, bound_of}
 use Rattle.zl_abs.specs.States.{State, value_at, bound_at}
 use Rattle.zl_abs.specs.Rule.{and_then, passes}
-use Rattle.zl_abs.specs.CallRules.{sum_fits, range_fits, are_words, is_declared, answers, examined_all, finished, state_after, range_in, Uses, uses_by, uses_in, uses_of, values_of, goes_on, stops, call_rule_by, call_rule}
+use Rattle.zl_abs.specs.CallRules.{sum_fits, range_fits, are_words, is_declared, answers, examined_all, finished, state_after, range_in, Uses, uses_of, goes_on}
+use Rattle.zl_abs.specs.CallRules.{stops, call_rule}
 use Rattle.zl_verify.specs.Conforms.{Table, Holds, IsMemory}
 
 -- the rule holds
@@ -71,31 +70,16 @@ module _ {f : Table} {i : Image} {s : State} (c : Cpu) (h : Holds f s c.register
       by None is y is2 e = cc
       by (Some m) is None is2 e = cc
 
-  range_there : (last : Last) (rs : List ℕ) → range_fits i s (range_in last rs) ≡ true → has_its_memory last rs c ≡ true
-  range_there (Numbers imm target) rs e = refl
-  range_there (Room handles) rs e = sum_there (slice_index rs 2) (slice_index rs 3) e
-  range_there (Places places) rs e = sum_there (slice_index rs 2) (slice_index rs 3) e
-
-  by_row : (o : Option Row) (p : Parts) (values : List AbsVal) (on : Bool) → IsGiven (call_rule_by i s on (uses_in o p values)) → has_its_memory p.last p.registers c ≡ true
-  by_row None p values on k = absurd k
-  by_row (Some r) p values on k =
-      let whole : IsGiven (state_after i s (uses_by r p values)) = given_first (state_after i s (uses_by r p values)) (λ t. Ok (if on then passes t else stops)) k in
-      let last = given_then (examined_all s (uses_by r p values).operands) (λ t. finished i s t (uses_by r p values)) whole in
-      range_there p.last p.registers (range_is_given i s last.0 (uses_by r p values) last.1)
+  range_there : (x : CallInstr) (e : Ending) → range_fits i s (range_in e x.registers) ≡ true → has_its_memory e x c ≡ true
+  range_there x ending.Room k = sum_there (slice_index x.registers 2) (slice_index x.registers 3) k
+  range_there x ending.Handles k = sum_there (slice_index x.registers 2) (slice_index x.registers 3) k
+  range_there x _ k = refl
 
   -- the memory of the call is there
-  pub memory_there : (bounds : List ℕ) (x : CallInstr) → IsGiven (call_rule bounds i x s) → has_its_memory (call_parts x).last (call_parts x).registers c ≡ true
+  pub memory_there : (bounds : List ℕ) (x : CallInstr) → IsGiven (call_rule bounds i x s) → has_its_memory (call_row x.name).ending x c ≡ true
   unfolding call_rule uses_of
-  memory_there bounds x k = by_row (row_of (call_parts x).opcode) (call_parts x) (values_of bounds s x) (goes_on x) k
-
--- memory that is there makes a site
-none_lacks : (b : Bool) (s : Site) → b ≡ true → then_some b s ≢ None
-none_lacks true s there e = cc
-none_lacks false s there e = cc
-
--- such a call has a site: none lacks a request
-pub has_site : (x : CallInstr) (c : Cpu) → has_its_memory (call_parts x).last (call_parts x).registers c ≡ true → site_of x c ≢ None
-unfolding site_of row_of call_parts
-has_site (call.ChanWrite a b m n hs) c there none = none_lacks (is_in_memory c (reg c m) (reg c n)) _ there none
-has_site (call.ChanReadEtc a b m n e f g places) c there none = none_lacks (is_in_memory c (reg c m) (reg c n)) _ there none
-has_site _ c there none = none_lacks true _ refl none
+  memory_there bounds x k =
+      let u = uses_of bounds s x in
+      let whole : IsGiven (state_after i s u) = given_first (state_after i s u) (λ t. Ok (if goes_on x.name then passes t else stops)) k in
+      let last = given_then (examined_all s u.operands) (λ t. finished i s t u) whole in
+      range_there x (call_row x.name).ending (range_is_given i s last.0 u last.1)

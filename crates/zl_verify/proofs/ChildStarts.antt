@@ -36,7 +36,7 @@ use Rattle.zl_code.specs.Refusals.{refusal, handle_operands, condition_of}
 use Rattle.zl_code.specs.CallTable.{Request, process_start, listed, effect, new_handles, gives_ok}
 use Rattle.zl_code.specs.Request.{Site, site}
 use Rattle.zl_code.specs.Calls.{Calls, CallBy, Choice, Refused, WantsMemory, Values, taken_handles, taken, may_choose, replied, with_effect}
-use Rattle.zl_code.specs.Steps.{AtCall, Acts, Runs, pid_of}
+use Rattle.zl_code.specs.Steps.{AtCall, Acts, Runs, next_in, pid_of}
 use Rattle.zl_code.specs.Sound.{IsSound}
 use Rattle.zl_code.specs.Headline.{IsSizedBoot, StartsChild, IsStarted}
 use Rattle.zl_abs.specs.Values.{ANY}
@@ -45,7 +45,8 @@ use Rattle.zl_verify.specs.WakeLaws.{IsRunStep, IsFitStep}
 use Rattle.zl_verify.proofs.Ordinary.{is_good, AreOrdinary, listed_ordinary}
 use Rattle.zl_verify.proofs.Working.{listed_none, test_fails}
 use Rattle.zl_verify.proofs.OwnEffect.{starts_created, no_child, same_policy}
-use Rattle.zl_verify.proofs.Others.{HasSite, site_for, left_other, replied_other, left_by_step}
+use Rattle.zl_verify.proofs.AtCalls.{at_call}
+use Rattle.zl_verify.proofs.Others.{left_other, replied_other, left_by_step}
 use Rattle.zl_verify.proofs.Giving.{getting_all}
 use Rattle.zl_verify.proofs.SizedCalls.{IsSizedRequest, request_sized}
 use Rattle.zl_verify.proofs.Woken.{fit_of, sound_before, settled_there, allowed_after}
@@ -277,12 +278,13 @@ module _ (lib : Library) (w : World) (p : ℕ) (x : TraceItem) (w2 : World) (b :
       (ready_child lib w p own b.step.is_there b.step.is_ready c.process c.handle c.word c.site.consumed c.site.destinations i (ap (program_of lib w) c.child ∙ program) b.step.acted calls)
 
   word_small : c.word ≤ ANY
-  word_small =
-      let (call, here) = at_site in
-      subst IsSizedRequest c.asks (request_sized own.cpu (b.sized.cpus p own b.step.is_there) call c.site here)
+  word_small = by (slice_get lib own.program) c.next
     where
-      at_site : HasSite own.cpu (AtCall name.ProcessStart c.site)
-      at_site = subst (HasSite own.cpu) c.next (site_for lib own)
+      by : (o : Option Program) → next_in o own.cpu ≡ AtCall name.ProcessStart c.site → c.word ≤ ANY
+      by None e = cc
+      by (Some g) e =
+          let at = at_call g.image own.cpu name.ProcessStart c.site e in
+          subst IsSizedRequest c.asks (request_sized own.cpu (b.sized.cpus p own b.step.is_there) at.call c.site at.site)
 
   pub child_starts : IsStarted lib i w2 k
   child_starts = by child_ready

@@ -9,7 +9,7 @@ use Rattle.zl_code.specs.declared.history.TraceItem.{TraceItem}
 use Rattle.zl_code.specs.Image.{Image, Library, Program}
 use Rattle.zl_code.specs.Starting.{program_in, program_of}
 use Rattle.zl_code.specs.Steps.{single}
-use Rattle.zl_code.specs.Headline.{IsSizedBoot, IsStarted, GoesWell, WasStarted, by_boot, by_call, IsCoveredFrom, CoveredGoWell}
+use Rattle.zl_code.specs.Headline.{IsSizedBoot, IsStarted, WasStarted, by_boot, by_call, CoveredGoWell}
 use Rattle.zl_code.proofs.JoinedItems.{joined_go_well}
 use Rattle.zl_verify.specs.Checks.{HasStepBound}
 use Rattle.zl_verify.specs.Covered.{IsVerified}

@@ -1,24 +1,22 @@
 -- What is true of each world of a run for its checked programs: a boot makes it so, and each step keeps it.
-use Rattle.std.proofs.Common.{◌≡◌, ℕ, ◌⊎◌, Bool, true, false, ◌==◌, refl, sym, ap, ◌∙◌, subst, List, Option, Some, None, inl, inr}
+use Rattle.std.proofs.Common.{◌≡◌, ℕ, ◌⊎◌, true, false, ◌==◌, refl, sym, ap, ◌∙◌, subst, List, Option, Some, None, inl, inr}
 use Rattle.std.specs.Prelude.{slice_get}
 use Rattle.std.proofs.lemmas.Bool.{cases_Bool, eqb-true}
-use Rattle.std.proofs.lemmas.Option.{none-some, same_Some}
-use Rattle.zl_rights.specs.Common.{get, is_process, runs, World, Process, State as Life, Ready, Ended}
+use Rattle.std.proofs.lemmas.Option.{same_Some}
+use Rattle.zl_rights.specs.Common.{get, runs, World, Process, State as Life, Ended}
 use Rattle.zl_rights.specs.Signals.{has_ended, state_passes}
 use Rattle.zl_code.specs.declared.boot.Statement.{Statement}
 use Rattle.zl_code.specs.declared.history.TraceItem.{TraceItem}
 use Rattle.zl_code.specs.Image.{Image, Library, Program}
 use Rattle.zl_code.specs.Spells.{is_in_range}
 use Rattle.zl_code.specs.Sound.{IsSound}
-use Rattle.zl_code.specs.Starting.{program_in, program_of}
+use Rattle.zl_code.specs.Starting.{program_in}
 use Rattle.zl_code.specs.Steps.{Step, pid_of}
 use Rattle.zl_code.specs.Headline.{IsSizedBoot, IsStarted}
 use Rattle.zl_code.proofs.SoundRuns.{step_keeps_processes}
-use Rattle.zl_abs.specs.States.{State}
-use Rattle.zl_abs.specs.Typing.{IsTyping}
 use Rattle.zl_verify.specs.Conforms.{Conforms}
-use Rattle.zl_verify.specs.Covered.{IsVerified, IsAsTyped, AreAsTyped, IsCovered}
-use Rattle.zl_verify.specs.RunLaws.{IsUnderWay, HasEnded}
+use Rattle.zl_verify.specs.Covered.{IsVerified, IsAsTyped, IsCovered}
+use Rattle.zl_verify.specs.RunLaws.{IsUnderWay}
 use Rattle.zl_verify.specs.WakeLaws.{IsFitStep}
 use Rattle.zl_verify.proofs.SizedRuns.{boot_sized, step_sized}
 use Rattle.zl_verify.proofs.Starting.{starts_conforming}

@@ -1,7 +1,8 @@
 -- Handle operands that pass by the rule aren't refused by the call, and those that are consumed leave the table.
-use Rattle.std.proofs.Common.{◌≡◌, ◌≢◌, ℕ, ◌<◌, ◌≤◌, ◌⊎◌, Bool, true, false, ◌&&◌, ◌||◌, not, ◌==◌, List, [], ◌∷◌, map, length, refl, sym, ap, ◌∙◌, subst, Option, Some, None, Ok, cond, arith, inl, inr, slice_set, slice_index, ⊎_elim}
+use Rattle.std.proofs.Common.{◌≡◌, ◌≢◌, ℕ, ◌<◌, ◌≤◌, ◌⊎◌, Bool, true, false, ◌&&◌, ◌||◌, not, ◌==◌, List, [], ◌∷◌, map, drop, length, refl, sym, ap, ◌∙◌, subst}
+use Rattle.std.proofs.Common.{Option, Some, None, Ok, cond, arith, inl, inr, slice_set, slice_index, ⊎_elim}
 use Rattle.std.specs.Prelude.{if◌then◌else◌}
-use Rattle.std.specs.List.{filter, list_any, AllByRecursion}
+use Rattle.std.specs.List.{filter, list_all, list_any, AllByRecursion}
 use Rattle.std.proofs.lemmas.Bool.{cases_eq, eqb-true}
 use Rattle.std.proofs.lemmas.Bool.Decides.{nat_tests}
 use Rattle.std.proofs.lemmas.List.{get_or-set_other}
@@ -31,6 +32,7 @@ use Rattle.zl_verify.specs.Conforms.{Table, IsAs, IsHandle, Describes, Holds}
 use Rattle.zl_verify.proofs.Owners.{value_at-with, value_at-here}
 use Rattle.zl_verify.proofs.Tagging.{states_with}
 use Rattle.zl_verify.proofs.Consuming.{removed, consume, consume_0}
+use Rattle.zl_verify.proofs.Fitting.{apart_then}
 
 -- ---- one operand
 
@@ -157,9 +159,13 @@ pub record Passed (w : World) (p : ℕ) (read : List ℕ) (arrays : List SlotArr
 abbrev IsUnread : State → List ℕ → List ℕ → Type 0
 IsUnread s xs read = (r : ℕ) → (slice_index xs r ≡ slice_index read r) ⊎ (value_at s r ≡ Word 0)
 
--- one of the registers, where 0 doesn't pass
-abbrev pub IsPlain : Operand → Type 0
-IsPlain o = (o.value < register_count) × (o.may_be_zero ≡ false)
+-- each operand is one of the registers
+abbrev pub AreOperands : List Operand → Type 0
+AreOperands os = AllByRecursion (λ (o : Operand). o.value < register_count) os
+
+-- 0 doesn't pass
+abbrev pub bars_zero : Operand → Bool
+bars_zero o = not o.may_be_zero
 
 not_zero : (o : Operand) → o.may_be_zero ≡ false → fault_of o (Word 0) ≡ None → ⊥
 not_zero o none e = let z : o.may_be_zero ≡ true = by o.may_be_zero (word_passes o 0 e) in cc
@@ -240,21 +246,24 @@ module _ (w : World) (p : ℕ) (read : List ℕ) (arrays : List SlotArray) (slot
           (states_with s states o.value lt (Word 0) refl) (still_unread s xs o.value lt unread) (rw is at later))
       by false is = named_step o os t xs seen is live (rest s xs seen h states unread (rw is at later))
 
-  operands : (os : List Operand) (s t : State) (xs seen : List ℕ) → Holds (unseen (Reads w p) seen) s xs arrays slots → IsState s → IsUnread s xs read → AllByRecursion IsPlain os → examined_all s os ≡ Ok t
+  operands : (os : List Operand) (s t : State) (xs seen : List ℕ) → Holds (unseen (Reads w p) seen) s xs arrays slots → IsState s → IsUnread s xs read
+      → AreOperands os → list_all bars_zero os ≡ true → examined_all s os ≡ Ok t
       → Passed w p read arrays slots t xs seen os
   unfolding examined_at examined_all
-  operands [] s t xs seen h states unread inside e = let is : s ≡ t = cc in record { none = refl; holds = rw (← is) h; states = rw (← is) states }
-  operands (o ∷ os) s t xs seen h states unread (plain, inside) e =
+  operands [] s t xs seen h states unread inside live e = let is : s ≡ t = cc in record { none = refl; holds = rw (← is) h; states = rw (← is) states }
+  operands (o ∷ os) s t xs seen h states unread (lt, inside) live e =
       let p2 = parts s t o os e in
-      step_by o os s t xs seen h states unread plain.0 (same_read s xs o plain.1 p2.0 unread) p2.0 p2.1
-      (λ u ys more holds are unread2 later. operands os u t ys more holds are unread2 inside later)
+      let bars = apart_then o.may_be_zero (list_all bars_zero os) live in
+      step_by o os s t xs seen h states unread lt (same_read s xs o bars.0 p2.0 unread) p2.0 p2.1
+      (λ u ys more holds are unread2 later. operands os u t ys more holds are unread2 inside bars.1 later)
 
   -- from the registers as they are read; at the first operand 0 may pass
-  pub operands_from : (os : List Operand) (s t : State) → Holds (Reads w p) s read arrays slots → IsState s → AllByRecursion (λ (o : Operand). o.value < register_count) os → ((o : Operand) (rest : List Operand) → os ≡ o ∷ rest → AllByRecursion IsPlain rest)
-      → examined_all s os ≡ Ok t → Passed w p read arrays slots t read [] os
+  pub operands_from : (os : List Operand) (s t : State) → Holds (Reads w p) s read arrays slots → IsState s → AreOperands os
+      → list_all bars_zero (drop 1 os) ≡ true → examined_all s os ≡ Ok t
+      → Passed w p read arrays slots t read [] os
   unfolding examined_at examined_all
-  operands_from [] s t h states inside plain e = let is : s ≡ t = cc in record { none = refl; holds = rw (← is) h; states = rw (← is) states }
-  operands_from (o ∷ os) s t h states (lt, inside) plain e =
+  operands_from [] s t h states inside live e = let is : s ≡ t = cc in record { none = refl; holds = rw (← is) h; states = rw (← is) states }
+  operands_from (o ∷ os) s t h states (lt, inside) live e =
       let p2 = parts s t o os e in
       step_by o os s t read [] h states (λ r. inl refl) lt refl p2.0 p2.1
-      (λ u ys more holds are unread later. operands os u t ys more holds are unread (plain o os refl) later)
+      (λ u ys more holds are unread later. operands os u t ys more holds are unread inside live later)

@@ -67,7 +67,7 @@ neither false b e = (refl, e)
 none_of : (a b : Bool) → a ≡ false → b ≡ false → (a || b) ≡ false
 none_of a b e g = rw (e, g) refl
 
-apart_then : (a b : Bool) → (not a && b) ≡ true → (a ≡ false) × (b ≡ true)
+pub apart_then : (a b : Bool) → (not a && b) ≡ true → (a ≡ false) × (b ≡ true)
 apart_then true b e = cc
 apart_then false b e = (refl, e)
 

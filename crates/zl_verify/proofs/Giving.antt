@@ -1,7 +1,7 @@
 -- What answers give fits: a status, handles at free values, and handles with their kinds and rights.
 use Rattle.std.proofs.Common.{◌≡◌, ℕ, zero, suc, ◌+◌, ◌*◌, ◌<◌, ◌≤◌, Bool, true, false, ◌&&◌, not, ◌==◌, List, [], ◌∷◌, length, refl, sym, ap, ◌∙◌, subst, IsTrue, Option, Some, None, arith, inl, inr, slice_set, slice_index}
 use Rattle.std.specs.Prelude.{is_some, nat_lt, bit_and}
-use Rattle.std.specs.List.{AllByRecursion}
+use Rattle.std.specs.List.{list_all, AllByRecursion}
 use Rattle.std.proofs.lemmas.Bool.{eqb-true}
 use Rattle.std.proofs.lemmas.Bool.Decides.{nat_tests}
 use Rattle.std.proofs.lemmas.List.{get_or-set_same, get_or-set_other, length-set}
@@ -44,17 +44,21 @@ pub word_fits : (f : Table) (s : State) (xs : List ℕ) (a m : ℕ) (ds : List (
 word_fits f s xs a m ds n vs g le few later = (f, (le, few, refl), later)
 
 -- 0 fits, where there is no value
-abbrev pub IsZeroable : AbsVal → Type 0
-IsZeroable (Word n) = Unit {0}
-IsZeroable (Has maybe kind rights) = maybe ≡ true
-IsZeroable _ = ⊥
+abbrev is_zeroable : AbsVal → Bool
+is_zeroable (Word n) = true
+is_zeroable (Has maybe kind rights) = maybe
+is_zeroable _ = false
 
-pub zeros_fit : (f : Table) (s : State) (xs : List ℕ) (ds : List (ℕ × AbsVal)) → AllByRecursion (λ (d : ℕ × AbsVal). IsZeroable d.1) ds → Fits f s xs ds [] f
+abbrev pub are_zeroable : List (ℕ × AbsVal) → Bool
+are_zeroable ds = list_all (λ d. is_zeroable d.1) ds
+
+pub zeros_fit : (f : Table) (s : State) (xs : List ℕ) (ds : List (ℕ × AbsVal)) → are_zeroable ds ≡ true → Fits f s xs ds [] f
 zeros_fit f s xs [] z = refl
-zeros_fit f s xs ((r, Word n) ∷ ds) (z, zs) = (f, (omega arith, omega arith, refl), zeros_fit f (with_value s r (Word n)) (slice_set xs r 0) ds zs)
-zeros_fit f s xs ((r, Has maybe kind rights) ∷ ds) (z, zs) = (f, inl (z, refl, refl), zeros_fit f (with_value s r (Has maybe kind rights)) (slice_set xs r 0) ds zs)
-zeros_fit f s xs ((r, KindOf t) ∷ ds) (z, zs) = absurd z
-zeros_fit f s xs ((r, RightsOf t) ∷ ds) (z, zs) = absurd z
+zeros_fit f s xs ((r, Word n) ∷ ds) z = (f, (omega arith, omega arith, refl), zeros_fit f (with_value s r (Word n)) (slice_set xs r 0) ds z)
+zeros_fit f s xs ((r, Has maybe kind rights) ∷ ds) z =
+    let two = both maybe (are_zeroable ds) z in (f, inl (two.0, refl, refl), zeros_fit f (with_value s r (Has maybe kind rights)) (slice_set xs r 0) ds two.1)
+zeros_fit f s xs ((r, KindOf t) ∷ ds) z = cc
+zeros_fit f s xs ((r, RightsOf t) ∷ ds) z = cc
 
 -- ---- new handles
 

@@ -1,15 +1,15 @@
 -- A process that doesn't run: what a step makes of it, which starts it at most.
 use Rattle.std.proofs.Common.{◌≡◌, ℕ, ◌⊎◌, Bool, true, false, ◌==◌, List, [], ◌∷◌, refl, sym, ap, ◌∙◌, subst, Option, Some, None, option_map, inl, inr}
-use Rattle.std.specs.Prelude.{⊤, if◌then◌else◌, slice_get}
+use Rattle.std.specs.Prelude.{if◌then◌else◌, slice_get}
 use Rattle.std.specs.List.{fold}
 use Rattle.std.proofs.lemmas.Bool.{cases_Bool, eqb-true}
 use Rattle.zl_rights.specs.declared.entry.Entry.{Entry}
-use Rattle.zl_rights.specs.declared.status.Status.{Status}
 use Rattle.zl_rights.specs.declared.status.Status.TheVariants as status
-use Rattle.zl_rights.specs.Common.{answered, get, put, is_process, lives, runs, Settles, process_settled, without_others, fired, wakes, World, Cpu, Process, State as Life, Created, Ready, Blocked, Object, Body, PortBody}
+use Rattle.zl_rights.specs.Common.{answered, get, put, is_process, lives, runs, Settles, process_settled, without_others, fired, wakes, World, Process}
+use Rattle.zl_rights.specs.Common.{State as Life, Created, Ready, Blocked, Object, Body, PortBody}
 use Rattle.zl_rights.specs.World.{Awaited, SignalOf, PacketAt, Packet}
 use Rattle.zl_rights.specs.Signals.{active, state_passes}
-use Rattle.zl_rights.specs.Numbers.{meets, KILLED}
+use Rattle.zl_rights.specs.Numbers.{meets}
 use Rattle.zl_rights.specs.Settle.{state_without}
 use Rattle.zl_rights.specs.Wakes.{made_ready, packet_values, with_body, woken_by_first, woken_by, woken_at_port, woken_from, woken_if_there, woken}
 use Rattle.zl_rights.proofs.MapLaws.{get-put, get-each}
@@ -19,24 +19,23 @@ use Rattle.zl_code.specs.declared.history.Outcome.{Outcome}
 use Rattle.zl_code.specs.declared.history.Outcome.TheVariants as outcome
 use Rattle.zl_code.specs.declared.history.TraceItem.{TraceItem}
 use Rattle.zl_code.specs.declared.history.TraceItem.TheVariants as item
-use Rattle.zl_code.specs.declared.instr.CallInstr.{CallInstr}
 use Rattle.zl_code.specs.Image.{Library, Program}
-use Rattle.zl_code.specs.Local.{reg}
 use Rattle.zl_code.specs.Tests.{object_at}
 use Rattle.zl_code.specs.Effects.{on_process, on_object, with_object, insert_all, ended, waiting}
 use Rattle.zl_code.specs.Starting.{is_created, created_process, started_with}
 use Rattle.zl_code.specs.Jobs.{is_within, process_killed, with_killed}
 use Rattle.zl_code.specs.Refusals.{refusal}
-use Rattle.zl_code.specs.CallTable.{Request, process_start, process_create, task_kill, effect, new_handles, receiver_of, entering_at, stored_by, gives_ok, gives_refused, awaited_by}
-use Rattle.zl_code.specs.Request.{Site, site, name_of}
+use Rattle.zl_code.specs.CallTable.{Request, process_start, process_create, task_kill, asks, effect, new_handles, receiver_of, entering_at, stored_by, gives_ok}
+use Rattle.zl_code.specs.CallTable.{gives_refused, awaited_by}
+use Rattle.zl_code.specs.Request.{Site}
 use Rattle.zl_code.specs.Calls.{Choice, Refused, WantsMemory, Values, CallBy, taken_handles, taken, replied, with_effect, after_refusal, after_ok, ok_outcome}
 use Rattle.zl_code.specs.Steps.{Next, Moves, AtCall, IsStuck, next_in, next_for, Acts, Step}
 use Rattle.zl_code.specs.Headline.{StartsChild}
+use Rattle.zl_code.proofs.CallRows.{asks_again}
 use Rattle.zl_verify.proofs.OwnEffect.{starts_created}
 use Rattle.zl_verify.proofs.AtCalls.{IsAtCall, at_call}
 use Rattle.zl_verify.proofs.OwnTable.{changed_elsewhere, inserted_elsewhere}
 use Rattle.zl_verify.proofs.Others.{left_other, stored_other, ended_other, waiting_other, replied_other}
-use Rattle.zl_verify.proofs.Sites.{SiteAt, site_at, process_create_at, process_start_at, task_kill_at}
 
 -- no process of this koid runs
 abbrev pub IsIdle : World → ℕ → Type 0
@@ -127,43 +126,41 @@ module _ (q : ℕ) where
 
 module _ (p q : ℕ) (apart : (p == q) ≡ false) (lib : Library) (w : World) where
   -- it doesn't run in u either, or the request starts it
-  data Idles (t : Site) (u : World) : Type 0 where
-    idles : IsIdle u q → Idles t u
-    starts : (process h word : ℕ) → t.request ≡ process_start process h word → object_at w p process ≡ q → Idles t u
+  data Idles (r : Request) (u : World) : Type 0 where
+    idles : IsIdle u q → Idles r u
+    starts : (process h word : ℕ) → r ≡ process_start process h word → object_at w p process ≡ q → Idles r u
 
-  carried : (t : Site) (u v : World) → get v.processes q ≡ get u.processes q → Idles t u → Idles t v
-  carried t u v same (idles i) = idles (same_idle q u v same i)
-  carried t u v same (starts process h word asked child) = starts process h word asked child
+  carried : (r : Request) (u v : World) → get v.processes q ≡ get u.processes q → Idles r u → Idles r v
+  carried r u v same (idles i) = idles (same_idle q u v same i)
+  carried r u v same (starts process h word asked child) = starts process h word asked child
 
-  done : (c : Cpu) (x : CallInstr) (t : Site) → SiteAt c x t → (u : World) → IsIdle u q → (vs ws : List ℕ) (es : List Entry)
-      → Idles t (insert_all (effect lib w u p t.request vs) (receiver_of w p t.request) es ws)
+  done : (r : Request) (u : World) → IsIdle u q → (vs ws : List ℕ) (es : List Entry) → Idles r (insert_all (effect lib w u p r vs) (receiver_of w p r) es ws)
   unfolding effect with_object on_object with_killed
-  done c _ _ (process_create_at a b d e) u idle vs ws es =
-      idles (ap (state_passes runs) (inserted_elsewhere es ws (effect lib w u p (process_create (reg c b) (reg c d)) vs) p q apart
-      ∙ get-put u.processes w.next_koid (created_process lib (reg c d)) q) ∙ by (w.next_koid == q))
+  done (process_create job program) u idle vs ws es =
+      idles (ap (state_passes runs) (inserted_elsewhere es ws (effect lib w u p (process_create job program) vs) p q apart
+      ∙ get-put u.processes w.next_koid (created_process lib program) q) ∙ by (w.next_koid == q))
     where
-      by : (b : Bool) → state_passes runs (if b then Some (created_process lib (reg c d)) else get u.processes q) ≡ false
+      by : (b : Bool) → state_passes runs (if b then Some (created_process lib program) else get u.processes q) ≡ false
       by true = refl
       by false = idle
-  done c _ _ (process_start_at a b o d) u idle vs ws es = by (cases_Bool (child == q))
+  done (process_start process h word) u idle vs ws es = by (cases_Bool (child == q))
     where
       child : ℕ
-      child = object_at w p (reg c b)
+      child = object_at w p process
 
       start : Process → Process
-      start = started_with vs (reg c d)
+      start = started_with vs word
 
-      by : ((child == q) ≡ true) ⊎ ((child == q) ≡ false) → Idles (site (process_start (reg c b) (reg c o) (reg c d)) (o ∷ []) (a ∷ []))
-          (insert_all (on_process u child start) child es ws)
-      by (inl same) = starts (reg c b) (reg c o) (reg c d) refl (eqb-true child q same)
+      by : ((child == q) ≡ true) ⊎ ((child == q) ≡ false) → Idles (process_start process h word) (insert_all (on_process u child start) child es ws)
+      by (inl same) = starts process h word refl (eqb-true child q same)
       by (inr other) = idles (same_idle q u (insert_all (on_process u child start) child es ws)
           (inserted_elsewhere es ws (on_process u child start) child q other ∙ changed_elsewhere u child start q other) idle)
-  done c _ _ (task_kill_at a b) u idle vs ws es =
+  done (task_kill target) u idle vs ws es =
       idles (ap (state_passes runs) (inserted_elsewhere es ws (with_killed u task) p q apart
       ∙ get-each u.processes (λ k x. process_killed (is_within u.objects task k) x) q) ∙ by (is_within u.objects task q) (get u.processes q) idle)
     where
       task : ℕ
-      task = object_at w p (reg c b)
+      task = object_at w p target
 
       over : (y : Process) → (l : Bool) → lives y.state ≡ l → runs y.state ≡ false → runs (process_killed true y).state ≡ false
       over y true is e = rw is refl
@@ -173,8 +170,7 @@ module _ (p q : ℕ) (apart : (p == q) ≡ false) (lib : Library) (w : World) wh
       by b None e = refl
       by false (Some y) e = e
       by true (Some y) e = over y (lives y.state) refl e
-  done c x t here u idle vs ws es =
-      idles (same_idle q u (insert_all (effect lib w u p t.request vs) p es ws) (inserted_elsewhere es ws (effect lib w u p t.request vs) p q apart) idle)
+  done r u idle vs ws es = idles (same_idle q u (insert_all (effect lib w u p r vs) p es ws) (inserted_elsewhere es ws (effect lib w u p r vs) p q apart) idle)
 
   module _ (idle : IsIdle w q) where
     when_refused : (t : Site) (o : Outcome) → IsIdle (after_refusal w p t o) q
@@ -184,18 +180,19 @@ module _ (p q : ℕ) (apart : (p == q) ≡ false) (lib : Library) (w : World) wh
     when_refused t (outcome.Ended code) = same_idle q w (ended w p code) (ended_other p q apart w code) idle
     when_refused t outcome.Blocked = idle
 
-    module _ (c : Cpu) (x : CallInstr) (t : Site) (here : SiteAt c x t) where
-      when_done : (vs : List ℕ) → Idles t (with_effect lib w (taken w p t) p t.request vs)
+    module _ (t : Site) where
+      when_done : (vs : List ℕ) → Idles t.request (with_effect lib w (taken w p t) p t.request vs)
       when_done vs =
-          carried t _ _ (stored_other p q apart (stored_by w p t.request)
+          carried t.request _ _ (stored_other p q apart (stored_by w p t.request)
           (insert_all (effect lib w (taken w p t) p t.request vs) (receiver_of w p t.request) (new_handles w p t.request) (entering_at t.request vs)))
-          (done c x t here (taken w p t) (same_idle q w (taken w p t) (left_other p q apart (taken_handles t.request) w) idle) vs (entering_at t.request vs)
+          (done t.request (taken w p t) (same_idle q w (taken w p t) (left_other p q apart (taken_handles t.request) w) idle) vs (entering_at t.request vs)
           (new_handles w p t.request))
 
-      when_ok : (vs : List ℕ) (o : Outcome) → Idles t (after_ok lib w p t vs o)
+      when_ok : (vs : List ℕ) (o : Outcome) → Idles t.request (after_ok lib w p t vs o)
       when_ok vs (outcome.Answered answer) =
-          carried t _ _ (replied_other p q apart (with_effect lib w (taken w p t) p t.request vs) t status.Ok (gives_ok w p t.request vs)) (when_done vs)
-      when_ok vs (outcome.Ended code) = carried t _ _ (ended_other p q apart (with_effect lib w (taken w p t) p t.request vs) code) (when_done vs)
+          carried t.request _ _ (replied_other p q apart (with_effect lib w (taken w p t) p t.request vs) t status.Ok (gives_ok w p t.request vs))
+          (when_done vs)
+      when_ok vs (outcome.Ended code) = carried t.request _ _ (ended_other p q apart (with_effect lib w (taken w p t) p t.request vs) code) (when_done vs)
       when_ok vs outcome.Blocked = idles (same_idle q w (waiting w p t.destinations (awaited_by w p t.request))
           (waiting_other p q apart w t.destinations (awaited_by w p t.request)) idle)
 
@@ -212,7 +209,7 @@ module _ (p q : ℕ) (apart : (p == q) ≡ false) (lib : Library) (w : World) wh
       when_called WantsMemory (Some o) is answer w2 h = absurd h
       when_called (Values vs) None is answer w2 h = by (when_ok vs (ok_outcome w p t.request))
         where
-          by : Idles t (after_ok lib w p t vs (ok_outcome w p t.request)) → IsIdle w2 q ⊎ IsStart answer
+          by : Idles t.request (after_ok lib w p t vs (ok_outcome w p t.request)) → IsIdle w2 q ⊎ IsStart answer
           by (idles i) = inl (subst (λ v. IsIdle v q) (sym h.2) i)
           by (starts process k word asked child) = inr (
             process,
@@ -225,12 +222,6 @@ module _ (p q : ℕ) (apart : (p == q) ≡ false) (lib : Library) (w : World) wh
             h.1 ∙ ap (ok_outcome w p) asked,
           )
       when_called (Values vs) (Some o) is answer w2 h = absurd h
-
--- the call that asks for it is process_start
-start_named : (c : Cpu) (x : CallInstr) (t : Site) → SiteAt c x t → (process h word : ℕ) → t.request ≡ process_start process h word
-    → name_of x ≡ name.ProcessStart
-start_named c _ _ (process_start_at a b o d) process h word e = refl
-start_named c _ _ _ process h word e = cc
 
 module _ (lib : Library) (w : World) (p : ℕ) (x : TraceItem) (w2 : World) (step : Step lib w p x w2) (q : ℕ) (apart : (p == q) ≡ false) (idle : IsIdle w q)
   where
@@ -259,8 +250,7 @@ module _ (lib : Library) (w : World) (p : ℕ) (x : TraceItem) (w2 : World) (ste
     by_program o at IsStuck next a = inl (same_idle q w step.acted (ap (λ v. get v.processes q) a.1 ∙ ended_other p q apart w _) idle)
     by_program None at (AtCall called t) next a = cc
     by_program (Some g) at (AtCall called t) next (o, told, h) =
-        by (when_called p q apart lib w idle step.process.cpu there.call t (site_at step.process.cpu t there.call there.site) h.0 (refusal lib w p t.request)
-        refl o step.acted h.1)
+        by (when_called p q apart lib w idle t h.0 (refusal lib w p t.request) refl o step.acted h.1)
       where
         there : IsAtCall g.image step.process.cpu called t
         there = at_call g.image step.process.cpu called t next
@@ -269,8 +259,8 @@ module _ (lib : Library) (w : World) (p : ℕ) (x : TraceItem) (w2 : World) (ste
             × (is_process w is_created q ≡ true) × (o ≡ outcome.Answered status.Ok)) → IsKept
         by (inl i) = inl i
         by (inr (process, k, word, asked, child, created, is)) = inr (starting called t (ap (λ y. next_in y step.process.cpu) at ∙ next)
-            (sym there.named ∙ start_named step.process.cpu there.call t (site_at step.process.cpu t there.call there.site) process k word asked) process k
-            word asked child created o told is)
+            (sym there.named ∙ (sym (asks_again there.call step.process.cpu t there.site) ∙ ap (λ r. (asks r).0) asked)) process k word asked child
+            created o told is)
 
     kept : IsKept
     kept = by_program (slice_get lib step.process.program) refl (next_for lib step.process) refl step.acts

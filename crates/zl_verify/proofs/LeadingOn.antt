@@ -9,7 +9,9 @@ use Rattle.zl_code.specs.declared.instr.Instr.TheVariants as instr
 use Rattle.zl_code.specs.declared.instr.LocalInstr.{LocalInstr}
 use Rattle.zl_code.specs.declared.instr.LocalInstr.TheVariants as local
 use Rattle.zl_code.specs.declared.instr.CallInstr.{CallInstr}
-use Rattle.zl_code.specs.declared.instr.CallInstr.TheVariants as call
+use Rattle.zl_code.specs.declared.history.CallName.{CallName}
+use Rattle.zl_code.specs.declared.history.CallName.TheVariants as name
+use Rattle.zl_code.specs.Headline.{is_pause_name}
 use Rattle.zl_code.specs.Image.{Image, instr_at, call_at, call_in}
 use Rattle.zl_abs.specs.declared.value.AbsVal.{AbsVal}
 use Rattle.zl_abs.specs.declared.value.AbsVal.TheVariants.{Word, Has, KindOf, RightsOf}
@@ -126,19 +128,18 @@ local_on bounds i (local.JumpHas a imm target) s = has_on s imm (value_at s a)
 local_on bounds i (local.JumpHasNot a imm target) s = unless_ways _ (has_on s imm (value_at s a))
 local_on bounds i x s = passes_on HasWay (λ t. refl) bounds i x s refl
 
-answered_on : (i : Image) (s : State) (on : Bool) (o : Option Uses) → on ≡ true → IfOk (call_rule_by i s on o) HasWay
-answered_on i s true None e = tt
-answered_on i s true (Some u) e = then_on HasWay (state_after i s u) _ (λ t. refl)
-answered_on i s false o e = cc
+answered_on : (i : Image) (s : State) (on : Bool) (u : Uses) → on ≡ true → IfOk (call_rule_by i s on u) HasWay
+answered_on i s true u e = then_on HasWay (state_after i s u) _ (λ t. refl)
+answered_on i s false u e = cc
 
 -- each call but the exit goes on
-no_exit : (x : CallInstr) → is_pause (Some x) ≡ false → goes_on x ≡ true
-no_exit (call.ProcessExit a) e = cc
+no_exit : (n : CallName) → is_pause_name n ≡ false → goes_on n ≡ true
+no_exit name.ProcessExit e = cc
 no_exit _ e = refl
 
-call_on : (bounds : List ℕ) (i : Image) (x : CallInstr) (s : State) → is_pause (Some x) ≡ false → IfOk (call_rule bounds i x s) HasWay
+call_on : (bounds : List ℕ) (i : Image) (x : CallInstr) (s : State) → is_pause_name x.name ≡ false → IfOk (call_rule bounds i x s) HasWay
 unfolding call_rule
-call_on bounds i x s e = answered_on i s (goes_on x) (uses_of bounds s x) (no_exit x e)
+call_on bounds i x s e = answered_on i s (goes_on x.name) (uses_of bounds s x) (no_exit x.name e)
 
 -- ---- the edges
 

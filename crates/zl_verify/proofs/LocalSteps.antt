@@ -1,6 +1,7 @@
 -- The law of the local steps of a process that conforms.
-use Rattle.std.proofs.Common.{◌≡◌, ◌≢◌, ℕ, zero, suc, ◌+◌, ◌⊎◌, Bool, true, false, List, [], ◌∷◌, ◌++◌, length, refl, ap, ◌∙◌, subst, IsTrue, Option, Some, None, Result, Ok, Err, IfSome, inl, inr}
-use Rattle.std.specs.Prelude.{if◌then◌else◌, slice_get, nat_lt}
+use Rattle.std.proofs.Common.{◌≡◌, ◌≢◌, ℕ, zero, suc, ◌+◌, ◌⊎◌, Bool, true, false, List, [], ◌∷◌, ◌++◌, length, refl, sym, ap, ◌∙◌, subst, IsTrue, Option, Some}
+use Rattle.std.proofs.Common.{None, Result, Ok, Err, IfSome, inl, inr}
+use Rattle.std.specs.Prelude.{if◌then◌else◌, is_some, slice_get, nat_lt}
 use Rattle.std.specs.List.{list_all}
 use Rattle.zl_rights.specs.Common.{bits, within, default_rights_of, get, World, Cpu, Process, Ready}
 use Rattle.zl_rights.specs.Numbers.{KNOWN_RIGHTS}
@@ -15,7 +16,7 @@ use Rattle.zl_code.specs.declared.instr.CallInstr.{CallInstr}
 use Rattle.zl_code.specs.Image.{Image, instr_at, call_at, is_among}
 use Rattle.zl_code.specs.Spells.{is_in_range, is_instr_in_range, is_local_in_range}
 use Rattle.zl_code.specs.Local.{local_effect}
-use Rattle.zl_code.specs.Request.{Site, site_of, name_of}
+use Rattle.zl_code.specs.Request.{Site, site_of}
 use Rattle.zl_code.specs.Steps.{Next, Moves, IsStuck, moves, calls_at, next_of, next_at}
 use Rattle.zl_code.specs.Effects.{on_process}
 use Rattle.zl_code.specs.Operands.{creates}
@@ -40,7 +41,8 @@ use Rattle.zl_verify.specs.LocalLaws.{GoesOn}
 use Rattle.zl_verify.proofs.Weakening.{weaken}
 use Rattle.zl_verify.proofs.Refining.{Known}
 use Rattle.zl_verify.proofs.Agreeing.{Arrives, agrees}
-use Rattle.zl_verify.proofs.CallSites.{IsGiven, memory_there, has_site}
+use Rattle.zl_verify.proofs.CallSites.{IsGiven, memory_there}
+use Rattle.zl_verify.proofs.Sites.{has_site}
 
 -- ---- facts of an image and of a world
 
@@ -170,14 +172,15 @@ module _ (i : Image) (t : ℕ → Option State) (range : IsTrue (is_in_range i))
       by : (o : Option Instr) → instr_at i c0.counter ≡ o → next_of o c0 ≡ Moves c → OneOf (λ n. c.counter ≡ n) (leads i t c0.counter) × StandsBy i t f c
       by None is e = cc
       by (Some (instr.Local x)) is e = one x is (local_effect x c0) refl e
-      by (Some (instr.Call x)) is e = absurd (no_move (name_of x) (site_of x c0) e)
+      by (Some (instr.Call x)) is e = absurd (no_move x.name (site_of x c0) e)
       by (Some (instr.Unknown bytes)) is e = cc
 
-  call_goes : (x : CallInstr) → instr_at i c0.counter ≡ Some (instr.Call x) → (o : Option Site) → site_of x c0 ≡ o → calls_at (name_of x) o ≢ IsStuck
+  call_goes : (x : CallInstr) → instr_at i c0.counter ≡ Some (instr.Call x) → (o : Option Site) → site_of x c0 ≡ o → calls_at x.name o ≢ IsStuck
   call_goes x is (Some s) site e = cc
   call_goes x is None site e =
       let given = call_is_given t (length i.code) c0.counter 0 (call_rule (bounds_of i.code) i x k.state) (holds_at (Some (instr.Call x)) is) in
-      has_site x c0 (memory_there c0 k.holds k.memory (bounds_of i.code) x given) site
+      let bad : false ≡ true = sym (ap is_some site) ∙ (has_site x c0 ∙ memory_there c0 k.holds k.memory (bounds_of i.code) x given) in
+      cc
 
   pub never_stuck : next_at i c0 ≢ IsStuck
   unfolding next_at

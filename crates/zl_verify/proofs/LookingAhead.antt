@@ -20,7 +20,7 @@ use Rattle.zl_abs.specs.States.{State}
 use Rattle.zl_abs.specs.Bounds.{bounds_of}
 use Rattle.zl_abs.specs.Rule.{and_then, passes, Edge, edge_to, edges}
 use Rattle.zl_abs.specs.LocalRules.{local_rule}
-use Rattle.zl_abs.specs.CallRules.{Uses, uses_of, state_after, goes_on, stops, call_rule_by, call_rule}
+use Rattle.zl_abs.specs.CallRules.{uses_of, state_after, goes_on, stops, call_rule}
 use Rattle.zl_abs.specs.Typing.{target_of, rule_by, rule_with, rule}
 use Rattle.zl_verify.specs.Lists.{at}
 use Rattle.zl_verify.specs.Steps.{is_pause, targets_of, leads_by, IsBelow, AllBelow}
@@ -58,15 +58,11 @@ local_suits bounds i x s = passes_on (λ w. w.jumped ≡ None) (λ t. refl) boun
 
 call_suits : (bounds : List ℕ) (i : Image) (x : CallInstr) (s : State) → IfOk (call_rule bounds i x s) (λ w. w.jumped ≡ None)
 unfolding call_rule
-call_suits bounds i x s = by (uses_of bounds s x)
+call_suits bounds i x s = then_on (λ w. w.jumped ≡ None) (state_after i s (uses_of bounds s x)) _ (stays (goes_on x.name))
   where
     stays : (on : Bool) (t : State) → (if on then passes t else stops).jumped ≡ None
     stays true t = refl
     stays false t = refl
-
-    by : (o : Option Uses) → IfOk (call_rule_by i s (goes_on x) o) (λ w. w.jumped ≡ None)
-    by None = tt
-    by (Some u) = then_on (λ w. w.jumped ≡ None) (state_after i s u) _ (stays (goes_on x))
 
 -- ---- what is above the ends of the code's edges is above those of the followed ones
 

@@ -1,11 +1,11 @@
 -- What one process does leaves every other as it is, and as its typing says, or ends it.
 use Rattle.std.proofs.Common.{◌≡◌, ℕ, ◌<◌, Bool, true, false, ◌==◌, List, [], ◌∷◌, refl, ap, ◌∙◌, IsTrue, Option, Some, None, option_map, arith}
-use Rattle.std.specs.Prelude.{⊤, is_some, slice_get}
+use Rattle.std.specs.Prelude.{is_some}
 use Rattle.zl_rights.specs.declared.entry.Entry.{Entry}
 use Rattle.zl_rights.specs.declared.policy.Condition.{Condition}
 use Rattle.zl_rights.specs.declared.status.Status.{Status}
 use Rattle.zl_rights.specs.declared.status.Status.TheVariants as status
-use Rattle.zl_rights.specs.Common.{STUCK, get, lives, runs, World, Cpu, Process, State as Life, Created, Ended}
+use Rattle.zl_rights.specs.Common.{STUCK, get, lives, runs, World, Process, State as Life, Created, Ended}
 use Rattle.zl_rights.specs.Numbers.{KILLED}
 use Rattle.zl_rights.specs.Signals.{has_ended}
 use Rattle.zl_rights.specs.World.{Awaited}
@@ -13,12 +13,8 @@ use Rattle.zl_rights.proofs.MapLaws.{get-put, get-each}
 use Rattle.zl_code.specs.declared.history.Outcome.{Outcome}
 use Rattle.zl_code.specs.declared.history.Outcome.TheVariants as outcome
 use Rattle.zl_code.specs.declared.history.TraceItem.{TraceItem}
-use Rattle.zl_code.specs.declared.instr.Instr.{Instr}
-use Rattle.zl_code.specs.declared.instr.Instr.TheVariants as instr
-use Rattle.zl_code.specs.declared.instr.CallInstr.{CallInstr}
-use Rattle.zl_code.specs.Image.{Image, Library, Program, instr_at, is_among}
+use Rattle.zl_code.specs.Image.{Image, Library, is_among}
 use Rattle.zl_code.specs.Spells.{is_in_range}
-use Rattle.zl_code.specs.Local.{reg, local_effect}
 use Rattle.zl_code.specs.Tests.{object_at}
 use Rattle.zl_code.specs.Operands.{creates}
 use Rattle.zl_code.specs.Effects.{on_process, on_object, with_object, process_without, process_ended, insert_all, remove_all, ended, storing, waiting}
@@ -26,10 +22,11 @@ use Rattle.zl_code.specs.Starting.{is_created, created_process, started_with}
 use Rattle.zl_code.specs.Jobs.{is_within, process_killed, with_killed}
 use Rattle.zl_code.specs.Refusals.{refusal}
 use Rattle.zl_code.specs.Sound.{IsSound}
-use Rattle.zl_code.specs.CallTable.{process_start, effect, new_handles, receiver_of, entering_at, stored_by, gives_ok, gives_refused, awaited_by}
-use Rattle.zl_code.specs.Request.{Site, site_of, name_of}
+use Rattle.zl_code.specs.CallTable.{Request, process_create, process_start, task_kill, effect, new_handles, receiver_of, entering_at, stored_by, gives_ok}
+use Rattle.zl_code.specs.CallTable.{gives_refused, awaited_by}
+use Rattle.zl_code.specs.Request.{Site}
 use Rattle.zl_code.specs.Calls.{Choice, Refused, WantsMemory, Values, CallBy, taken_handles, taken, replied, with_effect, after_refusal, after_ok, ok_outcome}
-use Rattle.zl_code.specs.Steps.{Next, Moves, AtCall, IsStuck, moves, calls_at, next_of, next_at, next_in, next_for, Acts, Step}
+use Rattle.zl_code.specs.Steps.{Next, Moves, AtCall, IsStuck, next_for, Acts, Step}
 use Rattle.zl_code.proofs.Entering.{left_behind}
 use Rattle.zl_abs.specs.States.{State}
 use Rattle.zl_abs.specs.Typing.{IsTyping}
@@ -37,41 +34,8 @@ use Rattle.zl_verify.specs.Conforms.{Conforms}
 use Rattle.zl_verify.specs.WakeLaws.{IsFitStep, OthersLeave, left_so, was_killed}
 use Rattle.zl_verify.proofs.OwnTable.{changed_elsewhere, inserted_elsewhere}
 use Rattle.zl_verify.proofs.OwnEffect.{starts_created, no_child, other_koid, AreAlike, alike_then, same_objects, alike_after, same_policy}
-use Rattle.zl_verify.proofs.Sites.{SiteAt, site_at, process_create_at, process_start_at, task_kill_at}
 use Rattle.zl_verify.proofs.Woken.{lives_then, sound_before, ends_step}
 use Rattle.zl_verify.proofs.Ended.{ended_still}
-
--- ---- what stands next
-
--- the call at the site is one that has a request
-abbrev pub HasSite : Cpu → Next → Type 0
-HasSite c (AtCall called s) = (x : CallInstr) × SiteAt c x s
-HasSite c _ = ⊤
-
-site_next : (i : Image) (c : Cpu) → HasSite c (next_at i c)
-unfolding next_at
-site_next i c = by (instr_at i c.counter)
-  where
-    moved : (o : Option Cpu) → HasSite c (moves o)
-    moved None = tt
-    moved (Some d) = tt
-
-    called : (x : CallInstr) (o : Option Site) → site_of x c ≡ o → HasSite c (calls_at (name_of x) o)
-    called x None is = tt
-    called x (Some s) is = (x, site_at c s x is)
-
-    by : (o : Option Instr) → HasSite c (next_of o c)
-    by None = tt
-    by (Some (instr.Local x)) = moved (local_effect x c)
-    by (Some (instr.Call x)) = called x (site_of x c) refl
-    by (Some (instr.Unknown bytes)) = tt
-
-pub site_for : (lib : Library) (process : Process) → HasSite process.cpu (next_for lib process)
-site_for lib process = by (slice_get lib process.program)
-  where
-    by : (o : Option Program) → HasSite process.cpu (next_in o process.cpu)
-    by None = tt
-    by (Some g) = site_next g.image process.cpu
 
 -- ---- the others
 
@@ -117,23 +81,28 @@ module _ (p q : ℕ) (apart : (p == q) ≡ false) where
     not_started lib process h word passes = no_child w (object_at w p process) q y (starts_created lib w p process h word passes) there old
 
     -- handles enter another table
-    entered_other : (c : Cpu) (x : CallInstr) (t : Site) → SiteAt c x t → (lib : Library) → refusal lib w p t.request ≡ None → (es : List Entry) (vs : List ℕ) (v : World) → Same (insert_all v (receiver_of w p t.request) es vs) v
-    entered_other c _ _ (process_start_at a b o d) lib passes es vs v = inserted_elsewhere es vs v (object_at w p (reg c b)) q (not_started lib (reg c b) (reg c o) (reg c d) passes)
-    entered_other c _ _ _ lib passes es vs v = inserted_elsewhere es vs v p q apart
+    entered_other : (r : Request) (lib : Library) → refusal lib w p r ≡ None → (es : List Entry) (vs : List ℕ) (v : World)
+        → Same (insert_all v (receiver_of w p r) es vs) v
+    entered_other (process_start process h word) lib passes es vs v =
+        inserted_elsewhere es vs v (object_at w p process) q (not_started lib process h word passes)
+    entered_other _ lib passes es vs v = inserted_elsewhere es vs v p q apart
 
     killed_or_not : (b : Bool) → IsLeft y (Some (process_killed b y))
     killed_or_not true = was_ended refl
     killed_or_not false = as_before refl
 
-    effect_other : (c : Cpu) (x : CallInstr) (t : Site) → SiteAt c x t → (lib : Library) → refusal lib w p t.request ≡ None → (u : World) → get u.processes q ≡ Some y → q < w.next_koid → (vs : List ℕ) → IsLeft y (get (effect lib w u p t.request vs).processes q)
+    effect_other : (r : Request) (lib : Library) → refusal lib w p r ≡ None → (u : World) → get u.processes q ≡ Some y → q < w.next_koid → (vs : List ℕ)
+        → IsLeft y (get (effect lib w u p r vs).processes q)
     unfolding effect with_object on_object with_killed
-    effect_other c _ _ (process_create_at a b d e) lib passes u at below vs = as_before (get-put u.processes w.next_koid (created_process lib (reg c d)) q ∙ rw (other_koid w.next_koid q below) at)
-    effect_other c _ _ (process_start_at a b o d) lib passes u at below vs =
-        as_before (changed_elsewhere u (object_at w p (reg c b)) (started_with vs (reg c d)) q (not_started lib (reg c b) (reg c o) (reg c d) passes) ∙ at)
-    effect_other c _ _ (task_kill_at a b) lib passes u at below vs =
-        left_same y _ _ (get-each u.processes (λ k x. process_killed (is_within u.objects (object_at w p (reg c b)) k) x) q ∙ ap (option_map (process_killed (is_within u.objects (object_at w p (reg c b)) q))) at)
-        (killed_or_not (is_within u.objects (object_at w p (reg c b)) q))
-    effect_other c _ _ _ lib passes u at below vs = as_before at
+    effect_other (process_create job program) lib passes u at below vs =
+        as_before (get-put u.processes w.next_koid (created_process lib program) q ∙ rw (other_koid w.next_koid q below) at)
+    effect_other (process_start process h word) lib passes u at below vs =
+        as_before (changed_elsewhere u (object_at w p process) (started_with vs word) q (not_started lib process h word passes) ∙ at)
+    effect_other (task_kill task) lib passes u at below vs =
+        left_same y _ _ (get-each u.processes (λ k x. process_killed (is_within u.objects (object_at w p task) k) x) q
+        ∙ ap (option_map (process_killed (is_within u.objects (object_at w p task) q))) at)
+        (killed_or_not (is_within u.objects (object_at w p task) q))
+    effect_other _ lib passes u at below vs = as_before at
 
 module _ (lib : Library) (w : World) (p : ℕ) (caller : Process) (there : get w.processes p ≡ Some caller) (below : (q : ℕ) (y : Process) → get w.processes q ≡ Some y → q < w.next_koid) where
   -- a world in which every started process but p is as it was or killed, and each policy of such a one as it was
@@ -169,14 +138,16 @@ module _ (lib : Library) (w : World) (p : ℕ) (caller : Process) (there : get w
   when_refused t (outcome.Ended code) = when_ended w code nothing_done
   when_refused t outcome.Blocked = nothing_done
 
-  module _ (c : Cpu) (x : CallInstr) (t : Site) (here : SiteAt c x t) where
+  module _ (t : Site) where
     when_done : refusal lib w p t.request ≡ None → (vs : List ℕ) → LeavesOthers (with_effect lib w (taken w p t) p t.request vs)
     when_done passes vs = record {
       others = λ q y apart at old.
           left_same y _ _
-          (stored_other p q apart (stored_by w p t.request) _ ∙ entered_other p q apart w y at old c x t here lib passes (new_handles w p t.request) (entering_at t.request vs) (effect lib w (taken w p t) p t.request vs))
-          (effect_other p q apart w y at old c x t here lib passes (taken w p t) (left_other p q apart (taken_handles t.request) w ∙ at) (below q y at) vs);
-      alike = alike_then w w (taken w p t) _ (when_taken t).alike (alike_after c x t here lib w (taken w p t) p passes (rw (left_behind w p caller (taken_handles t.request) there).1.next_koid (omega arith)) vs);
+          (stored_other p q apart (stored_by w p t.request) _ ∙ entered_other p q apart w y at old t.request lib passes (new_handles w p t.request)
+          (entering_at t.request vs) (effect lib w (taken w p t) p t.request vs))
+          (effect_other p q apart w y at old t.request lib passes (taken w p t) (left_other p q apart (taken_handles t.request) w ∙ at) (below q y at) vs);
+      alike = alike_then w w (taken w p t) _ (when_taken t).alike
+          (alike_after t.request lib w (taken w p t) p passes (rw (left_behind w p caller (taken_handles t.request) there).1.next_koid (omega arith)) vs);
     }
 
     when_ok : refusal lib w p t.request ≡ None → (vs : List ℕ) (o : Outcome) → LeavesOthers (after_ok lib w p t vs o)
@@ -192,18 +163,19 @@ module _ (lib : Library) (w : World) (p : ℕ) (caller : Process) (there : get w
     when_called (Values vs) None is answer w2 h = rw h.2 (when_ok is vs (ok_outcome w p t.request))
     when_called (Values vs) (Some o) is answer w2 h = absurd h
 
-  when_acted : (c : Cpu) (n : Next) → HasSite c n → (x : TraceItem) (w2 : World) → Acts lib w p n x w2 → LeavesOthers w2
+  when_acted : (n : Next) (x : TraceItem) (w2 : World) → Acts lib w p n x w2 → LeavesOthers w2
   unfolding on_process
-  when_acted c (Moves d) site x w2 a = rw a.1 (then_p w (on_process w p (λ (y : Process). record y { cpu = d })) nothing_done (λ q apart. changed_elsewhere w p _ q apart) refl)
-  when_acted c (AtCall called t) (y, here) x w2 (o, e, h) = when_called c y t here h.0 (refusal lib w p t.request) refl o w2 h.1
-  when_acted c IsStuck site x w2 a = rw a.1 (when_ended w STUCK nothing_done)
+  when_acted (Moves d) x w2 a =
+      rw a.1 (then_p w (on_process w p (λ (y : Process). record y { cpu = d })) nothing_done (λ q apart. changed_elsewhere w p _ q apart) refl)
+  when_acted (AtCall called t) x w2 (o, e, h) = when_called t h.0 (refusal lib w p t.request) refl o w2 h.1
+  when_acted IsStuck x w2 a = rw a.1 (when_ended w STUCK nothing_done)
 
 pub keys_below : (w : World) → IsSound w → (q : ℕ) (y : Process) → get w.processes q ≡ Some y → q < w.next_koid
 keys_below w sound q y at = sound.processes q (ap is_some at)
 
 module _ (lib : Library) (w : World) (p : ℕ) (x : TraceItem) (w2 : World) (sound : IsSound w) (step : Step lib w p x w2) where
   pub left_by_step : LeavesOthers lib w p step.process step.is_there (keys_below w sound) step.acted
-  left_by_step = when_acted lib w p step.process step.is_there (keys_below w sound) step.process.cpu (next_for lib step.process) (site_for lib step.process) x step.acted step.acts
+  left_by_step = when_acted lib w p step.process step.is_there (keys_below w sound) (next_for lib step.process) x step.acted step.acts
 
   -- what has ended is as it was right after the act of another
   pub over_after_act : (q : ℕ) (y : Process) → (p == q) ≡ false → get w.processes q ≡ Some y → has_ended y.state ≡ true → get step.acted.processes q ≡ Some y

@@ -1,5 +1,6 @@
 -- The law of a checked process's own call.
-use Rattle.std.proofs.Common.{◌≡◌, ℕ, ◌+◌, ◌⊎◌, Bool, true, false, not, List, [], ◌∷◌, length, refl, sym, ap, ◌∙◌, subst, IsTrue, Option, Some, None, Ok, inl, inr, arith}
+use Rattle.std.proofs.Common.{◌≡◌, ℕ, ◌+◌, ◌⊎◌, Bool, true, false, not, List, [], ◌∷◌, length, refl, sym, ap, ◌∙◌, subst, IsTrue, Option, Some, None, Ok, inl}
+use Rattle.std.proofs.Common.{inr, arith, slice_index}
 use Rattle.std.specs.Prelude.{if◌then◌else◌, is_some, ℤ}
 use Rattle.std.specs.Bool.{then_some}
 use Rattle.std.proofs.lemmas.Option.{same_Some}
@@ -14,30 +15,31 @@ use Rattle.zl_code.specs.declared.history.CallName.TheVariants as name
 use Rattle.zl_code.specs.declared.history.Outcome.{Outcome}
 use Rattle.zl_code.specs.declared.history.Outcome.TheVariants as outcome
 use Rattle.zl_code.specs.declared.instr.CallInstr.{CallInstr}
-use Rattle.zl_code.specs.declared.instr.CallInstr.TheVariants as call
 use Rattle.zl_code.specs.Image.{Image, Library, call_at, call_in, is_among}
 use Rattle.zl_code.specs.Spells.{is_in_range}
 use Rattle.zl_code.specs.Handles.{HandlesAreSound}
 use Rattle.zl_code.specs.Steps.{AtCall, IsStuck, next_at}
-use Rattle.zl_code.specs.Instructions.{row_of}
 use Rattle.zl_code.specs.Local.{reg}
 use Rattle.zl_code.specs.Effects.{signed_word, on_process, waiting}
 use Rattle.zl_code.specs.Tests.{object_at}
 use Rattle.zl_code.specs.Operands.{creates, by_policy, examined}
 use Rattle.zl_code.specs.Waiting.{is_active_at, packet_awaited, packets_at}
-use Rattle.zl_code.specs.CallTable.{process_exit, task_kill, listed, entering_at, stored_by, gives_ok, gives_refused, awaited_by, ends_caller, outcome_of}
+use Rattle.zl_code.specs.CallTable.{Request, asks, process_exit, task_kill, listed, entering_at, stored_by, gives_ok, gives_refused, awaited_by, ends_caller}
+use Rattle.zl_code.specs.CallTable.{outcome_of}
 use Rattle.zl_code.specs.Jobs.{is_within}
 use Rattle.zl_code.specs.Refusals.{condition_of, handle_operands, refusal}
-use Rattle.zl_code.specs.Request.{Site, site, name_of}
+use Rattle.zl_code.specs.Request.{Site, site, site_of}
 use Rattle.zl_code.specs.Calls.{Calls, CallBy, Choice, Refused, WantsMemory, Values, taken_handles, may_choose, taken, cpu_answered, replied, with_effect, after_refusal, after_ok}
 use Rattle.zl_code.specs.Headline.{is_fault}
+use Rattle.zl_code.proofs.CallRows.{asks_again}
 use Rattle.zl_code.proofs.Entering.{left_behind}
 use Rattle.zl_abs.specs.States.{State, with_all}
 use Rattle.zl_abs.specs.Rule.{and_then, edges, passes}
-use Rattle.zl_abs.specs.CallRules.{goes_on, stops}
+use Rattle.zl_abs.specs.Bounds.{bounds_of}
+use Rattle.zl_abs.specs.CallRules.{Uses, uses_of, goes_on, stops}
 use Rattle.zl_abs.specs.Typing.{rule_with, IsTyping}
 use Rattle.zl_verify.specs.Steps.{targets_of, OneOf}
-use Rattle.zl_verify.specs.Conforms.{Holds, IsMemory, WaitsAt, Conforms}
+use Rattle.zl_verify.specs.Conforms.{Holds, IsMemory, waits_for, WaitsAt, Conforms}
 use Rattle.zl_verify.specs.CallLaws.{StandsAtCall, ends_of, IsAnswered, IsWaiting, IsOwnEnd, exits, kills, CanCall}
 use Rattle.zl_verify.proofs.Writing.{nothing_at_0}
 use Rattle.zl_verify.proofs.Refining.{Known}
@@ -46,7 +48,7 @@ use Rattle.zl_verify.proofs.Agreeing.{Arrives}
 use Rattle.zl_verify.proofs.Fitting.{Fits}
 use Rattle.zl_verify.proofs.Giving.{getting_all, IsFreeLast}
 use Rattle.zl_verify.proofs.OwnTable.{changed_here, losing_all, losing_same, own_handles, storing_in, lost_and_got}
-use Rattle.zl_verify.proofs.Sites.{SiteAt, wait_one_at, port_wait_at, process_exit_at, task_kill_at}
+use Rattle.zl_verify.proofs.Sites.{call, AtSite, of_site}
 use Rattle.zl_verify.proofs.Standing.{passed, left, left_there, taken_there, not_refused, zeroed, zeroed_hold, answer_holds}
 use Rattle.zl_verify.proofs.AtCalls.{IsRuled, is_ruled, reads}
 use Rattle.zl_verify.proofs.Ordinary.{is_good, IsOrdinary, first_ordinary, listed_ordinary}
@@ -57,47 +59,57 @@ use Rattle.zl_verify.proofs.Storing.{storing_same, still_whole}
 
 -- ---- how a call can end
 
--- it is process_exit with this code
-record IsExit (x : CallInstr) (t : Site) : Type 0 where
-  code : ℕ
-  same : t ≡ site (process_exit code) [] []
-  named : name_of x ≡ name.ProcessExit
-
 -- behind an answer the call goes on, or it is process_exit
-answers_or_exits : (c : Cpu) (x : CallInstr) (t : Site) → SiteAt c x t → (goes_on x ≡ true) ⊎ IsExit x t
-answers_or_exits c _ _ (process_exit_at a) = inr (record { code = reg c a; same = refl; named = refl })
-answers_or_exits c _ _ _ = inl refl
+answers_or_exits : (r : Request) → (goes_on (asks r).0 ≡ true) ⊎ ((code : ℕ) × (r ≡ process_exit code))
+answers_or_exits (process_exit code) = inr (code, refl)
+answers_or_exits _ = inl refl
 
--- of those that go on, task_kill alone ends its caller
-ends_by_kill : (c : Cpu) (x : CallInstr) (t : Site) → SiteAt c x t → goes_on x ≡ true → (w : World) (p : ℕ) (code : ℤ) → ends_caller w p t.request ≡ Some code → IsOwnEnd w p (name_of x) t code
-ends_by_kill c _ _ (process_exit_at a) on w p code is = cc
-ends_by_kill c _ _ (task_kill_at a b) on w p code is = by (is_within w.objects (object_at w p (reg c b)) p) refl is
+-- a call that ends its caller is process_exit, or task_kill
+ends_so : (r : Request) (consumed destinations : List ℕ) (w : World) (p : ℕ) (code : ℤ) → ends_caller w p r ≡ Some code
+    → IsOwnEnd w p (asks r).0 (site r consumed destinations) code
+ends_so (process_exit number) cs ds w p code is = exits number refl refl (sym (same_Some (signed_word number) code is))
+ends_so (task_kill task) cs ds w p code is = by (is_within w.objects (object_at w p task) p) refl is
   where
-    by : (t : Bool) → is_within w.objects (object_at w p (reg c b)) p ≡ t → then_some t KILLED ≡ Some code → IsOwnEnd w p name.TaskKill (site (task_kill (reg c b)) [] (a ∷ [])) code
-    by true within e = kills (reg c b) refl refl within (sym (same_Some KILLED code e))
+    by : (t : Bool) → is_within w.objects (object_at w p task) p ≡ t → then_some t KILLED ≡ Some code
+        → IsOwnEnd w p name.TaskKill (site (task_kill task) cs ds) code
+    by true within e = kills task refl refl within (sym (same_Some KILLED code e))
     by false within e = cc
-ends_by_kill c _ _ _ on w p code is = cc
+ends_so _ cs ds w p code is = cc
 
 -- process_exit ends its caller, and nothing else comes of it
-only_exits : (lib : Library) (w : World) (p n : ℕ) (answer : Outcome) (w2 : World) → Calls lib w p (site (process_exit n) [] []) answer w2 → answer ≡ outcome.Ended (signed_word n)
-unfolding refusal handle_operands examined listed row_of
-only_exits lib w p n answer w2 (Refused, h) = absurd h
-only_exits lib w p n answer w2 (WantsMemory, h) = cc
-only_exits lib w p n answer w2 (Values vs, h) = h.1
+only_exits : (lib : Library) (w : World) (p n : ℕ) (cs ds : List ℕ) (answer : Outcome) (w2 : World) → Calls lib w p (site (process_exit n) cs ds) answer w2
+    → answer ≡ outcome.Ended (signed_word n)
+unfolding refusal handle_operands examined listed
+only_exits lib w p n cs ds answer w2 (Refused, h) = absurd h
+only_exits lib w p n cs ds answer w2 (WantsMemory, h) = cc
+only_exits lib w p n cs ds answer w2 (Values vs, h) = h.1
 
 -- a call that waits stands at a wait of the kind
-waits_here : (c : Cpu) (x : CallInstr) (t : Site) → SiteAt c x t → (w : World) (p : ℕ) (awaited : Awaited) → awaited_by w p t.request ≡ Some awaited → WaitsAt (Blocked awaited t.destinations) (Some x)
-waits_here c _ _ (wait_one_at a b m d) w p awaited = by (not (is_active_at w p (reg c b) (reg c m))) (object_at w p (reg c b))
+waits_by : (c : Cpu) (w : World) (p : ℕ) (awaited : Awaited) (n : CallName) (rs last : List ℕ)
+    → AtSite c (call n rs last) (λ t. awaited_by w p t.request ≡ Some awaited → WaitsAt (Blocked awaited t.destinations) (Some (call n rs last)))
+waits_by c w p awaited name.WaitOne rs last = λ e. (by (not (is_active_at w p h (reg c (slice_index rs 2)))) (object_at w p h) e, refl)
   where
-    by : (test : Bool) (k : ℕ) → then_some test (SignalOf k (reg c m)) ≡ Some awaited → WaitsAt (Blocked awaited (a ∷ d ∷ [])) (Some (call.WaitOne a b m d))
-    by true k e = subst (λ y. WaitsAt (Blocked y (a ∷ d ∷ [])) (Some (call.WaitOne a b m d))) (same_Some _ awaited e) refl
+    h : ℕ
+    h = reg c (slice_index rs 1)
+
+    by : (test : Bool) (k : ℕ) → then_some test (SignalOf k (reg c (slice_index rs 2))) ≡ Some awaited → waits_for awaited name.WaitOne ≡ true
+    by true k e = subst (λ y. waits_for y name.WaitOne ≡ true) (same_Some _ awaited e) refl
     by false k e = cc
-waits_here c _ _ (port_wait_at a b d e g h) w p awaited = by (packets_at w p (reg c b)) (object_at w p (reg c b))
+waits_by c w p awaited name.PortWait rs last = λ e. (by (packets_at w p h) (object_at w p h) e, refl)
   where
-    by : (packets : List Packet) (k : ℕ) → packet_awaited k packets ≡ Some awaited → WaitsAt (Blocked awaited (a ∷ d ∷ e ∷ g ∷ h ∷ [])) (Some (call.PortWait a b d e g h))
-    by [] k is = subst (λ y. WaitsAt (Blocked y (a ∷ d ∷ e ∷ g ∷ h ∷ [])) (Some (call.PortWait a b d e g h))) (same_Some _ awaited is) refl
-    by (x ∷ xs) k is = cc
-waits_here c _ _ _ w p awaited = λ e. cc
+    h : ℕ
+    h = reg c (slice_index rs 1)
+
+    by : (packets : List Packet) (k : ℕ) → packet_awaited k packets ≡ Some awaited → waits_for awaited name.PortWait ≡ true
+    by [] k e = subst (λ y. waits_for y name.PortWait ≡ true) (same_Some _ awaited e) refl
+    by (x ∷ xs) k e = cc
+waits_by c w p awaited _ rs last = λ e. cc
+
+waits_here : (c : Cpu) (x : CallInstr) (t : Site) → site_of x c ≡ Some t → (w : World) (p : ℕ) (awaited : Awaited) → awaited_by w p t.request ≡ Some awaited
+    → WaitsAt (Blocked awaited t.destinations) (Some x)
+waits_here c x t site w p awaited =
+    of_site c x t site (λ t. awaited_by w p t.request ≡ Some awaited → WaitsAt (Blocked awaited t.destinations) (Some x))
+    (waits_by c w p awaited x.name x.registers x.last)
 
 -- ---- the law
 
@@ -117,6 +129,13 @@ record IsCaller (i : Image) (q2 q : Process) : Type 0 where
   memory : IsMemory i q2.cpu.memory
 
 module _ (i : Image) (t : ℕ → Option State) (w : World) (p : ℕ) (q : Process) (called : CallName) (s : Site) (k : StandsAtCall i t w p q called s) (ruled : IsRuled i t w p q called s k.conforms.state) (lib : Library) where
+  abbrev uses : Uses
+  uses = uses_of (bounds_of i.code) k.conforms.state ruled.at.call
+
+  -- the request has the name of the call
+  asked : (asks s.request).0 ≡ called
+  asked = asks_again ruled.at.call q.cpu s ruled.at.site ∙ ruled.at.named
+
   over : IsOver (left ruled.before) ruled.left (zeroed ruled.before)
   over = record { long = (passed ruled.before).states.long; wide = (zeroed_hold ruled.before).width; none = nothing_at_0 (zeroed_hold ruled.before) }
 
@@ -135,17 +154,19 @@ module _ (i : Image) (t : ℕ → Option State) (w : World) (p : ℕ) (q : Proce
   still_allowed : (w2 : World) → AreAlike w w w2 → (c : Condition) → IsTrue (is_among i.needs c) → creates w2 p c ≡ None
   still_allowed w2 alike c named = same_policy w w2 p q k.sound k.there (ap lives k.ready) alike c ∙ k.conforms.allowed c named
 
-  module _ (on : goes_on ruled.at.call ≡ true) where
-    passes_on : ruled.ways.passed ≡ Some (with_all ruled.left ruled.uses.results)
-    passes_on = ap (λ y. y.passed) (sym ruled.leads ∙ ap (λ (b : Bool). if b then passes (with_all ruled.left ruled.uses.results) else stops) on)
+  module _ (on : goes_on ruled.at.call.name ≡ true) where
+    passes_on : ruled.ways.passed ≡ Some (with_all ruled.left uses.results)
+    passes_on = ap (λ y. y.passed) (sym ruled.leads ∙ ap (λ (b : Bool). if b then passes (with_all ruled.left uses.results) else stops) on)
 
     -- an answer to q2, which is the caller but for its table and its memory
     after_answer : (w1 : World) (q2 : Process) (answer : Status) (values : List ℕ) → get w1.processes p ≡ Some q2 → IsCaller i q2 q → AreAlike w w w1
-        → Fits (left ruled.before) ruled.left (zeroed ruled.before) ruled.uses.results (status_magnitude answer ∷ values) (get q2.handles) → IsAnswered i t p q (replied w1 p s answer values)
+        → Fits (left ruled.before) ruled.left (zeroed ruled.before) uses.results (status_magnitude answer ∷ values) (get q2.handles)
+        → IsAnswered i t p q (replied w1 p s answer values)
     unfolding replied answered on_process
     after_answer w1 q2 answer values there same alike fits =
         let c : Cpu = cpu_answered s answer values q2.cpu in
-        let holds : Holds (get q2.handles) (with_all ruled.left ruled.uses.results) c.registers i.slots q.cpu.slots = answer_holds ruled.before answer values q2.cpu (get q2.handles) same.registers fits in
+        let holds : Holds (get q2.handles) (with_all ruled.left uses.results) c.registers i.slots q.cpu.slots =
+        answer_holds ruled.before answer values q2.cpu (get q2.handles) same.registers fits in
         let known : Known (get q2.handles) c.registers i.slots c.slots ruled.ways.passed = rw (passes_on, same.slots) holds in
         let arrives : Arrives (get q2.handles) i q.cpu.counter 0 (Ok ruled.ways) (Some c) = (same.memory, inr (ap (λ n. n + 1) same.counter, known)) in
         let r = reached t (get q2.handles) i c (length i.code) q.cpu.counter 0 (Ok ruled.ways) ruled.holds arrives in
@@ -174,8 +195,10 @@ module _ (i : Image) (t : ℕ → Option State) (w : World) (p : ℕ) (q : Proce
         after_answer (taken w p s) (losing_all (taken_handles s.request) q) answer (gives_refused w p s.request answer) (taken_there ruled.before)
         (record { registers = ap (λ x. x.registers) same.cpu; counter = ap (λ x. x.counter) same.cpu; slots = ap (λ x. x.slots) same.cpu; state = same.state; program = same.program; memory = subst (λ x. IsMemory i x.memory) (sym same.cpu) k.conforms.memory })
         taken_alike
-        (subst (Fits (left ruled.before) ruled.left (zeroed ruled.before) ruled.uses.results (status_magnitude answer ∷ gives_refused w p s.request answer)) (sym (left_there ruled.before))
-        (refused_fits w p k.sound k.sized answer (left ruled.before) ruled.left (zeroed ruled.before) over ruled.uses ruled.before.bounds k.conforms.state q.cpu ruled.at.call s ruled.before.site ruled.before.in_range ruled.before.uses))
+        (subst (Fits (left ruled.before) ruled.left (zeroed ruled.before) uses.results (status_magnitude answer ∷ gives_refused w p s.request answer))
+        (sym (left_there ruled.before))
+        (refused_fits w p k.sound k.sized answer (left ruled.before) ruled.left (zeroed ruled.before) over (bounds_of i.code) k.conforms.state q.cpu
+        ruled.at.call s ruled.at.site ruled.before.in_range))
 
     -- the caller with its new handles
     abbrev given : List ℕ → Process
@@ -187,7 +210,7 @@ module _ (i : Image) (t : ℕ → Option State) (w : World) (p : ℕ) (q : Proce
         let same = lost_and_got (own_handles w p s.request) (entering_at s.request vs) (taken_handles s.request) q in
         let rest = storing_same (stored_by w p s.request) (given vs) in
         let kept = (left_behind w p q (taken_handles s.request) k.there).1 in
-        let done : IsDone lib w (taken w p s) p s = record {
+        let done : IsDone lib w (taken w p s) p s.request = record {
           caller = q;
           there = k.there;
           ready = k.ready;
@@ -196,21 +219,22 @@ module _ (i : Image) (t : ℕ → Option State) (w : World) (p : ℕ) (q : Proce
           objects = kept.objects;
           koids = kept.next_koid;
         } in
-        let may_get = own_chosen q.cpu ruled.at.call s ruled.before.site w (taken w p s) p (losing_all (taken_handles s.request) q) vs (taken_there ruled.before) may in
+        let may_get = own_chosen s.request w (taken w p s) p (losing_all (taken_handles s.request) q) vs (taken_there ruled.before) may in
         after_answer (with_effect lib w (taken w p s) p s.request vs) q2 status.Ok (gives_ok w p s.request vs)
-        (caller_after q.cpu ruled.at.call s ruled.before.site lib w (taken w p s) p done goes vs (losing_all (taken_handles s.request) q) (taken_there ruled.before))
+        (caller_after s.request lib w (taken w p s) p done goes vs (losing_all (taken_handles s.request) q) (taken_there ruled.before))
         (record {
           registers = rest.registers ∙ ap (λ x. x.registers) same.cpu;
           counter = rest.counter ∙ ap (λ x. x.counter) same.cpu;
           slots = rest.slots ∙ ap (λ x. x.slots) same.cpu;
           state = rest.state ∙ same.state;
           program = rest.program ∙ same.program;
-          memory = still_whole i q (given vs) same.cpu k.conforms.memory lib w p k.sized ruled.at.call s ruled.before.site none;
+          memory = still_whole i q (given vs) same.cpu k.conforms.memory lib w p k.sized ruled.at.call s ruled.at.site none;
         })
-        (alike_then w w (taken w p s) _ taken_alike (alike_after q.cpu ruled.at.call s ruled.before.site lib w (taken w p s) p none (rw kept.next_koid (omega arith)) vs))
-        (subst (λ f. Fits f ruled.left (zeroed ruled.before) ruled.uses.results (0 ∷ gives_ok w p s.request vs) (get q2.handles)) (left_there ruled.before)
+        (alike_then w w (taken w p s) _ taken_alike (alike_after s.request lib w (taken w p s) p none (rw kept.next_koid (omega arith)) vs))
+        (subst (λ f. Fits f ruled.left (zeroed ruled.before) uses.results (0 ∷ gives_ok w p s.request vs) (get q2.handles)) (left_there ruled.before)
         (rw rest.handles
-        (works lib w p q k.sound k.sized free (nothing_at_0 k.conforms.holds) ruled.left (zeroed ruled.before) over.long over.wide vs k.conforms.state i.slots ruled.uses ruled.at.call s ruled.before.site ruled.before may_get none)))
+        (works lib w p q k.sound k.sized free (nothing_at_0 k.conforms.holds) ruled.left (zeroed ruled.before) over.long over.wide vs k.conforms.state i.slots
+        (bounds_of i.code) ruled.at.call s ruled.at.site ruled.before may_get none)))
 
     -- ---- however it ends
 
@@ -225,7 +249,7 @@ module _ (i : Image) (t : ℕ → Option State) (w : World) (p : ℕ) (q : Proce
     -- it ends its caller, or is answered
     by_ending : refusal lib w p s.request ≡ None → (vs : List ℕ) → may_choose w (taken w p s) p s.request vs ≡ true → (e : Option ℤ) → ends_caller w p s.request ≡ e → Ends (outcome_of None e) (after_ok lib w p s vs (outcome_of None e))
     by_ending none vs may None goes = (refl, after_worked none goes vs may)
-    by_ending none vs may (Some code) is = subst (λ n. IsOwnEnd w p n s code) ruled.at.named (ends_by_kill q.cpu ruled.at.call s ruled.before.site on w p code is)
+    by_ending none vs may (Some code) is = subst (λ n. IsOwnEnd w p n s code) asked (ends_so s.request s.consumed s.destinations w p code is)
 
     by_waiting : refusal lib w p s.request ≡ None → (vs : List ℕ) → may_choose w (taken w p s) p s.request vs ≡ true → (o : Option Awaited) → awaited_by w p s.request ≡ o
         → Ends (outcome_of o (ends_caller w p s.request)) (after_ok lib w p s vs (outcome_of o (ends_caller w p s.request)))
@@ -242,8 +266,10 @@ module _ (i : Image) (t : ℕ → Option State) (w : World) (p : ℕ) (q : Proce
             stands = k.conforms.stands;
             holds = k.conforms.holds;
             memory = k.conforms.memory;
-            allowed = λ c named. still_allowed (waiting w p s.destinations (Some awaited)) (same_objects w w (waiting w p s.destinations (Some awaited)) (unchanged (Some awaited))) c named;
-            waits = subst (WaitsAt (Blocked awaited s.destinations)) (sym (ap call_in ruled.at.stands)) (waits_here q.cpu ruled.at.call s ruled.before.site w p awaited is);
+            allowed = λ c named. still_allowed (waiting w p s.destinations (Some awaited))
+                (same_objects w w (waiting w p s.destinations (Some awaited)) (unchanged (Some awaited))) c named;
+            waits = subst (WaitsAt (Blocked awaited s.destinations)) (sym (ap call_in ruled.at.stands))
+                (waits_here q.cpu ruled.at.call s ruled.at.site w p awaited is);
           };
         }
 
@@ -262,10 +288,12 @@ module _ (i : Image) (t : ℕ → Option State) (w : World) (p : ℕ) (q : Proce
     promised_answering : (answer : Outcome) (w2 : World) → Calls lib w p s answer w2 → Ends answer w2
     promised_answering answer w2 (choice, h) = by_choice choice (refusal lib w p s.request) refl refused_ordinary answer w2 h
 
-  promised_exiting : IsExit ruled.at.call s → (answer : Outcome) (w2 : World) → Calls lib w p s answer w2 → Promised i t w p q called s answer w2
-  promised_exiting x answer w2 h =
-      let is : answer ≡ outcome.Ended (signed_word x.code) = only_exits lib w p x.code answer w2 (subst (λ y. Calls lib w p y answer w2) x.same h) in
-      rw is (exits x.code (sym ruled.at.named ∙ x.named) (ap (λ y. y.request) x.same) refl)
+  promised_exiting : (number : ℕ) → s.request ≡ process_exit number → (answer : Outcome) (w2 : World) → Calls lib w p s answer w2
+      → Promised i t w p q called s answer w2
+  promised_exiting number same answer w2 h =
+      let calls : Calls lib w p (site (process_exit number) s.consumed s.destinations) answer w2 =
+      subst (λ r. Calls lib w p (site r s.consumed s.destinations) answer w2) same h in
+      rw (only_exits lib w p number s.consumed s.destinations answer w2 calls) (exits number (sym asked ∙ ap (λ r. (asks r).0) same) same refl)
 
 -- however the call ends, it ends as is promised
 pub promised : (i : Image) (t : ℕ → Option State) (w : World) (p : ℕ) (q : Process) (called : CallName) (s : Site) → StandsAtCall i t w p q called s → (lib : Library) (answer : Outcome) (w2 : World) → Calls lib w p s answer w2
@@ -273,18 +301,19 @@ pub promised : (i : Image) (t : ℕ → Option State) (w : World) (p : ℕ) (q :
 promised i t w p q called s k lib answer w2 h = by (is_ruled i t w p q called s k)
   where
     by : IsRuled i t w p q called s k.conforms.state → Promised i t w p q called s answer w2
-    by ruled = either (answers_or_exits q.cpu ruled.at.call s ruled.before.site)
+    by ruled = either (answers_or_exits s.request)
       where
-        either : (goes_on ruled.at.call ≡ true) ⊎ IsExit ruled.at.call s → Promised i t w p q called s answer w2
-        either (inl x) = promised_answering i t w p q called s k ruled lib x answer w2 h
-        either (inr x) = promised_exiting i t w p q called s k ruled lib x answer w2 h
+        either : (goes_on (asks s.request).0 ≡ true) ⊎ ((number : ℕ) × (s.request ≡ process_exit number)) → Promised i t w p q called s answer w2
+        either (inl x) =
+            promised_answering i t w p q called s k ruled lib (subst (λ n. goes_on n ≡ true) (asks_again ruled.at.call q.cpu s ruled.at.site) x) answer w2 h
+        either (inr (number, same)) = promised_exiting i t w p q called s k ruled lib number same answer w2 h
 
 -- what a call asks for can be read
 pub can_call : (i : Image) (t : ℕ → Option State) (w : World) (p : ℕ) (q : Process) → IsTrue (is_in_range i) → IsTyping i t → HandlesAreSound w → get w.processes p ≡ Some q → Conforms i t w p q
     → (x : CallInstr) → call_at i q.cpu.counter ≡ Some x → CanCall i q.cpu x
 can_call i t w p q range typing sound there k x is = by (reads i q.cpu x is)
   where
-    by : (next_at i q.cpu ≡ IsStuck) ⊎ ((s : Site) × (next_at i q.cpu ≡ AtCall (name_of x) s)) → CanCall i q.cpu x
+    by : (next_at i q.cpu ≡ IsStuck) ⊎ ((s : Site) × (next_at i q.cpu ≡ AtCall x.name s)) → CanCall i q.cpu x
     by (inl stuck) = absurd (not_stuck i t w p q range typing sound there k stuck)
     by (inr (s, next)) = record { site = s; next = next }
 

@@ -5,7 +5,8 @@ use Rattle.std.specs.Bool.{then_some}
 use Rattle.std.proofs.lemmas.Bool.{cases_Bool, eqb-true}
 use Rattle.std.proofs.lemmas.Bool.Decides.{nat_tests}
 use Rattle.std.proofs.lemmas.Option.{none-some, same_Some}
-use Rattle.zl_rights.specs.Common.{condition_number, get, lives, is_process, World, Cpu, Process, Ready, Object, Body, ChannelEnd, EventBody, PortBody, JobBody, ProcessBody}
+use Rattle.zl_rights.specs.Common.{condition_number, get, lives, is_process, World, Process, Ready, Object, Body, ChannelEnd, EventBody, PortBody, JobBody}
+use Rattle.zl_rights.specs.Common.{ProcessBody}
 use Rattle.zl_rights.specs.Numbers.{KILLED}
 use Rattle.zl_rights.specs.Signals.{has_ended, has_child_job, has_child_process}
 use Rattle.zl_rights.specs.Policies.{Setting, setting_of}
@@ -16,34 +17,33 @@ use Rattle.zl_rights.specs.declared.policy.Action.TheVariants as action
 use Rattle.zl_rights.specs.declared.policy.Condition.{Condition}
 use Rattle.zl_rights.proofs.MapLaws.{get-put, get-update, get-each}
 use Rattle.zl_code.specs.Image.{Library}
-use Rattle.zl_code.specs.declared.instr.CallInstr.{CallInstr}
 use Rattle.zl_code.specs.Tests.{object_at, body_in, body_of, parent_in, parent_of, policy_in, action_of}
 use Rattle.zl_code.specs.Operands.{unless_allowed, creates}
 use Rattle.zl_code.specs.Effects.{on_process, on_object, with_object, insert_all, storing, message_sent, message_read}
 use Rattle.zl_code.specs.Starting.{is_created, created_process, started_with}
 use Rattle.zl_code.specs.Jobs.{is_dead, has_child, is_within, body_killed, object_killed, process_killed, with_killed, body_with_policy, policy_changed, job_within}
 use Rattle.zl_code.specs.Waiting.{without_keyed, repacked}
-use Rattle.zl_code.specs.Local.{reg}
-use Rattle.zl_code.specs.CallTable.{process_start, job_set_policy, listed, effect, new_handles, receiver_of, entering_at, stored_by, ends_caller}
+use Rattle.zl_code.specs.CallTable.{Request, chan_create, chan_write, chan_read_etc, event_create, signal, signal_peer, port_create, port_queue, port_wait}
+use Rattle.zl_code.specs.CallTable.{port_poll, port_cancel}
+use Rattle.zl_code.specs.CallTable.{process_create, process_start, process_exit, task_kill, job_create, job_set_policy, listed, effect, new_handles}
+use Rattle.zl_code.specs.CallTable.{receiver_of, entering_at, stored_by, ends_caller}
 use Rattle.zl_code.specs.Refusals.{refusal}
-use Rattle.zl_code.specs.Request.{Site}
 use Rattle.zl_code.specs.Calls.{with_effect}
 use Rattle.zl_code.specs.Sound.{IsSound}
 use Rattle.zl_code.proofs.NamesKept.{list_any-get}
 use Rattle.zl_verify.proofs.Giving.{getting_all}
 use Rattle.zl_verify.proofs.OwnTable.{changed_elsewhere, inserted_here, inserted_elsewhere, own_handles, storing_in, stored_here}
 use Rattle.zl_verify.proofs.Working.{listed_none, test_fails, test_passes}
-use Rattle.zl_verify.proofs.Sites.{SiteAt, chan_create_at, chan_write_at, chan_read_at, event_create_at, signal_at, signal_peer_at, port_create_at, port_queue_at, port_wait_at, port_poll_at, port_cancel_at, process_create_at, process_start_at, process_exit_at, task_kill_at, job_create_at, job_set_policy_at}
 
 -- ---- the caller
 
 -- The call of p in w isn't refused, and u is w without the operands that are consumed.
-pub record IsDone (lib : Library) (w u : World) (p : ℕ) (t : Site) : Type 0 where
+pub record IsDone (lib : Library) (w u : World) (p : ℕ) (r : Request) : Type 0 where
   pub caller : Process
   pub there : get w.processes p ≡ Some caller
   pub ready : caller.state ≡ Ready
   pub below : (k : ℕ) (y : Process) → get w.processes k ≡ Some y → k < w.next_koid
-  pub passes : refusal lib w p t.request ≡ None
+  pub passes : refusal lib w p r ≡ None
   pub objects : u.objects ≡ w.objects
   pub koids : u.next_koid ≡ w.next_koid
 
@@ -75,46 +75,53 @@ kill_passes_by u k p apart = get-each u.processes (λ j q. process_killed (is_wi
 pub other_koid : (n k : ℕ) → k < n → (n == k) ≡ false
 other_koid n k less = grind (arith, nat_tests)
 
-child_apart : (lib : Library) (w u : World) (p process h word : ℕ) (t : Site) → IsDone lib w u p t → refusal lib w p (process_start process h word) ≡ None → (object_at w p process == p) ≡ false
-child_apart lib w u p process h word t k passes = no_child w (object_at w p process) p k.caller (starts_created lib w p process h word passes) k.there (ap is_created k.ready)
+child_apart : (lib : Library) (w u : World) (p process h word : ℕ) → IsDone lib w u p (process_start process h word) → (object_at w p process == p) ≡ false
+child_apart lib w u p process h word k =
+    no_child w (object_at w p process) p k.caller (starts_created lib w p process h word k.passes) k.there (ap is_created k.ready)
 
 not_within : (b : Bool) → then_some b KILLED ≡ None → b ≡ false
 not_within true e = cc
 not_within false e = refl
 
-same_caller : (c : Cpu) (x : CallInstr) (t : Site) → SiteAt c x t → (lib : Library) (w u : World) (p : ℕ) → IsDone lib w u p t → ends_caller w p t.request ≡ None → (vs : List ℕ) → get (effect lib w u p t.request vs).processes p ≡ get u.processes p
+same_caller : (r : Request) (lib : Library) (w u : World) (p : ℕ) → IsDone lib w u p r → ends_caller w p r ≡ None → (vs : List ℕ)
+    → get (effect lib w u p r vs).processes p ≡ get u.processes p
 unfolding effect on_object with_object
-same_caller c _ _ (process_create_at a b d e) lib w u p k goes vs = get-put u.processes w.next_koid (created_process lib (reg c d)) p ∙ rw (other_koid w.next_koid p (k.below p k.caller k.there)) refl
-same_caller c _ _ (process_start_at a b o d) lib w u p k goes vs =
-    changed_elsewhere u (object_at w p (reg c b)) (started_with vs (reg c d)) p (child_apart lib w u p (reg c b) (reg c o) (reg c d) _ k k.passes)
-same_caller c _ _ (task_kill_at a b) lib w u p k goes vs =
-    kill_passes_by u (object_at w p (reg c b)) p (ap (λ m. is_within m (object_at w p (reg c b)) p) k.objects ∙ not_within (is_within w.objects (object_at w p (reg c b)) p) goes)
-same_caller c _ _ _ lib w u p k goes vs = refl
+same_caller (process_create h program) lib w u p k goes vs =
+    get-put u.processes w.next_koid (created_process lib program) p ∙ rw (other_koid w.next_koid p (k.below p k.caller k.there)) refl
+same_caller (process_start process h word) lib w u p k goes vs =
+    changed_elsewhere u (object_at w p process) (started_with vs word) p (child_apart lib w u p process h word k)
+same_caller (task_kill task) lib w u p k goes vs =
+    kill_passes_by u (object_at w p task) p
+    (ap (λ m. is_within m (object_at w p task) p) k.objects ∙ not_within (is_within w.objects (object_at w p task) p) goes)
+same_caller _ lib w u p k goes vs = refl
 
 entered_own : (es : List Entry) (vs : List ℕ) (at : ℕ × List ℕ) (v : World) (p : ℕ) (q : Process) → get v.processes p ≡ Some q → get (storing (insert_all v p es vs) p at).processes p ≡ Some (storing_in at (getting_all es vs q))
 entered_own es vs at v p q there = stored_here at (insert_all v p es vs) p (getting_all es vs q) (inserted_here es vs v p q there)
 
 -- handles enter the caller's table and bytes its memory, and nothing else changes there
-pub caller_after : (c : Cpu) (x : CallInstr) (t : Site) → SiteAt c x t → (lib : Library) (w u : World) (p : ℕ) → IsDone lib w u p t → ends_caller w p t.request ≡ None → (vs : List ℕ) (q : Process) → get u.processes p ≡ Some q
-    → get (with_effect lib w u p t.request vs).processes p ≡ Some (storing_in (stored_by w p t.request) (getting_all (own_handles w p t.request) (entering_at t.request vs) q))
-caller_after c _ _ (process_start_at a b o d) lib w u p k goes vs q there =
-    inserted_elsewhere (new_handles w p (process_start (reg c b) (reg c o) (reg c d))) vs _ (object_at w p (reg c b)) p (child_apart lib w u p (reg c b) (reg c o) (reg c d) _ k k.passes)
-    ∙ (same_caller c _ _ (process_start_at a b o d) lib w u p k goes vs ∙ there)
-caller_after c x t here lib w u p k goes vs q there = entered_own (new_handles w p t.request) (entering_at t.request vs) (stored_by w p t.request) (effect lib w u p t.request vs) p q (same_caller c x t here lib w u p k goes vs ∙ there)
+pub caller_after : (r : Request) (lib : Library) (w u : World) (p : ℕ) → IsDone lib w u p r → ends_caller w p r ≡ None → (vs : List ℕ) (q : Process)
+    → get u.processes p ≡ Some q
+    → get (with_effect lib w u p r vs).processes p ≡ Some (storing_in (stored_by w p r) (getting_all (own_handles w p r) (entering_at r vs) q))
+caller_after (process_start process h word) lib w u p k goes vs q there =
+    inserted_elsewhere (new_handles w p (process_start process h word)) vs _ (object_at w p process) p (child_apart lib w u p process h word k)
+    ∙ (same_caller (process_start process h word) lib w u p k goes vs ∙ there)
+caller_after r lib w u p k goes vs q there =
+    entered_own (new_handles w p r) (entering_at r vs) (stored_by w p r) (effect lib w u p r vs) p q (same_caller r lib w u p k goes vs ∙ there)
 
 -- a call that ends its caller leaves it ready, or over
-pub caller_ending : (c : Cpu) (x : CallInstr) (t : Site) → SiteAt c x t → (lib : Library) (w u : World) (p : ℕ) (code : ℤ) → ends_caller w p t.request ≡ Some code → (vs : List ℕ) (q : Process) → get u.processes p ≡ Some q → q.state ≡ Ready
-    → (y : Process) × (get (with_effect lib w u p t.request vs).processes p ≡ Some y) × ((y.state ≡ Ready) ⊎ (has_ended y.state ≡ true))
+pub caller_ending : (r : Request) (lib : Library) (w u : World) (p : ℕ) (code : ℤ) → ends_caller w p r ≡ Some code → (vs : List ℕ) (q : Process)
+    → get u.processes p ≡ Some q → q.state ≡ Ready
+    → (y : Process) × (get (with_effect lib w u p r vs).processes p ≡ Some y) × ((y.state ≡ Ready) ⊎ (has_ended y.state ≡ true))
 unfolding effect new_handles insert_all with_killed
-caller_ending c _ _ (process_exit_at a) lib w u p code is vs q there ready = (q, there, inl ready)
-caller_ending c _ _ (task_kill_at a b) lib w u p code is vs q there ready =
-    let k : ℕ = object_at w p (reg c b) in
+caller_ending (process_exit number) lib w u p code is vs q there ready = (q, there, inl ready)
+caller_ending (task_kill task) lib w u p code is vs q there ready =
+    let k : ℕ = object_at w p task in
     (process_killed (is_within u.objects k p) q, get-each u.processes (λ j y. process_killed (is_within u.objects k j) y) p ∙ ap (option_map (process_killed (is_within u.objects k p))) there, by (is_within u.objects k p))
   where
     by : (b : Bool) → ((process_killed b q).state ≡ Ready) ⊎ (has_ended (process_killed b q).state ≡ true)
     by false = inl ready
     by true = inr (rw ready refl)
-caller_ending c _ _ _ lib w u p code is vs q there ready = cc
+caller_ending _ lib w u p code is vs q there ready = cc
 
 -- ---- policies
 
@@ -229,31 +236,32 @@ pub more_koids : (v u : World) (b : Body) → v.next_koid ≤ u.next_koid → v.
 unfolding with_object
 more_koids v u b le = omega arith
 
-effect_alike : (c : Cpu) (x : CallInstr) (t : Site) → SiteAt c x t → (lib : Library) (w u : World) (p : ℕ) → refusal lib w p t.request ≡ None → w.next_koid ≤ u.next_koid → (vs : List ℕ) → AreAlike w u (effect lib w u p t.request vs)
+effect_alike : (r : Request) (lib : Library) (w u : World) (p : ℕ) → refusal lib w p r ≡ None → w.next_koid ≤ u.next_koid → (vs : List ℕ)
+    → AreAlike w u (effect lib w u p r vs)
 unfolding effect on_process
-effect_alike c _ _ (chan_create_at a b d) lib w u p passes le vs =
+effect_alike chan_create lib w u p passes le vs =
     let first : Body = ChannelEnd (w.next_koid + 1) [] in
     alike_then w u (with_object u first) _ (made_alike w u first le) (made_alike w (with_object u first) (ChannelEnd w.next_koid []) (more_koids w u first le))
-effect_alike c _ _ (chan_write_at a b m k hs) lib w u p passes le vs = changed_alike w u _ _ (sends_alike _)
-effect_alike c _ _ (chan_read_at a b m k e f g places there) lib w u p passes le vs = changed_alike w u _ _ reads_alike
-effect_alike c _ _ (event_create_at a b) lib w u p passes le vs = made_alike w u EventBody le
-effect_alike c _ _ (signal_at a b d e) lib w u p passes le vs = changed_alike w u _ _ (λ o. (refl, refl))
-effect_alike c _ _ (signal_peer_at a b d e) lib w u p passes le vs = changed_alike w u _ _ (λ o. (refl, refl))
-effect_alike c _ _ (port_create_at a b) lib w u p passes le vs = made_alike w u (PortBody []) le
-effect_alike c _ _ (port_queue_at a b d e) lib w u p passes le vs = changed_alike w u _ _ (packs_alike _)
-effect_alike c _ _ (port_wait_at a b d e g h) lib w u p passes le vs = changed_alike w u _ _ (packs_alike _)
-effect_alike c _ _ (port_poll_at a b d e g h) lib w u p passes le vs = changed_alike w u _ _ (packs_alike _)
-effect_alike c _ _ (port_cancel_at a b o d) lib w u p passes le vs =
-    let rest : World = without_keyed u p (reg c o) (object_at w p (reg c b)) (reg c d) in
+effect_alike (chan_write c bytes hs) lib w u p passes le vs = changed_alike w u _ _ (sends_alike _)
+effect_alike (chan_read_etc c address room places) lib w u p passes le vs = changed_alike w u _ _ reads_alike
+effect_alike event_create lib w u p passes le vs = made_alike w u EventBody le
+effect_alike (signal h clear set) lib w u p passes le vs = changed_alike w u _ _ (λ o. (refl, refl))
+effect_alike (signal_peer h clear set) lib w u p passes le vs = changed_alike w u _ _ (λ o. (refl, refl))
+effect_alike port_create lib w u p passes le vs = made_alike w u (PortBody []) le
+effect_alike (port_queue port key value) lib w u p passes le vs = changed_alike w u _ _ (packs_alike _)
+effect_alike (port_wait port) lib w u p passes le vs = changed_alike w u _ _ (packs_alike _)
+effect_alike (port_poll port) lib w u p passes le vs = changed_alike w u _ _ (packs_alike _)
+effect_alike (port_cancel port source key) lib w u p passes le vs =
+    let rest : World = without_keyed u p source (object_at w p port) key in
     alike_then w u rest _ (same_objects w u rest refl) (changed_alike w rest _ _ (packs_alike _))
-effect_alike c _ _ (process_create_at a b d e) lib w u p passes le vs =
-    let more : World = with_object u (ProcessBody (object_at w p (reg c b))) in
-    alike_then w u more _ (made_alike w u (ProcessBody (object_at w p (reg c b))) le) (same_objects w more _ refl)
-effect_alike c _ _ (task_kill_at a b) lib w u p passes le vs = killed_alike w u (object_at w p (reg c b))
-effect_alike c _ _ (job_create_at a b d) lib w u p passes le vs = made_alike w u (job_within (object_at w p (reg c b)) (body_of w (object_at w p (reg c b)))) le
-effect_alike c _ _ (job_set_policy_at a b d e f) lib w u p passes le vs =
-    set_alike w u (object_at w p (reg c b)) (setting_of (reg c d) (reg c e) (reg c f)) (none_in_job lib w p (reg c b) (reg c d) (reg c e) (reg c f) passes)
-effect_alike c _ _ _ lib w u p passes le vs = same_objects w u _ refl
+effect_alike (process_create job program) lib w u p passes le vs =
+    let more : World = with_object u (ProcessBody (object_at w p job)) in
+    alike_then w u more _ (made_alike w u (ProcessBody (object_at w p job)) le) (same_objects w more _ refl)
+effect_alike (task_kill task) lib w u p passes le vs = killed_alike w u (object_at w p task)
+effect_alike (job_create j) lib w u p passes le vs = made_alike w u (job_within (object_at w p j) (body_of w (object_at w p j))) le
+effect_alike (job_set_policy j mode condition action) lib w u p passes le vs =
+    set_alike w u (object_at w p j) (setting_of mode condition action) (none_in_job lib w p j mode condition action passes)
+effect_alike _ lib w u p passes le vs = same_objects w u _ refl
 
 pub inserted_objects : (es : List Entry) (vs : List ℕ) (w : World) (p : ℕ) → (insert_all w p es vs).objects ≡ w.objects
 unfolding insert_all on_process
@@ -266,10 +274,12 @@ unfolding on_process
 stored_objects (address, []) w p = refl
 stored_objects (address, b ∷ bytes) w p = refl
 
-pub alike_after : (c : Cpu) (x : CallInstr) (t : Site) → SiteAt c x t → (lib : Library) (w u : World) (p : ℕ) → refusal lib w p t.request ≡ None → w.next_koid ≤ u.next_koid → (vs : List ℕ) → AreAlike w u (with_effect lib w u p t.request vs)
-alike_after c x t here lib w u p passes le vs =
-    alike_then w u (effect lib w u p t.request vs) _ (effect_alike c x t here lib w u p passes le vs)
-    (same_objects w (effect lib w u p t.request vs) _ (stored_objects (stored_by w p t.request) _ p ∙ inserted_objects (new_handles w p t.request) (entering_at t.request vs) (effect lib w u p t.request vs) (receiver_of w p t.request)))
+pub alike_after : (r : Request) (lib : Library) (w u : World) (p : ℕ) → refusal lib w p r ≡ None → w.next_koid ≤ u.next_koid → (vs : List ℕ)
+    → AreAlike w u (with_effect lib w u p r vs)
+alike_after r lib w u p passes le vs =
+    alike_then w u (effect lib w u p r vs) _ (effect_alike r lib w u p passes le vs)
+    (same_objects w (effect lib w u p r vs) _
+    (stored_objects (stored_by w p r) _ p ∙ inserted_objects (new_handles w p r) (entering_at r vs) (effect lib w u p r vs) (receiver_of w p r)))
 
 -- ---- the policy that the caller is under
 

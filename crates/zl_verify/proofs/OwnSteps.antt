@@ -7,16 +7,16 @@ use Rattle.zl_rights.specs.Common.{get, runs, World, Cpu, Process, State as Life
 use Rattle.zl_rights.specs.Signals.{has_ended}
 use Rattle.zl_rights.specs.World.{Awaited, SignalOf, PacketAt}
 use Rattle.zl_code.specs.declared.history.CallName.{CallName}
+use Rattle.zl_code.specs.declared.history.CallName.TheVariants as name
 use Rattle.zl_code.specs.declared.history.Outcome.{Outcome}
 use Rattle.zl_code.specs.declared.history.Outcome.TheVariants as outcome
 use Rattle.zl_code.specs.declared.history.TraceItem.{TraceItem}
 use Rattle.zl_code.specs.declared.history.TraceItem.TheVariants as item
 use Rattle.zl_code.specs.declared.instr.CallInstr.{CallInstr}
-use Rattle.zl_code.specs.declared.instr.CallInstr.TheVariants as call
 use Rattle.zl_code.specs.Image.{Image, Library, call_at, call_in}
 use Rattle.zl_code.specs.Spells.{is_in_range}
 use Rattle.zl_code.specs.Effects.{on_process, process_ended, ended}
-use Rattle.zl_code.specs.Request.{Site, name_of}
+use Rattle.zl_code.specs.Request.{Site}
 use Rattle.zl_code.specs.CallTable.{awaited_by, ends_caller, outcome_of}
 use Rattle.zl_code.specs.Refusals.{refusal}
 use Rattle.zl_code.specs.Calls.{Calls, CallBy, Choice, Refused, WantsMemory, Values, taken, taken_handles, with_effect, ok_outcome, after_ok}
@@ -25,14 +25,13 @@ use Rattle.zl_code.specs.Sound.{IsSound}
 use Rattle.zl_code.specs.Headline.{MayEnd, is_pause_name, executed}
 use Rattle.zl_abs.specs.States.{State}
 use Rattle.zl_abs.specs.Typing.{IsTyping}
-use Rattle.zl_verify.specs.Conforms.{WaitsAt, Conforms}
+use Rattle.zl_verify.specs.Conforms.{waits_for, WaitsAt, Conforms}
 use Rattle.zl_verify.specs.CallLaws.{ends_by, ends_of, StandsAtCall, IsAnswered, IsWaiting, IsOwnEnd, exits, kills}
 use Rattle.zl_verify.specs.WakeLaws.{IsFitStep, EndsStep, stays, wakes}
 use Rattle.zl_verify.specs.RunLaws.{IsFineItem, IsUnderWay, HasEnded}
 use Rattle.zl_verify.specs.Steps.{is_pause, leads, leads_by, OneOf}
 use Rattle.zl_verify.proofs.LocalSteps.{goes_on, not_stuck}
 use Rattle.zl_verify.proofs.AtCalls.{at_call}
-use Rattle.zl_verify.proofs.Sites.{SiteAt, site_at}
 use Rattle.zl_verify.proofs.OwnTable.{changed_here, losing_all, losing_same, removed_here}
 use Rattle.zl_verify.proofs.OwnCalls.{promised, Promised}
 use Rattle.zl_verify.proofs.OwnEffect.{caller_ending}
@@ -84,17 +83,14 @@ pub data Stopped (i : Image) (q : Process) (x : TraceItem) : Type 0 where
   -- by an instruction that is no pause
   by_kill : executed x ≡ Some 1 → is_pause (call_at i q.cpu.counter) ≡ false → Stopped i q x
 
-pause_named : (x : CallInstr) → is_pause (Some x) ≡ is_pause_name (name_of x)
-pause_named (call.WaitOne a b c d) = refl
-pause_named (call.PortWait a b c d e f) = refl
-pause_named (call.ProcessExit a) = refl
-pause_named _ = refl
-
 waits_pause : (awaited : Awaited) (ds : List ℕ) (o : Option CallInstr) → WaitsAt (Blocked awaited ds) o → is_pause o ≡ true
-waits_pause (SignalOf k m) ds (Some (call.WaitOne a b c d)) w = refl
-waits_pause (SignalOf k m) ds _ w = absurd w
-waits_pause (PacketAt k) ds (Some (call.PortWait a b c d e f)) w = refl
-waits_pause (PacketAt k) ds _ w = absurd w
+waits_pause awaited ds None w = absurd w
+waits_pause awaited ds (Some x) (w, same) = by awaited x.name w
+  where
+    by : (awaited : Awaited) (n : CallName) → waits_for awaited n ≡ true → is_pause_name n ≡ true
+    by (SignalOf k m) name.WaitOne e = refl
+    by (PacketAt k) name.PortWait e = refl
+    by _ _ e = cc
 
 -- behind what is no pause, edges are followed as they are counted
 leads_so : (i : Image) (t : ℕ → Option State) (n : ℕ) → is_pause (call_at i n) ≡ false → ends_of i t n ≡ leads i t n
@@ -165,9 +161,11 @@ module _ (lib : Library) (i : Image) (t : ℕ → Option State) (range : is_in_r
       }
 
       -- where its call has ended it
-      exited_at : (x : CallInstr) → SiteAt own.cpu x s → (vs : List ℕ) (code : ℤ) → ok_outcome w p s.request ≡ outcome.Ended code → HasEnded (ended (with_effect lib w (taken w p s) p s.request vs) p code) p
-      exited_at x here vs code is =
-          let last = caller_ending own.cpu x s here lib w (taken w p s) p code (ends_with (awaited_by w p s.request) (ends_caller w p s.request) code is) vs (losing_all (taken_handles s.request) own)
+      exited_at : (vs : List ℕ) (code : ℤ) → ok_outcome w p s.request ≡ outcome.Ended code
+          → HasEnded (ended (with_effect lib w (taken w p s) p s.request vs) p code) p
+      exited_at vs code is =
+          let last = caller_ending s.request lib w (taken w p s) p code (ends_with (awaited_by w p s.request) (ends_caller w p s.request) code is) vs
+          (losing_all (taken_handles s.request) own)
           (removed_here (taken_handles s.request) w p own b.step.is_there) ((losing_same (taken_handles s.request) own).state ∙ b.step.is_ready) in
           ended_there (with_effect lib w (taken w p s) p s.request vs) p last.0 last.1 last.2 code
         where
@@ -183,13 +181,11 @@ module _ (lib : Library) (i : Image) (t : ℕ → Option State) (range : is_in_r
       exited code Refused (Some (outcome.Ended other)) c = subst (λ v. HasEnded v p) (sym c.1) (ended_there w p own b.step.is_there (inl b.step.is_ready) other)
       exited code WantsMemory None c = let bad = c.1 in cc
       exited code WantsMemory (Some o) c = absurd c
-      exited code (Values vs) None c =
-          let at = at_call i own.cpu called s next in
-          subst (λ v. HasEnded v p) (sym (c.2 ∙ ap (after_ok lib w p s vs) (sym c.1))) (exited_at at.call (site_at own.cpu s at.call at.site) vs code (sym c.1))
+      exited code (Values vs) None c = subst (λ v. HasEnded v p) (sym (c.2 ∙ ap (after_ok lib w p s vs) (sym c.1))) (exited_at vs code (sym c.1))
       exited code (Values vs) (Some o) c = absurd c
 
       pause_here : is_pause (call_at i own.cpu.counter) ≡ is_pause_name called
-      pause_here = let at = at_call i own.cpu called s next in ap (λ o. is_pause (call_in o)) at.stands ∙ (pause_named at.call ∙ ap is_pause_name at.named)
+      pause_here = let at = at_call i own.cpu called s next in ap (λ o. is_pause (call_in o)) at.stands ∙ ap is_pause_name at.named
 
       answered : (o : Outcome) → x ≡ item.Call p called o → (a : IsAnswered i t p own b.step.acted) → HasGone
       answered o is a = by (is_pause_name called) refl

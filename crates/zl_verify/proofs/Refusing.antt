@@ -1,7 +1,7 @@
 -- What a refused call gives fits what its rule says, whatever the status.
-use Rattle.std.proofs.Common.{◌≡◌, ℕ, ◌+◌, ◌*◌, ◌≤◌, true, List, [], ◌∷◌, length, refl, sym, ◌∙◌, subst, Some, None, arith, slice_set}
-use Rattle.std.specs.List.{AllByRecursion}
-use Rattle.std.proofs.lemmas.Option.{same_Some}
+use Rattle.std.proofs.Common.{◌≡◌, ℕ, ◌+◌, ◌*◌, ◌≤◌, Bool, true, false, ◌&&◌, ◌==◌, List, [], ◌∷◌, length, refl, sym, ◌∙◌, subst, Some, None, arith}
+use Rattle.std.proofs.Common.{slice_index, slice_set}
+use Rattle.std.proofs.lemmas.Bool.{eqb-true}
 use Rattle.std.proofs.lemmas.List.{length-set}
 use Rattle.zl_rights.specs.Common.{World, Cpu}
 use Rattle.zl_rights.specs.Numbers.{status_magnitude}
@@ -9,24 +9,26 @@ use Rattle.zl_rights.specs.declared.status.Status.{Status}
 use Rattle.zl_rights.specs.declared.status.Status.TheVariants as status
 use Rattle.zl_code.specs.Limits.{register_count}
 use Rattle.zl_code.specs.Local.{reg}
+use Rattle.zl_code.specs.declared.history.CallName.{CallName}
+use Rattle.zl_code.specs.declared.history.CallName.TheVariants as name
 use Rattle.zl_code.specs.declared.instr.CallInstr.{CallInstr}
-use Rattle.zl_code.specs.Instructions.{row_of}
-use Rattle.zl_code.specs.Spells.{call_parts, is_call_in_range}
+use Rattle.zl_code.specs.Spells.{number_at, is_call_in_range}
 use Rattle.zl_code.specs.CallTable.{chan_read_etc, wait_poll, gives_refused}
-use Rattle.zl_code.specs.Request.{Site}
+use Rattle.zl_code.specs.Request.{Site, site_of}
 use Rattle.zl_code.specs.Sound.{IsSound}
 use Rattle.zl_code.specs.Tests.{object_at}
 use Rattle.zl_abs.specs.declared.value.AbsVal.{AbsVal}
 use Rattle.zl_abs.specs.declared.value.AbsVal.TheVariants.{Word, Has, KindOf, RightsOf}
 use Rattle.zl_abs.specs.States.{State, value_at, with_value}
-use Rattle.zl_abs.specs.CallRules.{narrowed_value, triple_results, Uses, uses_of}
+use Rattle.zl_abs.specs.CallRules.{narrowed_value, triple_results, uses_of}
+use Rattle.zl_abs.proofs.Order.{both}
 use Rattle.zl_verify.specs.CallLaws.{QueuesAreSized}
 use Rattle.zl_verify.specs.Conforms.{Table}
 use Rattle.zl_verify.proofs.Writing.{long_with}
-use Rattle.zl_verify.proofs.Sites.{SiteAt, close_at, dup_at, replace_at, chan_create_at, chan_write_at, chan_read_at, event_create_at, signal_at, signal_peer_at, wait_one_at, wait_poll_at, wait_async_at, port_create_at, port_queue_at, port_wait_at, port_poll_at, port_cancel_at, process_create_at, process_start_at, process_exit_at, task_kill_at, job_create_at, job_set_policy_at}
-use Rattle.zl_verify.proofs.Aligned.{places_end, triples_zipped}
+use Rattle.zl_verify.proofs.Sites.{call, AtSite, of_site}
+use Rattle.zl_verify.proofs.Aligned.{places_end}
 use Rattle.zl_verify.proofs.Fitting.{Fits, first_value, more_values}
-use Rattle.zl_verify.proofs.Giving.{status_few, IsZeroable, zeros_fit, no_triples_fit}
+use Rattle.zl_verify.proofs.Giving.{status_few, are_zeroable, zeros_fit, no_triples_fit}
 use Rattle.zl_verify.proofs.Calm.{signals_few, first_sizes}
 
 -- a register for each value of the state, and no handle at 0
@@ -38,21 +40,24 @@ pub record IsOver (f : Table) (s : State) (xs : List ℕ) : Type 0 where
 -- ---- a status alone
 
 -- a status, and then what 0 fits
-abbrev IsAnswer : List (ℕ × AbsVal) → Type 0
-IsAnswer [] = Unit {0}
-IsAnswer ((a, Word m) ∷ ds) = (m ≡ 30) × AllByRecursion (λ (d : ℕ × AbsVal). IsZeroable d.1) ds
-IsAnswer _ = ⊥
+abbrev is_answer : List (ℕ × AbsVal) → Bool
+is_answer [] = true
+is_answer ((a, Word m) ∷ ds) = (m == 30) && are_zeroable ds
+is_answer _ = false
 
-alone_fits : (f : Table) (s : State) (xs : List ℕ) (ds : List (ℕ × AbsVal)) (n : ℕ) → n ≤ 30 → IsAnswer ds → Fits f s xs ds (n ∷ []) f
+alone_fits : (f : Table) (s : State) (xs : List ℕ) (ds : List (ℕ × AbsVal)) (n : ℕ) → n ≤ 30 → is_answer ds ≡ true → Fits f s xs ds (n ∷ []) f
 alone_fits f s xs [] n few h = refl
-alone_fits f s xs ((a, Word m) ∷ ds) n few (is, zs) = (f, (rw is few, omega arith, refl), zeros_fit f (with_value s a (Word m)) (slice_set xs a n) ds zs)
-alone_fits f s xs ((a, Has maybe kind rights) ∷ ds) n few h = absurd h
-alone_fits f s xs ((a, KindOf t) ∷ ds) n few h = absurd h
-alone_fits f s xs ((a, RightsOf t) ∷ ds) n few h = absurd h
+alone_fits f s xs ((a, Word m) ∷ ds) n few h =
+    let two = both (m == 30) (are_zeroable ds) h in
+    let is : m ≡ 30 = eqb-true m 30 two.0 in
+    (f, (rw is few, omega arith, refl), zeros_fit f (with_value s a (Word m)) (slice_set xs a n) ds two.1)
+alone_fits f s xs ((a, Has maybe kind rights) ∷ ds) n few h = cc
+alone_fits f s xs ((a, KindOf t) ∷ ds) n few h = cc
+alone_fits f s xs ((a, RightsOf t) ∷ ds) n few h = cc
 
-narrowed_zero : (v : AbsVal) (imm : ℕ) → IsZeroable (narrowed_value v imm)
-narrowed_zero (Has maybe kind rights) imm = refl
-narrowed_zero _ imm = tt
+narrowed_zero : (a : ℕ) (v : AbsVal) (imm : ℕ) → are_zeroable ((a, narrowed_value v imm) ∷ []) ≡ true
+narrowed_zero a (Has maybe kind rights) imm = refl
+narrowed_zero a _ imm = refl
 
 -- ---- with what a refusal tells
 
@@ -105,41 +110,31 @@ module _ (w : World) (p : ℕ) (sound : IsSound w) (sized : QueuesAreSized w) (s
 
   -- ---- each call
 
-  module _ (f : Table) (s : State) (xs : List ℕ) (over : IsOver f s xs) (u : Uses) where
-    -- a call that tells nothing but the status
-    quiet : (v : Uses) → v ≡ u → IsAnswer v.results → Fits f s xs u.results (status_magnitude st ∷ []) f
-    quiet v same is = subst (λ (y : Uses). Fits f s xs y.results (status_magnitude st ∷ []) f) same (alone_fits f s xs v.results (status_magnitude st) (status_few st) is)
+  module _ (f : Table) (s : State) (xs : List ℕ) (over : IsOver f s xs) (bounds : List ℕ) (before : State) (c : Cpu) where
+    -- what it tells fits
+    abbrev IsTold : CallInstr → Site → Type 0
+    IsTold x t = Fits f s xs (uses_of bounds before x).results (status_magnitude st ∷ gives_refused w p t.request st) f
 
-    pub refused_fits : (bounds : List ℕ) (before : State) (c : Cpu) (x : CallInstr) (t : Site) → SiteAt c x t → is_call_in_range x ≡ true → uses_of bounds before x ≡ Some u
-        → Fits f s xs u.results (status_magnitude st ∷ gives_refused w p t.request st) f
-    unfolding uses_of row_of call_parts gives_refused
-    refused_fits bounds before c _ _ (close_at a b) range e = quiet _ (same_Some _ u e) (refl, tt)
-    refused_fits bounds before c _ _ (dup_at a b d imm) range e = quiet _ (same_Some _ u e) (refl, (narrowed_zero (value_at before b) imm, tt))
-    refused_fits bounds before c _ _ (replace_at a b d imm) range e = quiet _ (same_Some _ u e) (refl, (narrowed_zero (value_at before b) imm, tt))
-    refused_fits bounds before c _ _ (chan_create_at a b d) range e = quiet _ (same_Some _ u e) (refl, (refl, (refl, tt)))
-    refused_fits bounds before c _ _ (chan_write_at a b m n hs) range e = quiet _ (same_Some _ u e) (refl, tt)
-    refused_fits bounds before c _ _ (chan_read_at a b m n d g h places there) range e =
-        let told : List ℕ = gives_refused w p (chan_read_etc (reg c b) (reg c m) (reg c n) places) st in
-        let few : AreSizes told = read_few (reg c b) (reg c m) (reg c n) places st in
-        subst (λ (y : Uses). Fits f s xs y.results (status_magnitude st ∷ told) f) (same_Some _ u e)
-        (subst (λ l. Fits f s xs ((a, Word 30) ∷ (d, Word 65536) ∷ (g, Word 64) ∷ l) (status_magnitude st ∷ told) f) (sym (triples_zipped h places))
-        (read_fits f s xs over a d g h places (status_magnitude st) told (status_few st) few.0 few.1 few.2 (places_end a b m n d g h places range)))
-    refused_fits bounds before c _ _ (event_create_at a b) range e = quiet _ (same_Some _ u e) (refl, (refl, tt))
-    refused_fits bounds before c _ _ (signal_at a b d g) range e = quiet _ (same_Some _ u e) (refl, tt)
-    refused_fits bounds before c _ _ (signal_peer_at a b d g) range e = quiet _ (same_Some _ u e) (refl, tt)
-    refused_fits bounds before c _ _ (wait_one_at a b m d) range e = quiet _ (same_Some _ u e) (refl, (tt, tt))
-    refused_fits bounds before c _ _ (wait_poll_at a b m d) range e =
-        let told : List ℕ = gives_refused w p (wait_poll (reg c b) (reg c m)) st in
-        subst (λ (y : Uses). Fits f s xs y.results (status_magnitude st ∷ told) f) (same_Some _ u e) (poll_fits f s xs a d (status_magnitude st) told (status_few st) (poll_few (reg c b) (reg c m) st))
-    refused_fits bounds before c _ _ (wait_async_at a b o d g) range e = quiet _ (same_Some _ u e) (refl, tt)
-    refused_fits bounds before c _ _ (port_create_at a b) range e = quiet _ (same_Some _ u e) (refl, (refl, tt))
-    refused_fits bounds before c _ _ (port_queue_at a b d g) range e = quiet _ (same_Some _ u e) (refl, tt)
-    refused_fits bounds before c _ _ (port_wait_at a b d g h j) range e = quiet _ (same_Some _ u e) (refl, (tt, (tt, (tt, (tt, tt)))))
-    refused_fits bounds before c _ _ (port_poll_at a b d g h j) range e = quiet _ (same_Some _ u e) (refl, (tt, (tt, (tt, (tt, tt)))))
-    refused_fits bounds before c _ _ (port_cancel_at a b o d) range e = quiet _ (same_Some _ u e) (refl, tt)
-    refused_fits bounds before c _ _ (process_create_at a b d g) range e = quiet _ (same_Some _ u e) (refl, (refl, tt))
-    refused_fits bounds before c _ _ (process_start_at a b o d) range e = quiet _ (same_Some _ u e) (refl, tt)
-    refused_fits bounds before c _ _ (process_exit_at a) range e = quiet _ (same_Some _ u e) tt
-    refused_fits bounds before c _ _ (task_kill_at a b) range e = quiet _ (same_Some _ u e) (refl, tt)
-    refused_fits bounds before c _ _ (job_create_at a b d) range e = quiet _ (same_Some _ u e) (refl, (refl, tt))
-    refused_fits bounds before c _ _ (job_set_policy_at a b d g h) range e = quiet _ (same_Some _ u e) (refl, tt)
+    -- a call that tells nothing but the status
+    quiet : (x : CallInstr) → is_answer (uses_of bounds before x).results ≡ true → Fits f s xs (uses_of bounds before x).results (status_magnitude st ∷ []) f
+    quiet x is = alone_fits f s xs (uses_of bounds before x).results (status_magnitude st) (status_few st) is
+
+    fits_by : (n : CallName) (rs last : List ℕ) → is_call_in_range (call n rs last) ≡ true → AtSite c (call n rs last) (IsTold (call n rs last))
+    unfolding uses_of gives_refused
+    fits_by name.Dup rs last range = quiet (call name.Dup rs last) (narrowed_zero (slice_index rs 2) (value_at before (slice_index rs 1)) (number_at last 0 4))
+    fits_by name.Replace rs last range =
+        quiet (call name.Replace rs last) (narrowed_zero (slice_index rs 2) (value_at before (slice_index rs 1)) (number_at last 0 4))
+    fits_by name.ChanReadEtc rs last range =
+        let at : ℕ → ℕ = slice_index rs in
+        let places : ℕ = number_at last 0 4 in
+        let told : List ℕ = gives_refused w p (chan_read_etc (reg c (at 1)) (reg c (at 2)) (reg c (at 3)) places) st in
+        let few : AreSizes told = read_few (reg c (at 1)) (reg c (at 2)) (reg c (at 3)) places st in
+        read_fits f s xs over (at 0) (at 4) (at 5) (at 6) places (status_magnitude st) told (status_few st) few.0 few.1 few.2 (places_end rs last range)
+    fits_by name.WaitPoll rs last range =
+        let at : ℕ → ℕ = slice_index rs in
+        let told : List ℕ = gives_refused w p (wait_poll (reg c (at 1)) (reg c (at 2))) st in
+        poll_fits f s xs (at 0) (at 3) (status_magnitude st) told (status_few st) (poll_few (reg c (at 1)) (reg c (at 2)) st)
+    fits_by n rs last range = quiet (call n rs last) refl
+
+    pub refused_fits : (x : CallInstr) (t : Site) → site_of x c ≡ Some t → is_call_in_range x ≡ true → IsTold x t
+    refused_fits x t site range = of_site c x t site (IsTold x) (fits_by x.name x.registers x.last range)

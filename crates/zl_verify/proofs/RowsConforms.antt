@@ -8,13 +8,14 @@ use Rattle.zl_rights.specs.declared.entry.Entry.{Entry}
 use Rattle.zl_code.specs.declared.image.SlotArray.{SlotArray}
 use Rattle.zl_code.specs.declared.instr.Instr.TheVariants as instr
 use Rattle.zl_code.specs.declared.instr.LocalInstr.TheVariants as local
-use Rattle.zl_code.specs.declared.instr.CallInstr.TheVariants as call
+use Rattle.zl_code.specs.declared.history.CallName.TheVariants as name
 use Rattle.zl_code.specs.Image.{Image}
 use Rattle.zl_code.specs.Operands.{creates}
 use Rattle.zl_abs.specs.declared.value.AbsVal.TheVariants.{Word, Has}
 use Rattle.zl_abs.specs.Values.{ANY}
 use Rattle.zl_abs.specs.States.{State, value_at, with_value, with_all, start_state}
 use Rattle.zl_verify.specs.Conforms.{Table, IsHandle, Describes, one_if, is_it, owns, owners, keepers, place_at, Holds, Conforms}
+use Rattle.zl_code.proofs.Called.{called}
 
 -- the channel goes into the slot array, and the process exits
 abbrev image : Image
@@ -25,7 +26,7 @@ image = record {
   needs = [];
   starts = (record { kind = Some kind.Channel; rights = rights_of READ }) ∷ [];
   slots = (record { kind = Some kind.Channel; length = 2; rights = rights_of READ }) ∷ [];
-  code = instr.Local (local.Take 2 0) ∷ instr.Local (local.Const 3 1) ∷ instr.Local (local.Swap 2 3 0) ∷ instr.Call (call.ProcessExit 3) ∷ [];
+  code = instr.Local (local.Take 2 0) ∷ instr.Local (local.Const 3 1) ∷ instr.Local (local.Swap 2 3 0) ∷ instr.Call (called name.ProcessExit (3 ∷ []) 0) ∷ [];
 }
 
 abbrev channel : Entry

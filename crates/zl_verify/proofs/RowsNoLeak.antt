@@ -13,7 +13,7 @@ use Rattle.zl_code.specs.declared.image.SlotArray.{SlotArray}
 use Rattle.zl_code.specs.declared.image.Start.{Start}
 use Rattle.zl_code.specs.declared.instr.Instr.TheVariants as instr
 use Rattle.zl_code.specs.declared.instr.LocalInstr.TheVariants as local
-use Rattle.zl_code.specs.declared.instr.CallInstr.TheVariants as call
+use Rattle.zl_code.specs.declared.history.CallName.TheVariants as name
 use Rattle.zl_code.specs.Image.{Image}
 use Rattle.zl_code.specs.Operands.{creates}
 use Rattle.zl_abs.specs.declared.value.AbsVal.{AbsVal}
@@ -23,6 +23,7 @@ use Rattle.zl_abs.specs.States.{State, value_at}
 use Rattle.zl_verify.specs.Conforms.{IsHandle, Describes, one_if, is_it, owns, owners, keepers, place_at, Holds, Conforms}
 use Rattle.zl_verify.specs.NoLeak.{values_in_registers, values_in_slots, handle_values, HoldsJustItsHandles}
 use Rattle.zl_verify.proofs.RowsConforms.{zeros_small, zeros_described, zeros_own, not_0}
+use Rattle.zl_code.proofs.Called.{called}
 
 -- ---- the example
 
@@ -38,7 +39,7 @@ image = record {
   needs = [];
   starts = a_channel ∷ a_channel ∷ [];
   slots = (record { kind = Some kind.Channel; length = 2; rights = rights_of READ }) ∷ [];
-  code = instr.Local (local.Take 3 0) ∷ instr.Local (local.Const 4 1) ∷ instr.Local (local.Swap 3 4 0) ∷ instr.Call (call.ProcessExit 4) ∷ [];
+  code = instr.Local (local.Take 3 0) ∷ instr.Local (local.Const 4 1) ∷ instr.Local (local.Swap 3 4 0) ∷ instr.Call (called name.ProcessExit (4 ∷ []) 0) ∷ [];
 }
 
 abbrev channel : ℕ → Entry

@@ -1,5 +1,6 @@
 -- Whatever a call does, and however it is answered, its world stays sized.
-use Rattle.std.proofs.Common.{◌≡◌, ℕ, suc, ◌+◌, ◌≤◌, Bool, true, false, not, ◌||◌, ◌==◌, List, [], ◌∷◌, ◌++◌, length, drop, refl, sym, ap, ◌∙◌, subst, Option, Some, None, arith, inl, inr, ◌⊎◌}
+use Rattle.std.proofs.Common.{◌≡◌, ℕ, suc, ◌+◌, ◌≤◌, Bool, true, false, not, ◌||◌, ◌==◌, List, [], ◌∷◌, ◌++◌, length, drop, slice_index, refl, sym, ap, ◌∙◌}
+use Rattle.std.proofs.Common.{subst, Option, Some, None, arith, inl, inr, ◌⊎◌}
 use Rattle.std.specs.Prelude.{⊤, is_some, if◌then◌else◌, nat_lt, slice_get, bit_and, bit_xor}
 use Rattle.std.specs.List.{AllByRecursion, filter}
 use Rattle.std.specs.Option.{option_to_list}
@@ -17,6 +18,8 @@ use Rattle.zl_rights.specs.Policies.{Setting, setting_of}
 use Rattle.zl_rights.specs.Packets.{user_packet, is_from}
 use Rattle.zl_code.specs.declared.history.Outcome.{Outcome}
 use Rattle.zl_code.specs.declared.history.Outcome.TheVariants as outcome
+use Rattle.zl_code.specs.declared.history.CallName.{CallName}
+use Rattle.zl_code.specs.declared.history.CallName.TheVariants as name
 use Rattle.zl_code.specs.declared.instr.CallInstr.{CallInstr}
 use Rattle.zl_code.specs.Image.{Library}
 use Rattle.zl_code.specs.Local.{reg}
@@ -27,7 +30,7 @@ use Rattle.zl_code.specs.Jobs.{job_within, body_with_policy, body_killed, object
 use Rattle.zl_code.specs.Effects.{on_process, insert_all, remove_all, with_object, process_with, process_without, may_get_after, may_get_all, gets_all, told_of, body_with_message, body_after_read}
 use Rattle.zl_code.specs.CallTable.{Request, replace, chan_create, chan_write, chan_read_etc, event_create, signal, signal_peer, wait_one, wait_poll, wait_async, port_create, port_queue, port_wait, port_poll, port_cancel, process_create, process_start, task_kill, job_create, job_set_policy, listed, new_handles, receiver_of, choosing, entering_at, effect, stored_by, gives_ok, gives_refused, awaited_by}
 use Rattle.zl_code.specs.Refusals.{refusal}
-use Rattle.zl_code.specs.Request.{Site}
+use Rattle.zl_code.specs.Request.{Site, site_of}
 use Rattle.zl_code.specs.Calls.{taken_handles, may_choose, taken, cpu_answered, replied, with_effect, after_refusal, after_ok, ok_outcome, CallBy, Choice, Refused, WantsMemory, Values, Calls}
 use Rattle.zl_code.specs.Sound.{IsSound, IsSoundTable, is_value}
 use Rattle.zl_code.proofs.Entering.{get_without, gone_without}
@@ -39,7 +42,7 @@ use Rattle.zl_verify.specs.SizedLaws.{IsSizedCpu}
 use Rattle.zl_verify.proofs.Memories.{AreBytes, all_taken, all_dropped}
 use Rattle.zl_verify.proofs.Calm.{both_few, within_few, first_sizes, first_are_bytes, first_rights, packets_at_sized}
 use Rattle.zl_verify.proofs.Giving.{status_few, kind_few, HasFewRights}
-use Rattle.zl_verify.proofs.Sites.{SiteAt, replace_at, chan_write_at, wait_async_at, port_queue_at, process_start_at}
+use Rattle.zl_verify.proofs.Sites.{call, AtSite, of_site}
 use Rattle.zl_verify.proofs.Working.{listed_none, test_fails, test_passes}
 use Rattle.zl_verify.proofs.SizedCpus.{AreSmall, registers_written, answered_sized, blank_sized, started_sized}
 use Rattle.zl_verify.specs.SizedLaws.{IsSized, IsSizedObject}
@@ -56,13 +59,17 @@ IsSizedRequest (port_queue port key value) = (key ≤ ANY) × (value ≤ ANY)
 IsSizedRequest (process_start process h word) = word ≤ ANY
 IsSizedRequest _ = ⊤
 
-pub request_sized : (c : Cpu) → IsSizedCpu c → (x : CallInstr) (t : Site) → SiteAt c x t → IsSizedRequest t.request
-request_sized c h _ _ (replace_at a b d imm) = h.small b
-request_sized c h _ _ (chan_write_at a b m n hs) = all_taken (reg c n) (drop (reg c m) c.memory) (all_dropped (reg c m) c.memory h.bytes)
-request_sized c h _ _ (wait_async_at a b o d e) = (h.small d, h.small e)
-request_sized c h _ _ (port_queue_at a b d e) = (h.small d, h.small e)
-request_sized c h _ _ (process_start_at a b o d) = h.small d
-request_sized c h _ _ _ = tt
+sized_by : (c : Cpu) → IsSizedCpu c → (n : CallName) (rs last : List ℕ) → AtSite c (call n rs last) (λ t. IsSizedRequest t.request)
+sized_by c h name.Replace rs last = h.small (slice_index rs 1)
+sized_by c h name.ChanWrite rs last =
+    let at = reg c (slice_index rs 2) in all_taken (reg c (slice_index rs 3)) (drop at c.memory) (all_dropped at c.memory h.bytes)
+sized_by c h name.WaitAsync rs last = (h.small (slice_index rs 3), h.small (slice_index rs 4))
+sized_by c h name.PortQueue rs last = (h.small (slice_index rs 2), h.small (slice_index rs 3))
+sized_by c h name.ProcessStart rs last = h.small (slice_index rs 3)
+sized_by c h _ rs last = tt
+
+pub request_sized : (c : Cpu) → IsSizedCpu c → (x : CallInstr) (t : Site) → site_of x c ≡ Some t → IsSizedRequest t.request
+request_sized c h x t site = of_site c x t site (λ t. IsSizedRequest t.request) (sized_by c h x.name x.registers x.last)
 
 -- ---- what is told
 

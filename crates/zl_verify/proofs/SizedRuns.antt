@@ -16,7 +16,7 @@ use Rattle.zl_code.specs.declared.instr.CallInstr.{CallInstr}
 use Rattle.zl_code.specs.Image.{Image, Library, instr_at}
 use Rattle.zl_code.specs.Spells.{is_in_range, is_instr_in_range}
 use Rattle.zl_code.specs.Local.{local_effect}
-use Rattle.zl_code.specs.Request.{Site, site_of, name_of}
+use Rattle.zl_code.specs.Request.{Site, site_of}
 use Rattle.zl_code.specs.Effects.{with_object, process_with}
 use Rattle.zl_code.specs.Boot.{setting, Boots, may_boot, boot_effect, handles_given, process_with_all, origin}
 use Rattle.zl_code.specs.Starting.{created_process}
@@ -29,7 +29,6 @@ use Rattle.zl_code.proofs.SoundRuns.{step_sound, boot_sound}
 use Rattle.zl_abs.specs.Values.{ANY}
 use Rattle.zl_verify.specs.SizedLaws.{IsSizedCpu}
 use Rattle.zl_verify.proofs.LocalSteps.{in_range_at}
-use Rattle.zl_verify.proofs.Sites.{site_at}
 use Rattle.zl_verify.proofs.SizedCpus.{blank_sized, started_sized, local_sized}
 use Rattle.zl_verify.specs.SizedLaws.{IsSized, IsSizedObject}
 use Rattle.zl_verify.proofs.SizedWorlds.{object_sized, process_sized, new_process_sized, ended_sized, new_object_sized, settled_sized, wakes_sized}
@@ -51,9 +50,9 @@ next_sized i c range h = by (instr_at i c.counter) (in_range_at i.raw i.code c.c
     moved None k = tt
     moved (Some d) k = k
 
-    called : (x : CallInstr) (o : Option Site) → site_of x c ≡ o → IsSizedNext (calls_at (name_of x) o)
+    called : (x : CallInstr) (o : Option Site) → site_of x c ≡ o → IsSizedNext (calls_at x.name o)
     called x None is = tt
-    called x (Some t) is = request_sized c h x t (site_at c t x is)
+    called x (Some t) is = request_sized c h x t is
 
     by : (o : Option Instr) → IfSome o (λ x. is_instr_in_range i.raw x ≡ true) → IsSizedNext (next_of o c)
     by None r = tt

@@ -5,7 +5,8 @@ use Rattle.std.specs.List.{AllByRecursion, filter, fold}
 use Rattle.std.specs.Option.{option_map}
 use Rattle.std.proofs.lemmas.Option.{same_Some, none-some}
 use Rattle.zl_rights.specs.declared.entry.Entry.{Entry}
-use Rattle.zl_rights.specs.Common.{lives, each, get, update, without, has_key, Settles, process_settled, without_others, queue_of, fired, wakes, Map, World, Process, State, Blocked, Ended, Object, Body, PortBody}
+use Rattle.zl_rights.specs.Common.{lives, each, get, update, without, has_key, Settles, process_settled, without_others, fired, wakes, Map, World, Process}
+use Rattle.zl_rights.specs.Common.{State, Blocked, Ended, Object, Body, PortBody}
 use Rattle.zl_rights.specs.World.{Awaited, SignalOf, PacketAt, Packet, Wait}
 use Rattle.zl_rights.specs.Signals.{active}
 use Rattle.zl_rights.specs.Numbers.{meets}
@@ -14,11 +15,11 @@ use Rattle.zl_rights.specs.Wakes.{holds, packet_of, body_with_packets, packets_f
 use Rattle.zl_rights.proofs.MapLaws.{get-update, get-each}
 use Rattle.zl_code.specs.Effects.{on_process, on_object, process_with, process_without, insert_all, remove_all, with_object, with_process, process_ended, ended, storing, waiting}
 use Rattle.zl_code.specs.Local.{overwritten}
-use Rattle.zl_code.specs.Waiting.{packets_in, registered}
+use Rattle.zl_code.specs.Waiting.{registered}
 use Rattle.zl_code.proofs.MapKept.{Each, each_put, each_where_key}
 use Rattle.zl_abs.specs.Values.{ANY}
-use Rattle.zl_verify.specs.CallLaws.{IsSizedMessage, IsSizedPacket, QueuesAreSized}
-use Rattle.zl_verify.specs.SizedLaws.{IsSizedCpu, IsSizedObject, IsSizedWait, AllAreSized, IsSized}
+use Rattle.zl_verify.specs.CallLaws.{IsSizedPacket, QueuesAreSized}
+use Rattle.zl_verify.specs.SizedLaws.{IsSizedCpu, IsSizedObject, IsSizedWait, IsSized}
 use Rattle.zl_verify.proofs.Memories.{AreBytes, bytes_over}
 use Rattle.zl_verify.proofs.Calm.{active_few}
 use Rattle.zl_verify.proofs.SizedCpus.{AreSmall, answered_sized}

@@ -1,35 +1,30 @@
 -- A call that stands next where a process is as a state says, and whose rule holds there.
-use Rattle.std.proofs.Common.{◌≡◌, ℕ, ◌<◌, Bool, true, false, not, List, [], ◌∷◌, refl, sym, ap, ◌∙◌, subst, Option, Some, None, Result, Ok, Err}
+use Rattle.std.proofs.Common.{◌≡◌, ℕ, Bool, true, false, not, List, [], ◌∷◌, refl, sym, ap, ◌∙◌, subst, Some, None, Result, Ok, Err}
 use Rattle.std.specs.Prelude.{if◌then◌else◌}
-use Rattle.std.specs.List.{AllByRecursion}
 use Rattle.zl_rights.specs.Common.{get, World, Cpu, Process}
 use Rattle.zl_rights.specs.World.{answered, written}
 use Rattle.zl_rights.specs.declared.status.Status.{Status}
 use Rattle.zl_rights.specs.Numbers.{status_magnitude}
-use Rattle.zl_code.specs.Limits.{register_count}
 use Rattle.zl_code.specs.declared.image.SlotArray.{SlotArray}
 use Rattle.zl_code.specs.declared.instr.CallInstr.{CallInstr}
 use Rattle.zl_code.specs.Image.{Image}
-use Rattle.zl_code.specs.Instructions.{Row, row_of}
-use Rattle.zl_code.specs.Spells.{Parts, call_parts, is_call_in_range}
-use Rattle.zl_code.specs.Request.{Site}
+use Rattle.zl_code.specs.Spells.{is_call_in_range}
+use Rattle.zl_code.specs.Request.{Site, site_of}
 use Rattle.zl_code.specs.Tests.{handles_in}
-use Rattle.zl_code.specs.Operands.{Operand, by_policy}
+use Rattle.zl_code.specs.Operands.{by_policy}
 use Rattle.zl_code.specs.Operands.{examined as examined_at}
 use Rattle.zl_code.specs.Refusals.{handle_operands, condition_of}
 use Rattle.zl_code.specs.Calls.{taken_handles, taken, cpu_answered}
-use Rattle.zl_abs.specs.declared.value.AbsVal.{AbsVal}
 use Rattle.zl_abs.specs.declared.cause.Cause.{Cause}
 use Rattle.zl_abs.specs.declared.cause.Cause.TheVariants as cause
 use Rattle.zl_abs.specs.States.{State, IsState, with_all}
 use Rattle.zl_abs.specs.Rule.{and_then, passes}
-use Rattle.zl_abs.specs.CallRules.{are_words, range_fits, is_declared, are_distinct, has_one, examined_all, finished, Uses, uses_by, uses_in, uses_of, values_of, goes_on, stops, call_rule_by, call_rule}
+use Rattle.zl_abs.specs.CallRules.{are_words, range_fits, is_declared, are_distinct, has_one, examined_all, finished, Uses, uses_of, goes_on, stops, call_rule}
 use Rattle.zl_abs.specs.Outcome.{Outcome as Ways}
 use Rattle.zl_verify.specs.Conforms.{Table, Holds}
 use Rattle.zl_verify.proofs.Examining.{Passed, operands_from, unseen, seen_all, Reads}
-use Rattle.zl_verify.proofs.Fitting.{Fits, results, AreInside}
+use Rattle.zl_verify.proofs.Fitting.{Fits, results}
 use Rattle.zl_verify.proofs.OwnTable.{removed_here, losing_all, losing_seen}
-use Rattle.zl_verify.proofs.Sites.{SiteAt}
 use Rattle.zl_verify.proofs.Aligned.{IsAligned, aligned, operands_inside, results_inside}
 
 -- ---- the tests of a rule that holds
@@ -41,7 +36,7 @@ pub record HasRule (i : Image) (s : State) (x : CallInstr) (u : Uses) (r : State
   pub declared : is_declared i u.condition ≡ true
   pub distinct : are_distinct u.results ≡ true
   pub free : has_one r u.results ≡ false
-  pub leads : (if goes_on x then passes (with_all r u.results) else stops) ≡ w
+  pub leads : (if goes_on x.name then passes (with_all r u.results) else stops) ≡ w
 
 same_Ok : {A : Type 0} (x y : A) → ◌≡◌ {A = Result A Cause} (Ok x) (Ok y) → x ≡ y
 same_Ok x y e = cc
@@ -49,7 +44,8 @@ same_Ok x y e = cc
 module _ (i : Image) (s : State) (x : CallInstr) (u : Uses) (r : State) (w : Ways) (operands : examined_all s u.operands ≡ Ok r) where
   by_tests : (a b d e f : Bool) → range_fits i s u.range ≡ b → is_declared i u.condition ≡ d → are_distinct u.results ≡ e → has_one r u.results ≡ f
       → and_then (if not a then Err cause.NotWord else if not b then Err cause.MemoryRange else if not d then Err cause.UndeclaredNeed
-      else if not e then Err cause.IllegalOp else if f then Err cause.Leak else Ok (with_all r u.results)) (λ t. Ok (if goes_on x then passes t else stops)) ≡ Ok w
+      else if not e then Err cause.IllegalOp else if f then Err cause.Leak else Ok (with_all r u.results))
+      (λ t. Ok (if goes_on x.name then passes t else stops)) ≡ Ok w
       → HasRule i s x u r w
   by_tests true true true true false bs ds es fs h = record { operands = operands; range = bs; declared = ds; distinct = es; free = fs; leads = same_Ok _ w h }
   by_tests false b d e f bs ds es fs h = cc
@@ -58,66 +54,52 @@ module _ (i : Image) (s : State) (x : CallInstr) (u : Uses) (r : State) (w : Way
   by_tests true true true false f bs ds es fs h = cc
   by_tests true true true true true bs ds es fs h = cc
 
-  finished_by : and_then (finished i s r u) (λ t. Ok (if goes_on x then passes t else stops)) ≡ Ok w → HasRule i s x u r w
+  finished_by : and_then (finished i s r u) (λ t. Ok (if goes_on x.name then passes t else stops)) ≡ Ok w → HasRule i s x u r w
   finished_by h = by_tests (are_words s u.words) (range_fits i s u.range) (is_declared i u.condition) (are_distinct u.results) (has_one r u.results) refl refl refl refl h
 
-pub has_rule : (i : Image) (s : State) (x : CallInstr) (bounds : List ℕ) (w : Ways) → call_rule bounds i x s ≡ Ok w → (u : Uses) × (r : State) × (uses_of bounds s x ≡ Some u) × HasRule i s x u r w
+pub has_rule : (i : Image) (s : State) (x : CallInstr) (bounds : List ℕ) (w : Ways) → call_rule bounds i x s ≡ Ok w
+    → (r : State) × HasRule i s x (uses_of bounds s x) r w
 unfolding call_rule
-has_rule i s x bounds w = by (uses_of bounds s x)
+has_rule i s x bounds w = by (examined_all s u.operands) refl
   where
-    by_operands : (u : Uses) (o : Result State Cause) → examined_all s u.operands ≡ o → and_then (and_then o (λ t. finished i s t u)) (λ t. Ok (if goes_on x then passes t else stops)) ≡ Ok w
-        → (r : State) × HasRule i s x u r w
-    by_operands u (Err c) is h = cc
-    by_operands u (Ok r) is h = (r, finished_by i s x u r w is h)
+    u : Uses
+    u = uses_of bounds s x
 
-    by : (o : Option Uses) → call_rule_by i s (goes_on x) o ≡ Ok w → (u : Uses) × (r : State) × (o ≡ Some u) × HasRule i s x u r w
-    by None h = cc
-    by (Some u) h = let k = by_operands u (examined_all s u.operands) refl h in (u, k.0, refl, k.1)
+    by : (o : Result State Cause) → examined_all s u.operands ≡ o
+        → and_then (and_then o (λ t. finished i s t u)) (λ t. Ok (if goes_on x.name then passes t else stops)) ≡ Ok w
+        → (r : State) × HasRule i s x u r w
+    by (Err c) is h = cc
+    by (Ok r) is h = (r, finished_by i s x u r w is h)
 
 -- ---- what holds at the call
 
--- The process p of w, which is q, stands before the call at the site t, whose rule holds at s, where it leads to these uses and the state r.
-pub record Stands (w : World) (p : ℕ) (q : Process) (x : CallInstr) (t : Site) (s : State) (arrays : List SlotArray) (u : Uses) (r : State) : Type 0 where
+-- The process p of w, which is q, stands before the call at the site t, whose rule holds at s, where its operands leave the state r.
+pub record Stands (w : World) (p : ℕ) (q : Process) (x : CallInstr) (t : Site) (s : State) (arrays : List SlotArray) (bounds : List ℕ)
+    (r : State) : Type 0 where
   pub there : get w.processes p ≡ Some q
-  pub bounds : List ℕ
-  pub uses : uses_of bounds s x ≡ Some u
-  pub site : SiteAt q.cpu x t
+  pub site : site_of x q.cpu ≡ Some t
   pub holds : Holds (get q.handles) s q.cpu.registers arrays q.cpu.slots
   pub states : IsState s
   pub in_range : is_call_in_range x ≡ true
-  pub operands : examined_all s u.operands ≡ Ok r
-  pub distinct : are_distinct u.results ≡ true
-  pub free : has_one r u.results ≡ false
+  pub operands : examined_all s (uses_of bounds s x).operands ≡ Ok r
+  pub distinct : are_distinct (uses_of bounds s x).results ≡ true
+  pub free : has_one r (uses_of bounds s x).results ≡ false
   pub allowed : by_policy w p (condition_of t.request) ≡ None
 
--- what the uses of a row have
-used_by : (P : Uses → Type 0) (o : Option Row) (p : Parts) (values : List AbsVal) (u : Uses) → uses_in o p values ≡ Some u → ((r : Row) → P (uses_by r p values)) → P u
-used_by P None p values u e h = cc
-used_by P (Some r) p values u e h = subst P (let same : uses_by r p values ≡ u = cc in same) (h r)
+module _ {w : World} {p : ℕ} {q : Process} {x : CallInstr} {t : Site} {s : State} {arrays : List SlotArray} {bounds : List ℕ} {r : State}
+    (k : Stands w p q x t s arrays bounds r) where
+  abbrev u : Uses
+  u = uses_of bounds s x
 
-module _ {w : World} {p : ℕ} {q : Process} {x : CallInstr} {t : Site} {s : State} {arrays : List SlotArray} {u : Uses} {r : State} (k : Stands w p q x t s arrays u r) where
-  pub is_aligned : IsAligned q.cpu t u
-  is_aligned = aligned k.bounds s x q.cpu t k.site u k.uses
-
-  inside_operands : AllByRecursion (λ (o : Operand). o.value < register_count) u.operands
-  unfolding uses_of
-  inside_operands = used_by (λ u. AllByRecursion (λ (o : Operand). o.value < register_count) u.operands) (row_of (call_parts x).opcode) (call_parts x) (values_of k.bounds s x) u k.uses
-      (λ row. operands_inside (call_parts x) k.in_range row (values_of k.bounds s x))
-
-  inside_results : AreInside u.results
-  unfolding uses_of
-  inside_results = used_by (λ u. AreInside u.results) (row_of (call_parts x).opcode) (call_parts x) (values_of k.bounds s x) u k.uses
-      (λ row. results_inside (call_parts x) k.in_range row (values_of k.bounds s x))
+  is_aligned : IsAligned q.cpu t u
+  is_aligned = aligned bounds s x q.cpu t k.site
 
   pub reads_own : Reads w p ≡ get q.handles
   reads_own = ap (λ o. get (handles_in o)) k.there
 
-  behind : (o : Operand) (rest : List Operand) → u.operands ≡ o ∷ rest → AllByRecursion (λ (o : Operand). o.value < register_count) rest
-  behind o rest is = (subst (λ os. AllByRecursion (λ (o : Operand). o.value < register_count) os) is inside_operands).1
-
   pub passed : Passed w p q.cpu.registers arrays q.cpu.slots r q.cpu.registers [] u.operands
   passed = operands_from w p q.cpu.registers arrays q.cpu.slots u.operands s r (subst (λ f. Holds f s q.cpu.registers arrays q.cpu.slots) (sym reads_own) k.holds) k.states
-      inside_operands (λ o rest is. is_aligned.plain o rest is (behind o rest is)) k.operands
+      (operands_inside x k.in_range bounds s) is_aligned.plain k.operands
 
   -- the table without what was consumed
   abbrev pub left : Table
@@ -147,4 +129,5 @@ module _ {w : World} {p : ℕ} {q : Process} {x : CallInstr} {t : Site} {s : Sta
       → Holds g (with_all r u.results) (cpu_answered t st values c).registers arrays q.cpu.slots
   unfolding answered
   answer_holds st values c g same fits = rw (same, is_aligned.destinations)
-      (results u.results (status_magnitude st ∷ values) left r zeroed arrays q.cpu.slots g zeroed_hold passed.states inside_results k.distinct k.free fits)
+      (results u.results (status_magnitude st ∷ values) left r zeroed arrays q.cpu.slots g zeroed_hold passed.states
+      (results_inside x k.in_range bounds s) k.distinct k.free fits)

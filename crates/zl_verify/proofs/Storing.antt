@@ -1,20 +1,25 @@
 -- The bytes that a call stores leave its caller's memory whole, and the rest of the caller as it was.
-use Rattle.std.proofs.Common.{◌≡◌, ℕ, ◌+◌, ◌≤◌, List, [], ◌∷◌, length, true, refl, sym, subst, None, arith}
-use Rattle.std.specs.Prelude.{nat_le}
+use Rattle.std.proofs.Common.{◌≡◌, ℕ, ◌+◌, ◌≤◌, List, [], ◌∷◌, length, true, refl, sym, ap, ◌∙◌, subst, Some, None, arith, slice_index}
+use Rattle.std.specs.Prelude.{is_some, nat_le}
 use Rattle.std.proofs.lemmas.Bool.Decides.{nat_tests}
 use Rattle.zl_rights.specs.Common.{World, Process}
 use Rattle.zl_code.specs.Image.{Image, Library}
+use Rattle.zl_code.specs.declared.history.CallName.{CallName}
+use Rattle.zl_code.specs.declared.history.CallName.TheVariants as name
 use Rattle.zl_code.specs.declared.instr.CallInstr.{CallInstr}
+use Rattle.zl_code.specs.Instructions.{call_row}
+use Rattle.zl_code.specs.Spells.{number_at}
+use Rattle.zl_code.specs.Asked.{has_its_memory}
 use Rattle.zl_code.specs.Local.{reg, overwritten}
 use Rattle.zl_code.specs.Tests.{first_bytes, queue_at}
 use Rattle.zl_code.specs.CallTable.{stored_by}
 use Rattle.zl_code.specs.Refusals.{refusal}
-use Rattle.zl_code.specs.Request.{Site}
+use Rattle.zl_code.specs.Request.{Site, site_of}
 use Rattle.zl_verify.specs.Conforms.{IsMemory}
 use Rattle.zl_verify.specs.CallLaws.{QueuesAreSized}
 use Rattle.zl_verify.proofs.Memories.{AreBytes, bytes_stored}
 use Rattle.zl_verify.proofs.OwnTable.{storing_in}
-use Rattle.zl_verify.proofs.Sites.{SiteAt, chan_read_at}
+use Rattle.zl_verify.proofs.Sites.{call, AtSite, of_site, has_site}
 use Rattle.zl_verify.proofs.Calm.{first_are_bytes}
 use Rattle.zl_verify.proofs.Working.{message_fits}
 
@@ -39,11 +44,22 @@ module _ (i : Image) (q new : Process) (same : new.cpu ≡ q.cpu) (memory : IsMe
   within_memory : (address room most n : ℕ) → nat_le (address + room) most ≡ true → n ≤ room → address + n ≤ most
   within_memory address room most n there fits = grind (arith, nat_tests)
 
-  no_bytes : AreBytes []
-  no_bytes k = omega arith
+  whole_by : (lib : Library) (w : World) (p : ℕ) → QueuesAreSized w → (n : CallName) (rs last : List ℕ)
+      → has_its_memory (call_row n).ending (call n rs last) q.cpu ≡ true
+      → AtSite q.cpu (call n rs last) (λ t. refusal lib w p t.request ≡ None → IsMemory i (storing_in (stored_by w p t.request) new).cpu.memory)
+  whole_by lib w p sized name.ChanReadEtc rs last there =
+      let h = reg q.cpu (slice_index rs 1) in
+      let address = reg q.cpu (slice_index rs 2) in
+      let room = reg q.cpu (slice_index rs 3) in
+      λ passes.
+      storing_whole address (first_bytes (queue_at w p h)) (first_are_bytes w sized p h)
+      (within_memory address room (length q.cpu.memory) (length (first_bytes (queue_at w p h))) there
+      (message_fits lib w p h address room (number_at last 0 4) passes).0)
+  whole_by lib w p sized _ rs last there = λ passes. subst (λ c. IsMemory i c.memory) (sym same) memory
 
-  pub still_whole : (lib : Library) (w : World) (p : ℕ) → QueuesAreSized w → (x : CallInstr) (t : Site) → SiteAt q.cpu x t → refusal lib w p t.request ≡ None → IsMemory i (storing_in (stored_by w p t.request) new).cpu.memory
-  still_whole lib w p sized _ _ (chan_read_at a b m n d e g places there) passes =
-      storing_whole (reg q.cpu m) (first_bytes (queue_at w p (reg q.cpu b))) (first_are_bytes w sized p (reg q.cpu b))
-      (within_memory (reg q.cpu m) (reg q.cpu n) (length q.cpu.memory) (length (first_bytes (queue_at w p (reg q.cpu b)))) there (message_fits lib w p (reg q.cpu b) (reg q.cpu m) (reg q.cpu n) places passes).0)
-  still_whole lib w p sized _ _ _ passes = subst (λ c. IsMemory i c.memory) (sym same) memory
+  pub still_whole : (lib : Library) (w : World) (p : ℕ) → QueuesAreSized w → (x : CallInstr) (t : Site) → site_of x q.cpu ≡ Some t
+      → refusal lib w p t.request ≡ None
+      → IsMemory i (storing_in (stored_by w p t.request) new).cpu.memory
+  still_whole lib w p sized x t site =
+      of_site q.cpu x t site (λ t. refusal lib w p t.request ≡ None → IsMemory i (storing_in (stored_by w p t.request) new).cpu.memory)
+      (whole_by lib w p sized x.name x.registers x.last (sym (has_site x q.cpu) ∙ ap is_some site))

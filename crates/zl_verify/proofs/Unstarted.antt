@@ -1,13 +1,12 @@
 -- A process that was made and isn't started yet is as it was made, and its job allows what its program needs; what a step does keeps this.
 use Rattle.std.proofs.Common.{◌≡◌, ℕ, ◌<◌, ◌⊎◌, Bool, true, false, ◌==◌, List, [], ◌∷◌, refl, sym, ap, ◌∙◌, subst, Option, Some, None, option_map, arith, inl, inr}
-use Rattle.std.specs.Prelude.{ℤ, if◌then◌else◌, slice_get}
+use Rattle.std.specs.Prelude.{ℤ, if◌then◌else◌}
 use Rattle.std.proofs.lemmas.Bool.{cases_Bool, eqb-true}
 use Rattle.std.proofs.lemmas.Bool.Decides.{nat_tests}
 use Rattle.std.proofs.lemmas.Option.{same_Some}
 use Rattle.zl_rights.specs.declared.entry.Entry.{Entry}
-use Rattle.zl_rights.specs.declared.policy.Condition.{Condition}
 use Rattle.zl_rights.specs.declared.status.Status.TheVariants as status
-use Rattle.zl_rights.specs.Common.{get, put, World, Cpu, Process, State as Life, Created, Ready, Blocked, Ended, ProcessBody}
+use Rattle.zl_rights.specs.Common.{get, put, World, Process, State as Life, Created, Ready, Blocked, Ended, ProcessBody}
 use Rattle.zl_rights.specs.Numbers.{KILLED}
 use Rattle.zl_rights.specs.Signals.{has_ended}
 use Rattle.zl_rights.specs.World.{Awaited}
@@ -15,11 +14,8 @@ use Rattle.zl_rights.proofs.MapLaws.{get-put, get-update, get-each}
 use Rattle.zl_code.specs.declared.history.Outcome.{Outcome}
 use Rattle.zl_code.specs.declared.history.Outcome.TheVariants as outcome
 use Rattle.zl_code.specs.declared.history.TraceItem.{TraceItem}
-use Rattle.zl_code.specs.declared.instr.CallInstr.{CallInstr}
-use Rattle.zl_code.specs.Image.{Library, Program, is_among}
-use Rattle.zl_code.specs.Local.{reg}
+use Rattle.zl_code.specs.Image.{Library}
 use Rattle.zl_code.specs.Tests.{object_at}
-use Rattle.zl_code.specs.Operands.{creates}
 use Rattle.zl_code.specs.Effects.{on_process, on_object, with_object, process_with, process_ended, insert_all, ended, waiting}
 use Rattle.zl_code.specs.Starting.{is_created, created_process, started_with}
 use Rattle.zl_code.specs.Jobs.{is_within, process_killed, with_killed}
@@ -29,14 +25,12 @@ use Rattle.zl_code.specs.Request.{Site}
 use Rattle.zl_code.specs.Calls.{Choice, Refused, WantsMemory, Values, CallBy, taken_handles, taken, cpu_answered, replied, with_effect, after_refusal, after_ok, ok_outcome}
 use Rattle.zl_code.specs.Steps.{Next, Moves, AtCall, IsStuck, Acts}
 use Rattle.zl_code.proofs.Entering.{left_behind}
-use Rattle.zl_verify.specs.Covered.{IsUnstarted, AreUnstarted}
 use Rattle.zl_verify.proofs.Giving.{getting_all}
 use Rattle.zl_verify.proofs.OwnTable.{changed_here, changed_elsewhere, inserted_elsewhere, own_handles, losing_all, losing_same, removed_here}
 use Rattle.zl_verify.proofs.OwnTable.{getting_same}
 use Rattle.zl_verify.proofs.Storing.{storing_same}
-use Rattle.zl_verify.proofs.Sites.{SiteAt, process_create_at, process_start_at, task_kill_at}
 use Rattle.zl_verify.proofs.OwnEffect.{IsDone, caller_after, caller_ending, inserted_objects, stored_objects}
-use Rattle.zl_verify.proofs.Others.{HasSite, left_other, stored_other, ended_other, waiting_other, replied_other}
+use Rattle.zl_verify.proofs.Others.{left_other, stored_other, ended_other, waiting_other, replied_other}
 
 -- ---- where such a process comes from
 
@@ -83,26 +77,27 @@ ended_old code x = by x.state refl
     by _ is = rw is refl
 
 module _ (p q : ℕ) (apart : (p == q) ≡ false) (lib : Library) (w u : World) (y : Process) (new : is_created y.state ≡ true) where
-  comes : (c : Cpu) (x : CallInstr) (t : Site) → SiteAt c x t → (vs ws : List ℕ) (es : List Entry) → get (insert_all (effect lib w u p t.request vs) (receiver_of w p t.request) es ws).processes q ≡ Some y → Origin lib w u q t.request y
+  comes : (r : Request) (vs ws : List ℕ) (es : List Entry) → get (insert_all (effect lib w u p r vs) (receiver_of w p r) es ws).processes q ≡ Some y
+      → Origin lib w u q r y
   unfolding effect with_object on_object with_killed
-  comes c _ _ (process_create_at a b d e) vs ws es at = by (cases_Bool (w.next_koid == q))
+  comes (process_create job program) vs ws es at = by (cases_Bool (w.next_koid == q))
     where
       made : Process
-      made = created_process lib (reg c d)
+      made = created_process lib program
 
       stands : (if w.next_koid == q then Some made else get u.processes q) ≡ Some y
-      stands = sym (get-put u.processes w.next_koid made q) ∙ (sym (inserted_elsewhere es ws (effect lib w u p (process_create (reg c b) (reg c d)) vs) p q apart) ∙ at)
+      stands = sym (get-put u.processes w.next_koid made q) ∙ (sym (inserted_elsewhere es ws (effect lib w u p (process_create job program) vs) p q apart) ∙ at)
 
-      by : ((w.next_koid == q) ≡ true) ⊎ ((w.next_koid == q) ≡ false) → Origin lib w u q (process_create (reg c b) (reg c d)) y
-      by (inl same) = from_call (reg c b) (reg c d) refl (sym (eqb-true w.next_koid q same)) (sym (same_Some made y (rw same at stands)))
+      by : ((w.next_koid == q) ≡ true) ⊎ ((w.next_koid == q) ≡ false) → Origin lib w u q (process_create job program) y
+      by (inl same) = from_call job program refl (sym (eqb-true w.next_koid q same)) (sym (same_Some made y (rw same at stands)))
       by (inr other) = from_before (rw other at stands)
-  comes c _ _ (process_start_at a b o d) vs ws es at = by (cases_Bool (child == q))
+  comes (process_start process h word) vs ws es at = by (cases_Bool (child == q))
     where
       child : ℕ
-      child = object_at w p (reg c b)
+      child = object_at w p process
 
       start : Process → Process
-      start = started_with vs (reg c d)
+      start = started_with vs word
 
       started_here : (o : Option Process) → option_map (getting_all es ws) (option_map start o) ≡ Some y → ⊥
       started_here None e = cc
@@ -111,27 +106,24 @@ module _ (p q : ℕ) (apart : (p == q) ≡ false) (lib : Library) (w u : World) 
           let bad : false ≡ true = sym (ap is_created ready) ∙ new in
           cc
 
-      by : ((child == q) ≡ true) ⊎ ((child == q) ≡ false) → Origin lib w u q (process_start (reg c b) (reg c o) (reg c d)) y
+      by : ((child == q) ≡ true) ⊎ ((child == q) ≡ false) → Origin lib w u q (process_start process h word) y
       by (inl same) =
           let here : get (insert_all (on_process u child start) child es ws).processes child ≡ Some y = subst (λ k. get (insert_all (on_process u child start) child es ws).processes k ≡ Some y) (sym (eqb-true child q same)) at in
           absurd (started_here (get u.processes child) (sym (inserted_at es ws (on_process u child start) child ∙ ap (option_map (getting_all es ws)) (changed_at u child start)) ∙ here))
       by (inr other) = from_before (sym (changed_elsewhere u child start q other) ∙ (sym (inserted_elsewhere es ws (on_process u child start) child q other) ∙ at))
-  comes c _ _ (task_kill_at a b) vs ws es at = by (is_within u.objects task q) (get u.processes q) refl stands
+  comes (task_kill target) vs ws es at = by (is_within u.objects task q) (get u.processes q) refl stands
     where
       task : ℕ
-      task = object_at w p (reg c b)
-
-      request : Request
-      request = task_kill (reg c b)
+      task = object_at w p target
 
       stands : option_map (process_killed (is_within u.objects task q)) (get u.processes q) ≡ Some y
       stands = sym (get-each u.processes (λ k x. process_killed (is_within u.objects task k) x) q) ∙ (sym (inserted_elsewhere es ws (with_killed u task) p q apart) ∙ at)
 
-      by : (b : Bool) (o : Option Process) → get u.processes q ≡ o → option_map (process_killed b) o ≡ Some y → Origin lib w u q request y
+      by : (b : Bool) (o : Option Process) → get u.processes q ≡ o → option_map (process_killed b) o ≡ Some y → Origin lib w u q (task_kill target) y
       by b None is e = cc
       by false (Some x) is e = from_before (is ∙ e)
       by true (Some x) is e = let bad : false ≡ true = sym (ended_old KILLED x) ∙ (ap (λ (z : Process). is_created z.state) (same_Some _ y e) ∙ new) in cc
-  comes c x t here vs ws es at = from_before (sym (inserted_elsewhere es ws (effect lib w u p t.request vs) p q apart) ∙ at)
+  comes r vs ws es at = from_before (sym (inserted_elsewhere es ws (effect lib w u p r vs) p q apart) ∙ at)
 
 -- ---- the act of a step
 
@@ -156,8 +148,8 @@ module _ (lib : Library) (w : World) (p : ℕ) (caller : Process) (there : get w
   lost_ready : (t : Site) → (lost t).state ≡ Ready
   lost_ready t = (losing_same (taken_handles t.request) caller).state ∙ ready
 
-  module _ (c : Cpu) (x : CallInstr) (t : Site) (here : SiteAt c x t) (passes : refusal lib w p t.request ≡ None) where
-    done : IsDone lib w (taken w p t) p t
+  module _ (t : Site) (passes : refusal lib w p t.request ≡ None) where
+    done : IsDone lib w (taken w p t) p t.request
     done =
         let kept = (left_behind w p caller (taken_handles t.request) there).1 in
         record { caller = caller; there = there; ready = ready; below = below; passes = passes; objects = kept.objects; koids = kept.next_koid }
@@ -169,10 +161,10 @@ module _ (lib : Library) (w : World) (p : ℕ) (caller : Process) (there : get w
         by : (e : Option ℤ) → ends_caller w p t.request ≡ e → (y : Process) × (get (with_effect lib w (taken w p t) p t.request vs).processes p ≡ Some y) × ((y.state ≡ Ready) ⊎ (has_ended y.state ≡ true))
         by None goes = (
           _,
-          caller_after c x t here lib w (taken w p t) p done goes vs (lost t) (lost_there t),
+          caller_after t.request lib w (taken w p t) p done goes vs (lost t) (lost_there t),
           inl ((storing_same (stored_by w p t.request) (getting_all (own_handles w p t.request) (entering_at t.request vs) (lost t))).state ∙ ((getting_same (own_handles w p t.request) (entering_at t.request vs) (lost t)).state ∙ lost_ready t)),
         )
-        by (Some code) is = caller_ending c x t here lib w (taken w p t) p code is vs (lost t) (lost_there t) (lost_ready t)
+        by (Some code) is = caller_ending t.request lib w (taken w p t) p code is vs (lost t) (lost_there t) (lost_ready t)
 
     -- what the effect leaves of objects, where the call makes a process
     made_objects : (vs : List ℕ) (h program : ℕ) → t.request ≡ process_create h program
@@ -185,7 +177,8 @@ module _ (lib : Library) (w : World) (p : ℕ) (caller : Process) (there : get w
     comes_so : (vs : List ℕ) (v : World) (q : ℕ) → (p == q) ≡ false → get v.processes q ≡ get (with_effect lib w (taken w p t) p t.request vs).processes q → v.objects ≡ (with_effect lib w (taken w p t) p t.request vs).objects
         → (y : Process) → get v.processes q ≡ Some y → is_created y.state ≡ true → Comes lib w v p q y
     comes_so vs v q apart same objects y at new =
-        by (comes p q apart lib w (taken w p t) y new c x t here vs (entering_at t.request vs) (new_handles w p t.request) (sym (stored_other p q apart (stored_by w p t.request) _) ∙ (sym same ∙ at)))
+        by (comes p q apart lib w (taken w p t) y new t.request vs (entering_at t.request vs) (new_handles w p t.request)
+        (sym (stored_other p q apart (stored_by w p t.request) _) ∙ (sym same ∙ at)))
       where
         by : Origin lib w (taken w p t) q t.request y → Comes lib w v p q y
         by (from_before is) = was (sym (left_other p q apart (taken_handles t.request) w) ∙ is)
@@ -221,21 +214,22 @@ module _ (lib : Library) (w : World) (p : ℕ) (caller : Process) (there : get w
   when_waits ds None = only_p w (λ y. y) caller (λ q apart. refl) there (ap is_created ready)
   when_waits ds (Some awaited) = only_p (waiting w p ds (Some awaited)) (λ y. record y { state = Blocked awaited ds }) caller (λ q apart. waiting_other p q apart w ds (Some awaited)) (changed_here w p _ caller there) refl
 
-  module _ (c : Cpu) (x : CallInstr) (t : Site) (here : SiteAt c x t) where
+  module _ (t : Site) where
     when_ok : refusal lib w p t.request ≡ None → (vs : List ℕ) (o : Outcome) → AllCome (after_ok lib w p t vs o)
     unfolding replied ended on_process
     when_ok passes vs (outcome.Answered answer) =
-        let last = caller_then c x t here passes vs in
+        let last = caller_then t passes vs in
         let v : World = with_effect lib w (taken w p t) p t.request vs in
         record {
-          others = λ q y apart. comes_so c x t here passes vs (replied v p t status.Ok (gives_ok w p t.request vs)) q apart (replied_other p q apart v t status.Ok (gives_ok w p t.request vs)) refl y;
+          others = λ q y apart. comes_so t passes vs (replied v p t status.Ok (gives_ok w p t.request vs)) q apart
+              (replied_other p q apart v t status.Ok (gives_ok w p t.request vs)) refl y;
           own = (_, changed_here v p _ last.0 last.1, ready_old last.0 last.2);
         }
     when_ok passes vs (outcome.Ended code) =
-        let last = caller_then c x t here passes vs in
+        let last = caller_then t passes vs in
         let v : World = with_effect lib w (taken w p t) p t.request vs in
         record {
-          others = λ q y apart. comes_so c x t here passes vs (ended v p code) q apart (ended_other p q apart v code) refl y;
+          others = λ q y apart. comes_so t passes vs (ended v p code) q apart (ended_other p q apart v code) refl y;
           own = (process_ended code last.0, changed_here v p (process_ended code) last.0 last.1, ended_old code last.0);
         }
     when_ok passes vs outcome.Blocked = when_waits t.destinations (awaited_by w p t.request)
@@ -248,8 +242,12 @@ module _ (lib : Library) (w : World) (p : ℕ) (caller : Process) (there : get w
     when_called (Values vs) None is answer w2 h = rw h.2 (when_ok is vs (ok_outcome w p t.request))
     when_called (Values vs) (Some o) is answer w2 h = absurd h
 
-  pub when_acted : (d : Cpu) (n : Next) → HasSite d n → (x : TraceItem) (w2 : World) → Acts lib w p n x w2 → AllCome w2
+  pub when_acted : (n : Next) (x : TraceItem) (w2 : World) → Acts lib w p n x w2 → AllCome w2
   unfolding ended
-  when_acted d (Moves e) site x w2 a = rw a.1 (only_p (on_process w p (λ y. record y { cpu = e })) (λ y. record y { cpu = e }) caller (λ q apart. changed_elsewhere w p _ q apart) (changed_here w p _ caller there) (ap is_created ready))
-  when_acted d (AtCall called t) (y, here) x w2 (o, e, h) = when_called d y t here h.0 (refusal lib w p t.request) refl o w2 h.1
-  when_acted d IsStuck site x w2 a = rw a.1 (only_p (ended w p _) (process_ended _) caller (λ q apart. ended_other p q apart w _) (changed_here w p (process_ended _) caller there) (ended_old _ caller))
+  when_acted (Moves e) x w2 a =
+      rw a.1 (only_p (on_process w p (λ y. record y { cpu = e })) (λ y. record y { cpu = e }) caller (λ q apart. changed_elsewhere w p _ q apart)
+      (changed_here w p _ caller there) (ap is_created ready))
+  when_acted (AtCall called t) x w2 (o, e, h) = when_called t h.0 (refusal lib w p t.request) refl o w2 h.1
+  when_acted IsStuck x w2 a =
+      rw a.1 (only_p (ended w p _) (process_ended _) caller (λ q apart. ended_other p q apart w _) (changed_here w p (process_ended _) caller there)
+      (ended_old _ caller))

@@ -31,7 +31,7 @@ use Rattle.zl_verify.specs.Covered.{IsUnstarted, AreUnstarted}
 use Rattle.zl_verify.specs.WakeLaws.{IsFitStep}
 use Rattle.zl_verify.proofs.Working.{listed_none, test_fails}
 use Rattle.zl_verify.proofs.OwnEffect.{other_koid, same_policy}
-use Rattle.zl_verify.proofs.Others.{site_for, keys_below, left_by_step}
+use Rattle.zl_verify.proofs.Others.{keys_below, left_by_step}
 use Rattle.zl_verify.proofs.Woken.{allowed_after}
 use Rattle.zl_verify.proofs.Unstarted.{Comes, was, made, AllCome, when_acted}
 
@@ -116,7 +116,7 @@ lives_new _ e = cc
 
 module _ (lib : Library) (w : World) (p : ℕ) (x : TraceItem) (w2 : World) (sound : IsSound w) (step : Step lib w p x w2) (all : AreUnstarted lib w) where
   acted_all : AllCome lib w p step.process step.is_there step.is_ready (keys_below w sound) step.acted
-  acted_all = when_acted lib w p step.process step.is_there step.is_ready (keys_below w sound) step.process.cpu (next_for lib step.process) (site_for lib step.process) x step.acted step.acts
+  acted_all = when_acted lib w p step.process step.is_there step.is_ready (keys_below w sound) (next_for lib step.process) x step.acted step.acts
 
   some_koid : 0 < w.next_koid
   some_koid = let less = keys_below w sound p step.process step.is_there in omega arith

@@ -1,17 +1,18 @@
 -- What a call that is answered OK gives fits what its rule says.
-use Rattle.std.proofs.Common.{◌≡◌, ℕ, zero, suc, ◌+◌, ◌*◌, ◌<◌, ◌≤◌, Bool, true, false, ◌&&◌, not, ◌==◌, List, [], ◌∷◌, length, refl, sym, ap, ◌∙◌, subst, Option, Some, None, Ok, arith, inl, inr, slice_set}
+use Rattle.std.proofs.Common.{◌≡◌, ℕ, zero, suc, ◌+◌, ◌*◌, ◌<◌, ◌≤◌, Bool, true, false, ◌&&◌, not, ◌==◌, List, [], ◌∷◌, length, refl, sym, ap, ◌∙◌, subst}
+use Rattle.std.proofs.Common.{Option, Some, None, Ok, arith, inl, inr, slice_index, slice_set}
 use Rattle.std.specs.Prelude.{if◌then◌else◌, nat_le, bit_and}
 use Rattle.std.specs.List.{AllByRecursion}
-use Rattle.std.proofs.lemmas.Option.{same_Some}
 use Rattle.std.proofs.lemmas.Bool.Decides.{nat_tests}
 use Rattle.std.proofs.lemmas.List.{length-set}
 use Rattle.std.proofs.lemmas.Nat.{and_assoc}
 use Rattle.std.specs.Int.Bits.{and_self}
-use Rattle.zl_rights.specs.Common.{bits, rights_of, within, get, is_empty, World, Cpu, Process}
+use Rattle.zl_rights.specs.Common.{bits, default_rights_of, rights_of, within, get, is_empty, World, Process}
 use Rattle.zl_rights.specs.World.{Packet}
 use Rattle.zl_rights.specs.Signals.{active}
 use Rattle.zl_rights.specs.Numbers.{KNOWN_RIGHTS, SAME_RIGHTS, DUPLICATE}
 use Rattle.zl_rights.specs.declared.entry.Entry.{Entry}
+use Rattle.zl_rights.specs.declared.kind.Kind.{Kind}
 use Rattle.zl_rights.specs.declared.kind.Kind.TheVariants as kind
 use Rattle.zl_rights.specs.declared.status.Status.{Status}
 use Rattle.zl_rights.specs.declared.status.Status.TheVariants as status
@@ -20,18 +21,19 @@ use Rattle.zl_code.specs.Image.{Library}
 use Rattle.zl_code.specs.Limits.{register_count}
 use Rattle.zl_code.specs.declared.history.Outcome.{Outcome}
 use Rattle.zl_code.specs.declared.image.SlotArray.{SlotArray}
+use Rattle.zl_code.specs.declared.history.CallName.{CallName}
+use Rattle.zl_code.specs.declared.history.CallName.TheVariants as name
 use Rattle.zl_code.specs.declared.instr.CallInstr.{CallInstr}
-use Rattle.zl_code.specs.Instructions.{row_of}
 use Rattle.zl_code.specs.Local.{reg}
-use Rattle.zl_code.specs.Spells.{call_parts}
+use Rattle.zl_code.specs.Spells.{number_at}
 use Rattle.zl_code.specs.Tests.{answer_if, with_rights, copy_of, entry_at, object_at, first_bytes, first_handles, queue_at}
 use Rattle.zl_code.specs.Operands.{Operand, any, examined, by_policy}
 use Rattle.zl_code.specs.Waiting.{first_values, packets_at}
 use Rattle.zl_code.specs.Effects.{process_with, new_entry, may_get_all, told_of}
-use Rattle.zl_code.specs.CallTable.{Request, dup, replace, chan_read_etc, listed, new_handles, entering_at, gives_ok}
+use Rattle.zl_code.specs.CallTable.{Request, dup, replace, chan_read_etc, process_start, listed, new_handles, entering_at, gives_ok}
 use Rattle.zl_code.specs.Refusals.{needs, taking, handle_operands, condition_of, refusal}
 use Rattle.zl_code.specs.Calls.{taken_handles, may_choose}
-use Rattle.zl_code.specs.Request.{Site}
+use Rattle.zl_code.specs.Request.{Site, site_of}
 use Rattle.zl_code.specs.Sound.{IsSound}
 use Rattle.zl_abs.specs.declared.value.AbsVal.{AbsVal}
 use Rattle.zl_abs.specs.declared.value.AbsVal.TheVariants.{Word, Has, KindOf, RightsOf}
@@ -48,8 +50,8 @@ use Rattle.zl_verify.proofs.Examining.{parts}
 use Rattle.zl_verify.proofs.Fitting.{Fits}
 use Rattle.zl_verify.proofs.Giving.{status_fits, zeros_fit, IsFreeLast, AllAs, getting, getting_all, handles_fit, triples_fit}
 use Rattle.zl_verify.proofs.OwnTable.{losing_all, losing, own_handles, MayGetOwn}
-use Rattle.zl_verify.proofs.Sites.{SiteAt, close_at, dup_at, replace_at, chan_create_at, chan_write_at, chan_read_at, event_create_at, signal_at, signal_peer_at, wait_one_at, wait_poll_at, wait_async_at, port_create_at, port_queue_at, port_wait_at, port_poll_at, port_cancel_at, process_create_at, process_start_at, process_exit_at, task_kill_at, job_create_at, job_set_policy_at}
-use Rattle.zl_verify.proofs.Aligned.{places_end, triples_zipped}
+use Rattle.zl_verify.proofs.Sites.{call, AtSite, of_site}
+use Rattle.zl_verify.proofs.Aligned.{places_end}
 use Rattle.zl_verify.proofs.Standing.{Stands, reads_own}
 use Rattle.zl_verify.proofs.Calm.{signals_few, first_sizes, packets_at_sized, first_rights}
 
@@ -130,7 +132,7 @@ replaced_as a f xs x o some ok l asked d e is one none few q1 gone s ys = by a (
 
 pub packets_fit : (bounds : List ℕ) (packets : List Packet) → AllByRecursion IsSizedPacket packets → (f : Table) (s : State) (xs : List ℕ) (d e g h : ℕ)
     → Fits f s xs ((d, Word ANY) ∷ (e, Word (rounded bounds 1)) ∷ (g, Word ANY) ∷ (h, Word ANY) ∷ []) (first_values packets) f
-packets_fit bounds [] x f s xs d e g h = zeros_fit f s xs ((d, Word ANY) ∷ (e, Word (rounded bounds 1)) ∷ (g, Word ANY) ∷ (h, Word ANY) ∷ []) (tt, (tt, (tt, (tt, tt))))
+packets_fit bounds [] x f s xs d e g h = zeros_fit f s xs ((d, Word ANY) ∷ (e, Word (rounded bounds 1)) ∷ (g, Word ANY) ∷ (h, Word ANY) ∷ []) refl
 packets_fit bounds (y ∷ rest) (x, more) f s xs d e g h = (f, (x.key, x.key, refl), (f, (above bounds y.kind 1 x.kind (small x.kind), small x.kind, refl), (f, (x.trigger, x.trigger, refl), (f, (x.observed, x.observed, refl), refl))))
   where
     small : {n : ℕ} → n ≤ 1 → n ≤ ANY
@@ -150,11 +152,17 @@ unfolding listed
 message_fits lib w p h address room places none =
     has_places room places (length (first_bytes (queue_at w p h))) (length (first_handles (queue_at w p h))) (test_passes _ status.BufferTooSmall (listed_none lib w p (chan_read_etc h address room places) none).1.1.0)
 
+-- a handle to a new object is as the rule says
+new_as : (koid : ℕ) (k : Kind) → IsAs (Some k) (rights_of (default_rights_of k)) (Some (new_entry koid k))
+new_as koid kind.Process = (refl, refl)
+new_as koid _ = (refl, refl)
+
 -- what may be chosen for the new handles, where they enter the caller's own table
-pub own_chosen : (c : Cpu) (x : CallInstr) (t : Site) → SiteAt c x t → (w u : World) (p : ℕ) (q : Process) (vs : List ℕ) → get u.processes p ≡ Some q → may_choose w u p t.request vs ≡ true → MayGetOwn w p q t.request vs
+pub own_chosen : (r : Request) (w u : World) (p : ℕ) (q : Process) (vs : List ℕ) → get u.processes p ≡ Some q → may_choose w u p r vs ≡ true
+    → MayGetOwn w p q r vs
 unfolding may_choose
-own_chosen c _ _ (process_start_at a b o d) w u p q vs there may = tt
-own_chosen c _ _ _ w u p q vs there may = rw there at may
+own_chosen (process_start process h word) w u p q vs there may = tt
+own_chosen _ w u p q vs there may = rw there at may
 
 -- ---- each call
 
@@ -175,6 +183,11 @@ module _ (lib : Library) (w : World) (p : ℕ) (q : Process) (sound : IsSound w)
   -- new handles behind it
   new_told : (a : ℕ) (ds : List (ℕ × AbsVal)) (es : List Entry) → may_get_all q es vs ≡ true → AllAs ds es → Fits (get q.handles) s xs ((a, Word 30) ∷ ds) (0 ∷ vs) (get (getting_all es vs q).handles)
   new_told a ds es may all = told (get q.handles) a ds vs (get (getting_all es vs q).handles) (handles_fit ds es vs q (with_value s a (Word 30)) (slice_set xs a 0) free may all)
+
+  -- a handle to a new object in this register
+  one_told : (a d : ℕ) (k : Kind) → may_get_all q (new_entry w.next_koid k ∷ []) vs ≡ true
+      → Fits (get q.handles) s xs ((a, Word 30) ∷ (d, new k) ∷ []) (0 ∷ vs) (get (getting_all (new_entry w.next_koid k ∷ []) vs q).handles)
+  one_told a d k may = new_told a ((d, new k) ∷ []) (new_entry w.next_koid k ∷ []) may (new_as w.next_koid k, tt)
 
   -- a number of 32 bits behind it
   signals_told : (f : Table) (a d k : ℕ) → Fits f s xs ((a, Word 30) ∷ (d, Word 0xffff_ffff) ∷ []) (0 ∷ active w k ∷ []) f
@@ -223,14 +236,16 @@ module _ (lib : Library) (w : World) (p : ℕ) (q : Process) (sound : IsSound w)
       wide3 : length xs3 ≡ length xs
       wide3 = length-set (slice_set (slice_set xs a 0) d (length (first_bytes (queue_at w p h)))) e (length (first_handles (queue_at w p h))) ∙ (length-set (slice_set xs a 0) d (length (first_bytes (queue_at w p h))) ∙ length-set xs a 0)
 
-  module _ (before : State) (arrays : List SlotArray) (u : Uses) where
-    -- from the uses that are computed
-    as_used : {x : CallInstr} {t : Site} → Stands w p q x t before arrays u s → (v : Uses) → v ≡ u → Works w p q s xs t.request vs v → Works w p q s xs t.request vs u
-    as_used {t = t} k v same = subst (Works w p q s xs t.request vs) same
+  module _ (before : State) (arrays : List SlotArray) (bounds : List ℕ) where
+    -- the answer OK of the call at the site fits
+    abbrev pub IsWorking : CallInstr → Site → Type 0
+    IsWorking x t =
+        Stands w p q x t before arrays bounds s → MayGetOwn w p (losing_all (taken_handles t.request) q) t.request vs → refusal lib w p t.request ≡ None
+        → Works w p q s xs t.request vs (uses_of bounds before x)
 
     -- a live handle that the first operand names
-    live_at : (x : CallInstr) (t : Site) → Stands w p q x t before arrays u s → (h : ℕ) → get q.handles h ≡ entry_at w p h
-    live_at x t k h = sym (ap (λ f. f h) (reads_own k))
+    live_at : {x : CallInstr} {t : Site} (k : Stands w p q x t before arrays bounds s) (h : ℕ) → get q.handles h ≡ entry_at w p h
+    live_at k h = sym (ap (λ f. f h) (reads_own k))
 
     first_passes : (o : Operand) (rest : List Operand) → examined_all before (o ∷ rest) ≡ Ok s → fault_of o (value_at before o.value) ≡ None
     first_passes o rest e = (parts before s o rest e).0
@@ -238,43 +253,51 @@ module _ (lib : Library) (w : World) (p : ℕ) (q : Process) (sound : IsSound w)
     is_copied : (e : Option Entry) (rights : ℕ) → answer_if (is_empty (copy_of e rights)) status.InvalidArgs ≡ None → is_empty (copy_of e rights) ≡ false
     is_copied e rights none = test_fails _ status.InvalidArgs none
 
-    pub works : (x : CallInstr) (t : Site) → SiteAt q.cpu x t → Stands w p q x t before arrays u s → MayGetOwn w p (losing_all (taken_handles t.request) q) t.request vs → refusal lib w p t.request ≡ None
-        → Works w p q s xs t.request vs u
-    unfolding uses_of row_of call_parts gives_ok new_handles taken_handles handle_operands listed
-    works _ _ (close_at a b) k may passes = as_used k _ (same_Some _ u k.uses) (alone_told _ a vs)
-    works _ _ (dup_at a b d imm) k may passes =
-        let ok = first_passes (needs b any DUPLICATE) [] (subst (λ (y : Uses). examined_all before y.operands ≡ Ok s) (sym (same_Some _ u k.uses)) k.operands) in
-        let one = is_copied (entry_at w p (reg q.cpu b)) imm (listed_none lib w p (dup (reg q.cpu b) imm) passes).0 in
-        as_used k _ (same_Some _ u k.uses)
-        (new_told a ((d, narrowed_value (value_at before b) imm) ∷ []) (copy_of (entry_at w p (reg q.cpu b)) imm) may
-        (named_as (value_at before b) (get q.handles) q.cpu.registers (reg q.cpu b) (needs b any DUPLICATE) refl ok (k.holds.described b) imm d (entry_at w p (reg q.cpu b)) (live_at _ _ k (reg q.cpu b)) one))
-    works _ _ (replace_at a b d imm) k may passes =
-        let ok = first_passes (taking b any 0) [] (subst (λ (y : Uses). examined_all before y.operands ≡ Ok s) (sym (same_Some _ u k.uses)) k.operands) in
-        let one = is_copied (entry_at w p (reg q.cpu b)) imm (listed_none lib w p (replace (reg q.cpu b) imm) passes).0 in
-        as_used k _ (same_Some _ u k.uses)
-        (told (get (losing_all (reg q.cpu b ∷ []) q).handles) a ((d, narrowed_value (value_at before b) imm) ∷ []) (reg q.cpu b ∷ []) (get (getting_all (copy_of (entry_at w p (reg q.cpu b)) imm) (reg q.cpu b ∷ []) (losing_all (reg q.cpu b ∷ []) q)).handles)
-        (replaced_as (value_at before b) (get q.handles) q.cpu.registers (reg q.cpu b) (taking b any 0) refl ok (k.holds.described b) imm d (entry_at w p (reg q.cpu b)) (live_at _ _ k (reg q.cpu b)) one
-        none (k.holds.small b) (losing_all (reg q.cpu b ∷ []) q) (is_gone q (reg q.cpu b)) (with_value s a (Word 30)) (slice_set xs a 0)))
-    works _ _ (chan_create_at a b d) k may passes = as_used k _ (same_Some _ u k.uses) (new_told a ((b, new kind.Channel) ∷ (d, new kind.Channel) ∷ []) (new_entry w.next_koid kind.Channel ∷ new_entry (w.next_koid + 1) kind.Channel ∷ []) may ((refl, refl), ((refl, refl), tt)))
-    works _ _ (chan_write_at a b m n hs) k may passes = as_used k _ (same_Some _ u k.uses) (alone_told _ a vs)
-    works _ _ (chan_read_at a b m n d e g places there) k may passes =
-        as_used k _ (same_Some _ u k.uses)
-        (subst (λ l. Fits (get q.handles) s xs ((a, Word 30) ∷ (d, Word 65536) ∷ (e, Word 64) ∷ l) (0 ∷ gives_ok w p (chan_read_etc (reg q.cpu b) (reg q.cpu m) (reg q.cpu n) places) vs) (get (getting_all (first_handles (queue_at w p (reg q.cpu b))) vs q).handles)) (sym (triples_zipped g places))
-        (message_told (reg q.cpu b) a d e g places (places_end a b m n d e g places k.in_range) (message_fits lib w p (reg q.cpu b) (reg q.cpu m) (reg q.cpu n) places passes).1 may))
-    works _ _ (event_create_at a b) k may passes = as_used k _ (same_Some _ u k.uses) (new_told a ((b, new kind.Event) ∷ []) (new_entry w.next_koid kind.Event ∷ []) may ((refl, refl), tt))
-    works _ _ (signal_at a b d e) k may passes = as_used k _ (same_Some _ u k.uses) (alone_told _ a vs)
-    works _ _ (signal_peer_at a b d e) k may passes = as_used k _ (same_Some _ u k.uses) (alone_told _ a vs)
-    works _ _ (wait_one_at a b m d) k may passes = as_used k _ (same_Some _ u k.uses) (signals_told _ a d (object_at w p (reg q.cpu b)))
-    works _ _ (wait_poll_at a b m d) k may passes = as_used k _ (same_Some _ u k.uses) (signals_told _ a d (object_at w p (reg q.cpu b)))
-    works _ _ (wait_async_at a b o d e) k may passes = as_used k _ (same_Some _ u k.uses) (alone_told _ a vs)
-    works _ _ (port_create_at a b) k may passes = as_used k _ (same_Some _ u k.uses) (new_told a ((b, new kind.Port) ∷ []) (new_entry w.next_koid kind.Port ∷ []) may ((refl, refl), tt))
-    works _ _ (port_queue_at a b d e) k may passes = as_used k _ (same_Some _ u k.uses) (alone_told _ a vs)
-    works _ _ (port_wait_at a b d e g h) k may passes = as_used k _ (same_Some _ u k.uses) (packet_told k.bounds _ (reg q.cpu b) a d e g h)
-    works _ _ (port_poll_at a b d e g h) k may passes = as_used k _ (same_Some _ u k.uses) (packet_told k.bounds _ (reg q.cpu b) a d e g h)
-    works _ _ (port_cancel_at a b o d) k may passes = as_used k _ (same_Some _ u k.uses) (alone_told _ a vs)
-    works _ _ (process_create_at a b d e) k may passes = as_used k _ (same_Some _ u k.uses) (new_told a ((e, new kind.Process) ∷ []) (new_entry w.next_koid kind.Process ∷ []) may ((refl, refl), tt))
-    works _ _ (process_start_at a b o d) k may passes = as_used k _ (same_Some _ u k.uses) (alone_told _ a [])
-    works _ _ (process_exit_at a) k may passes = as_used k _ (same_Some _ u k.uses) refl
-    works _ _ (task_kill_at a b) k may passes = as_used k _ (same_Some _ u k.uses) (alone_told _ a vs)
-    works _ _ (job_create_at a b d) k may passes = as_used k _ (same_Some _ u k.uses) (new_told a ((d, new kind.Job) ∷ []) (new_entry w.next_koid kind.Job ∷ []) may ((refl, refl), tt))
-    works _ _ (job_set_policy_at a b d e g) k may passes = as_used k _ (same_Some _ u k.uses) (alone_told _ a vs)
+    works_by : (n : CallName) (rs last : List ℕ) → AtSite q.cpu (call n rs last) (IsWorking (call n rs last))
+    unfolding uses_of gives_ok new_handles taken_handles handle_operands listed
+    works_by name.Dup rs last = λ k may passes.
+        let at : ℕ → ℕ = slice_index rs in
+        let imm : ℕ = number_at last 0 4 in
+        let h : ℕ = reg q.cpu (at 1) in
+        let ok = first_passes (needs (at 1) any DUPLICATE) [] k.operands in
+        let one = is_copied (entry_at w p h) imm (listed_none lib w p (dup h imm) passes).0 in
+        new_told (at 0) ((at 2, narrowed_value (value_at before (at 1)) imm) ∷ []) (copy_of (entry_at w p h) imm) may
+        (named_as (value_at before (at 1)) (get q.handles) q.cpu.registers h (needs (at 1) any DUPLICATE) refl ok (k.holds.described (at 1)) imm (at 2)
+        (entry_at w p h) (live_at k h) one)
+    works_by name.Replace rs last = λ k may passes.
+        let at : ℕ → ℕ = slice_index rs in
+        let imm : ℕ = number_at last 0 4 in
+        let h : ℕ = reg q.cpu (at 1) in
+        let lost : Process = losing_all (h ∷ []) q in
+        let ok = first_passes (taking (at 1) any 0) [] k.operands in
+        let one = is_copied (entry_at w p h) imm (listed_none lib w p (replace h imm) passes).0 in
+        told (get lost.handles) (at 0) ((at 2, narrowed_value (value_at before (at 1)) imm) ∷ []) (h ∷ [])
+        (get (getting_all (copy_of (entry_at w p h) imm) (h ∷ []) lost).handles)
+        (replaced_as (value_at before (at 1)) (get q.handles) q.cpu.registers h (taking (at 1) any 0) refl ok (k.holds.described (at 1)) imm (at 2)
+        (entry_at w p h) (live_at k h) one
+        none (k.holds.small (at 1)) lost (is_gone q h) (with_value s (at 0) (Word 30)) (slice_set xs (at 0) 0))
+    works_by name.ChanCreate rs last = λ k may passes.
+        new_told (slice_index rs 0) ((slice_index rs 1, new kind.Channel) ∷ (slice_index rs 2, new kind.Channel) ∷ [])
+        (new_entry w.next_koid kind.Channel ∷ new_entry (w.next_koid + 1) kind.Channel ∷ []) may ((refl, refl), ((refl, refl), tt))
+    works_by name.ChanReadEtc rs last = λ k may passes.
+        let at : ℕ → ℕ = slice_index rs in
+        let places : ℕ = number_at last 0 4 in
+        let h : ℕ = reg q.cpu (at 1) in
+        message_told h (at 0) (at 4) (at 5) (at 6) places (places_end rs last k.in_range)
+        (message_fits lib w p h (reg q.cpu (at 2)) (reg q.cpu (at 3)) places passes).1 may
+    works_by name.EventCreate rs last = λ k may passes. one_told (slice_index rs 0) (slice_index rs 1) kind.Event may
+    works_by name.WaitOne rs last = λ k may passes. signals_told _ (slice_index rs 0) (slice_index rs 3) (object_at w p (reg q.cpu (slice_index rs 1)))
+    works_by name.WaitPoll rs last = λ k may passes. signals_told _ (slice_index rs 0) (slice_index rs 3) (object_at w p (reg q.cpu (slice_index rs 1)))
+    works_by name.PortCreate rs last = λ k may passes. one_told (slice_index rs 0) (slice_index rs 1) kind.Port may
+    works_by name.PortWait rs last =
+        λ k may passes. let at : ℕ → ℕ = slice_index rs in packet_told bounds _ (reg q.cpu (at 1)) (at 0) (at 2) (at 3) (at 4) (at 5)
+    works_by name.PortPoll rs last =
+        λ k may passes. let at : ℕ → ℕ = slice_index rs in packet_told bounds _ (reg q.cpu (at 1)) (at 0) (at 2) (at 3) (at 4) (at 5)
+    works_by name.ProcessCreate rs last = λ k may passes. one_told (slice_index rs 0) (slice_index rs 3) kind.Process may
+    works_by name.ProcessStart rs last = λ k may passes. alone_told _ (slice_index rs 0) []
+    works_by name.ProcessExit rs last = λ k may passes. refl
+    works_by name.JobCreate rs last = λ k may passes. one_told (slice_index rs 0) (slice_index rs 2) kind.Job may
+    works_by _ rs last = λ k may passes. alone_told _ (slice_index rs 0) vs
+
+    pub works : (x : CallInstr) (t : Site) → site_of x q.cpu ≡ Some t → IsWorking x t
+    works x t site = of_site q.cpu x t site (IsWorking x) (works_by x.name x.registers x.last)

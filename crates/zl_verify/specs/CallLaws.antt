@@ -12,7 +12,7 @@ use Rattle.zl_code.specs.Spells.{is_in_range}
 use Rattle.zl_code.specs.CallTable.{process_exit, task_kill}
 use Rattle.zl_code.specs.Effects.{signed_word}
 use Rattle.zl_code.specs.Jobs.{is_within}
-use Rattle.zl_code.specs.Request.{Site, name_of}
+use Rattle.zl_code.specs.Request.{Site}
 use Rattle.zl_code.specs.Tests.{object_at}
 use Rattle.zl_code.specs.Waiting.{packets_in}
 use Rattle.zl_code.specs.Steps.{AtCall, next_at}
@@ -94,4 +94,4 @@ pub data IsOwnEnd (w : World) (p : ℕ) (called : CallName) (s : Site) (code : �
 -- At the call what it asks for can be read.
 pub record CanCall (i : Image) (c : Cpu) (call : CallInstr) : Type 0 where
   pub site : Site
-  pub next : next_at i c ≡ AtCall (name_of call) site
+  pub next : next_at i c ≡ AtCall call.name site

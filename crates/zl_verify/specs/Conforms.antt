@@ -1,8 +1,9 @@
 -- When a process is as the states of a typing say of it.
-use Rattle.std.specs.Prelude.{ℕ, ◌≡◌, ◌+◌, ◌≤◌, ◌<◌, ◌⊎◌, Bool, true, ◌&&◌, ◌==◌, nat_lt, List, [], ◌∷◌, map, length, Option, Some, None, IsTrue, if◌then◌else◌, is_some, slice_get, slice_index, slice_index_or}
+use Rattle.std.specs.Prelude.{ℕ, ◌≡◌, ◌+◌, ◌≤◌, ◌<◌, ◌⊎◌, Bool, true, false, ◌&&◌, ◌==◌, nat_lt, List, [], ◌∷◌, map, length, Option, Some, None, IsTrue}
+use Rattle.std.specs.Prelude.{if◌then◌else◌, is_some, slice_get, slice_index, slice_index_or}
 use Rattle.std.specs.List.{sum_by}
 use Rattle.zl_rights.specs.Common.{get, World, Process, Blocked}
-use Rattle.zl_rights.specs.World.{State as Life, SignalOf, PacketAt}
+use Rattle.zl_rights.specs.World.{State as Life, Awaited, SignalOf, PacketAt}
 use Rattle.zl_rights.specs.Numbers.{bits, within, kind_number}
 use Rattle.zl_rights.specs.declared.kind.Kind.{Kind}
 use Rattle.zl_rights.specs.declared.rights.Rights.{Rights}
@@ -10,7 +11,10 @@ use Rattle.zl_rights.specs.declared.entry.Entry.{Entry}
 use Rattle.zl_rights.specs.declared.policy.Condition.{Condition}
 use Rattle.zl_code.specs.declared.image.SlotArray.{SlotArray}
 use Rattle.zl_code.specs.declared.instr.CallInstr.{CallInstr}
-use Rattle.zl_code.specs.declared.instr.CallInstr.TheVariants as call
+use Rattle.zl_code.specs.declared.history.CallName.{CallName}
+use Rattle.zl_code.specs.declared.history.CallName.TheVariants as call
+use Rattle.zl_code.specs.Asked.{those, is_written}
+use Rattle.zl_code.specs.Instructions.{call_row}
 use Rattle.zl_code.specs.Image.{Image, is_among, call_at}
 use Rattle.zl_code.specs.Operands.{creates}
 use Rattle.zl_abs.specs.declared.value.AbsVal.{AbsVal}
@@ -99,11 +103,20 @@ pub record IsMemory (i : Image) (memory : List ℕ) : Type 0 where
 
 -- ---- processes
 
+-- the call waits for such
+abbrev pub waits_for : Awaited → CallName → Bool
+waits_for (SignalOf koid mask) call.WaitOne = true
+waits_for (PacketAt koid) call.PortWait = true
+waits_for _ _ = false
+
+-- the registers of the answer of a call, the status first
+abbrev pub answered_in : CallInstr → List ℕ
+answered_in c = those is_written (call_row c.name).fields 0 c.registers
+
 -- a process that is blocked stands at a wait of the kind, whose registers get the answer
 abbrev pub WaitsAt : Life → Option CallInstr → Type 0
-WaitsAt (Blocked (SignalOf koid mask) destinations) (Some (call.WaitOne a b c d)) = destinations ≡ a ∷ d ∷ []
-WaitsAt (Blocked (PacketAt koid) destinations) (Some (call.PortWait a b c d e f)) = destinations ≡ a ∷ c ∷ d ∷ e ∷ f ∷ []
-WaitsAt (Blocked awaited destinations) _ = ⊥
+WaitsAt (Blocked awaited destinations) (Some c) = IsTrue (waits_for awaited c.name) × (destinations ≡ answered_in c)
+WaitsAt (Blocked awaited destinations) None = ⊥
 WaitsAt _ _ = Unit {0}
 
 -- The process p of w, which is q, is as the typing t of its image i says at its counter.

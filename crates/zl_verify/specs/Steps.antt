@@ -1,7 +1,7 @@
 -- The step bound of a typing: how many instructions a process does at most before it waits or exits.
-use Rattle.std.specs.Prelude.{ℕ, zero, suc, ◌≡◌, ◌+◌, ◌<◌, ◌⊎◌, Bool, true, false, List, [], ◌∷◌, map, Option, Some, None, Result, Ok, Err, if◌then◌else◌}
+use Rattle.std.specs.Prelude.{ℕ, zero, suc, ◌≡◌, ◌+◌, ◌<◌, ◌⊎◌, Bool, false, List, [], ◌∷◌, map, Option, Some, None, Result, Ok, Err, if◌then◌else◌}
 use Rattle.zl_code.specs.declared.instr.CallInstr.{CallInstr}
-use Rattle.zl_code.specs.declared.instr.CallInstr.TheVariants as call
+use Rattle.zl_code.specs.Headline.{is_pause_name}
 use Rattle.zl_code.specs.Image.{Image, call_at}
 use Rattle.zl_abs.specs.declared.cause.Cause.{Cause}
 use Rattle.zl_abs.specs.States.{State}
@@ -10,10 +10,8 @@ use Rattle.zl_abs.specs.Typing.{rule}
 
 -- the count begins anew at this call: a wait, whether or not it blocks, and the exit
 abbrev pub is_pause : Option CallInstr → Bool
-is_pause (Some (call.WaitOne a b c d)) = true
-is_pause (Some (call.PortWait a b c d e f)) = true
-is_pause (Some (call.ProcessExit a)) = true
-is_pause _ = false
+is_pause None = false
+is_pause (Some c) = is_pause_name c.name
 
 -- the instructions to which the edges lead
 abbrev pub targets_of : Result (List Edge) Cause → List ℕ

@@ -17,25 +17,19 @@ use crate::search::Found;
 use crate::steps::Targets;
 use std::alloc::{AllocError, Global};
 use zl_abs::{AbsState, Bounds, Step, Steps};
-use zl_code::{CallInstr, Image};
+use zl_code::{CallName, Image};
 
 /// Whether the count of instructions begins anew at this one: a wait or an exit.
 pub(crate) fn is_pause(image: &Image, place: usize) -> bool
     ensures { result ≡ is_pause (call_at image.now place) }
 {
     match image.call_at(place) {
-        Some(call) => is_wait_or_exit(&call),
+        Some(call) => matches!(
+            call.name,
+            CallName::WaitOne | CallName::PortWait | CallName::ProcessExit
+        ),
         None => false,
     }
-}
-
-fn is_wait_or_exit(call: &CallInstr) -> bool
-    ensures { result ≡ is_pause (Some call.now) }
-{
-    matches!(
-        call,
-        CallInstr::WaitOne { .. } | CallInstr::PortWait { .. } | CallInstr::ProcessExit { .. }
-    )
 }
 
 fn target_of(edge: &Option<Step>) -> Option<usize>

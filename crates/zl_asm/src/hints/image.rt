@@ -342,7 +342,7 @@ fn faulty_place(row: &Row, bytes: &[u8], is_of_registers: bool) -> usize {
 /// Whether something stands in this place, which the instruction doesn't use.
 fn is_wrongly_used(row: &Row, bytes: &[u8], place: usize) -> bool {
     let byte = byte_at(bytes, place);
-    let nothing = match row.ending {
+    let nothing = match row.columns.ending {
         Ending::Handles if place >= 8 => HandleList::NONE,
         _ => 0,
     };
@@ -354,7 +354,7 @@ fn is_unused(row: &Row, bytes: &[u8], place: usize) -> bool {
     if place < 8 {
         return place > row.registers();
     }
-    match row.ending {
+    match row.columns.ending {
         Ending::Nothing => true,
         Ending::Number | Ending::Room => place >= 12,
         Ending::Target => place < 12,
@@ -369,6 +369,7 @@ fn is_no_register(row: &Row, bytes: &[u8], place: usize) -> bool {
     if place <= row.registers() {
         byte > 31
     } else {
-        place >= 8 && matches!(row.ending, Ending::Handles) && byte > 31 && byte != HandleList::NONE
+        let is_list = matches!(row.columns.ending, Ending::Handles);
+        place >= 8 && is_list && byte > 31 && byte != HandleList::NONE
     }
 }

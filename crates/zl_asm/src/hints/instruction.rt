@@ -70,8 +70,9 @@ pub fn push_instruction_operand(
         return Ok(());
     };
     let count = words.len().div_ceil(2);
-    let least = row.registers().saturating_add(ending_count(row.ending));
-    let most = match row.ending {
+    let ending = row.columns.ending;
+    let least = row.registers().saturating_add(ending_count(ending));
+    let most = match ending {
         Ending::Handles => least.saturating_add(HandleList::MOST),
         _ => least,
     };
@@ -102,7 +103,7 @@ fn push_count(hint: &mut String, row: &Row, count: usize, least: usize) -> Resul
         0 => "# has # operand# and takes ##: a target",
         _ => "# has # operand# and takes ##: # register##",
     };
-    let most = match row.ending {
+    let most = match row.columns.ending {
         Ending::Handles => " to 12",
         _ => "",
     };
@@ -114,7 +115,7 @@ fn push_count(hint: &mut String, row: &Row, count: usize, least: usize) -> Resul
         Name(most),
         Number(row.registers() as u64),
         Name(plural(row.registers())),
-        Name(ending_text(row.ending)),
+        Name(ending_text(row.columns.ending)),
     ];
     push_text(hint, text, &values)
 }
@@ -126,7 +127,7 @@ const TARGET: &str = "a label or a number";
 fn wanted_for(row: &Row, index: usize, word: &[u8]) -> Option<&'static str> {
     let is_behind = index >= row.registers();
     let is_last = index > row.registers();
-    match row.ending {
+    match row.columns.ending {
         Ending::Target if is_behind => no_target(word),
         Ending::Both if is_last => no_target(word),
         Ending::Number | Ending::Room | Ending::Both if is_behind => match number(word) {

@@ -4,7 +4,7 @@ use crate::hints::instr_text::push_instr_text;
 use crate::hints::text::Value::Number;
 use crate::hints::text::push_text;
 use std::alloc::{AllocError, Global};
-use zl_code::{CallInstr, Image, Instr, InstrBytes, LocalInstr};
+use zl_code::{CallName, Image, Instr, InstrBytes, LocalInstr};
 
 /// A stuck process.
 #[derive(Clone, Copy)]
@@ -55,10 +55,11 @@ fn push_reason(hint: &mut String, stuck: Stuck, instr: Instr) -> Result<(), Allo
             let opcode = Number(u64::from(bytes[0]));
             push_text(hint, ": no instruction has the opcode #", &[opcode])
         }
-        Instr::Call(CallInstr::ChanWrite { .. }) => push_no_bytes(hint, stuck, bytes),
-        Instr::Call(CallInstr::ChanReadEtc { .. }) => push_no_bytes(hint, stuck, bytes),
-        // every other call is answered
-        Instr::Call(_) => Ok(()),
+        Instr::Call(call) => match call.name {
+            CallName::ChanWrite | CallName::ChanReadEtc => push_no_bytes(hint, stuck, bytes),
+            // every other call is answered
+            _ => Ok(()),
+        },
         Instr::Local(local) => push_outside(hint, stuck, *local, bytes),
     }
 }

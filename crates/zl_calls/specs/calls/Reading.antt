@@ -1,9 +1,12 @@
 -- What chan_read_etc does. No public clause cites this module.
-use Rattle.std.specs.Prelude.{ℕ, ◌≡◌, ◌+◌, Bool, not, nat_le, List, [], ◌∷◌, ◌++◌, length, Option, Some, None, Result, Ok, Err, IfOk, IfErr, OnErr, if◌then◌else◌, is_some, slice_get}
+use Rattle.std.specs.Prelude.{ℕ, ◌≡◌, ◌+◌, Bool, not, nat_le, List, [], ◌∷◌, ◌++◌, length, Option, Some, None, Result, Ok, Err, IfOk, IfErr, OnErr, if◌then◌else◌, is_some, slice_get, slice_index}
 use Rattle.std.specs.Result.{result_err}
 use Rattle.zl_code.specs.Common.{Map, get}
+use Rattle.zl_code.specs.Asked.{triples_from}
 use Rattle.zl_code.specs.Effects.{told_of}
+use Rattle.zl_code.specs.Spells.{number_at}
 use Rattle.zl_code.specs.Tests.{first_handles, has_place_for, sizes_of}
+use Rattle.zl_code.specs.declared.instr.CallInstr.{CallInstr}
 use Rattle.zl_rights.specs.declared.kind.Kind.TheVariants as kind
 use Rattle.zl_rights.specs.declared.status.Status.{Status}
 use Rattle.zl_rights.specs.declared.status.Status.TheVariants as status
@@ -102,3 +105,9 @@ told_read address (Err (fault.Refused s)) = record { status = s; values = []; st
 abbrev pub triple_of : Option Entry → Option ℕ → List ℕ
 triple_of (Some e) (Some v) = v ∷ kind_number e.kind ∷ bits e.rights ∷ []
 triple_of _ _ = 0 ∷ 0 ∷ 0 ∷ []
+
+-- the registers of its answer: the status, both sizes, and three for each handle
+abbrev pub read_into : CallInstr → List ℕ
+read_into i =
+    slice_index i.registers 0 ∷ slice_index i.registers 4 ∷ slice_index i.registers 5
+    ∷ triples_from (slice_index i.registers 6) (number_at i.last 0 4)

@@ -5,8 +5,7 @@ use crate::refusal::places::{MOST_PLACES, Site, is_among, place_at};
 use std::alloc::AllocError;
 use zl_asm::hints::Value::{Name, Number};
 use zl_asm::hints::push_text;
-use zl_code::{CallInstr, InstrBytes, LocalInstr, Register};
-use zl_rights::Condition;
+use zl_code::{InstrBytes, LocalInstr, Register};
 
 /// Adds why there is no such instruction.
 pub fn push_illegal(hint: &mut String, site: &Site) -> Result<(), AllocError> {
@@ -50,11 +49,11 @@ fn written_twice(parts: InstrBytes) -> Option<Register> {
 
 /// Adds which line is missing for what the call makes.
 pub fn push_need(hint: &mut String, site: &Site) -> Result<(), AllocError> {
-    let condition = match site.image.call_at(site.at) {
-        Some(CallInstr::ChanCreate { .. }) => Condition::NewChannel,
-        Some(CallInstr::EventCreate { .. }) => Condition::NewEvent,
-        Some(CallInstr::PortCreate { .. }) => Condition::NewPort,
-        _ => Condition::NewProcess,
+    let Some(call) = site.image.call_at(site.at) else {
+        return Ok(());
+    };
+    let Some(condition) = call.name.row().columns.condition else {
+        return Ok(());
     };
     let name = Name(condition.name());
     push_text(hint, "a line is missing that declares it: .need #", &[name])

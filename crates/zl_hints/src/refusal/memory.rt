@@ -4,7 +4,7 @@ use crate::refusal::places::Site;
 use std::alloc::AllocError;
 use zl_asm::hints::Value::{Name, Number};
 use zl_asm::hints::{Value, push_text};
-use zl_code::{CallInstr, Image, Instr, InstrBytes, LocalInstr, Register};
+use zl_code::{Image, Instr, InstrBytes, LocalInstr, Register};
 
 /// Adds how far the instruction may go, and how far it can.
 pub fn push_range(hint: &mut String, site: &Site) -> Result<(), AllocError> {
@@ -20,8 +20,7 @@ pub fn push_range(hint: &mut String, site: &Site) -> Result<(), AllocError> {
         Instr::Local(LocalInstr::LoadWord { .. }) => push_bytes(hint, site, second, offset, 8),
         Instr::Local(LocalInstr::StoreByte { .. }) => push_bytes(hint, site, first, offset, 1),
         Instr::Local(LocalInstr::StoreWord { .. }) => push_bytes(hint, site, first, offset, 8),
-        Instr::Call(CallInstr::ChanWrite { .. }) => push_message(hint, site, third, fourth),
-        Instr::Call(CallInstr::ChanReadEtc { .. }) => push_message(hint, site, third, fourth),
+        Instr::Call(_) => push_message(hint, site, third, fourth),
         _ => Ok(()),
     }
 }

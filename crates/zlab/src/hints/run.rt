@@ -4,7 +4,7 @@ use std::alloc::{AllocError, Global};
 use zl_asm::hints::Value::{Name, Number};
 use zl_asm::hints::{Line, Stuck, explain_stuck, is, numbered_lines, push_text, words_of};
 use zl_calls::World;
-use zl_code::{Boot, InstrBytes, ProcState, Row, TraceItem};
+use zl_code::{Boot, CallName, ProcState, TraceItem};
 use zl_hints::Source;
 use zl_rights::Pid;
 use zl_sched::{End, System};
@@ -188,15 +188,7 @@ fn push_waiting(
     let (Some(image), Some(cpu)) = (world.image_of(pid), world.cpu_of(pid)) else {
         return Ok(());
     };
-    let Some(instr) = image.instr_at(cpu.counter()) else {
-        return Ok(());
-    };
-    let InstrBytes {
-        opcode,
-        registers,
-        ..
-    } = InstrBytes::split(instr.to_bytes());
-    let Some(row) = Row::of_opcode(opcode) else {
+    let Some(call) = image.call_at(cpu.counter()) else {
         return Ok(());
     };
     let text = if is_first {
@@ -204,10 +196,9 @@ fn push_waiting(
     } else {
         ", # in #"
     };
-    push_text(hints, text, &[Number(pid), Name(row.name)])?;
-    if row.name == "wait_one" {
-        let [_, _, mask, ..] = registers;
-        let mask = cpu.registers().get(usize::from(mask)).copied().unwrap_or(0);
+    push_text(hints, text, &[Number(pid), Name(call.name.name())])?;
+    if let CallName::WaitOne = call.name {
+        let mask = cpu.register(call.registers[2]);
         push_text(hints, " for the signals #", &[Number(mask)])?;
     }
     Ok(())

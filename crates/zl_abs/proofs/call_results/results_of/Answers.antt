@@ -1,8 +1,8 @@
 use Rattle.std.proofs.Common.{arith}
-use Rattle.zl_abs.proofs.ListSteps.{received_zipped}
+use Rattle.std.proofs.lemmas.Grind.{get_or_default_zero}
 use Rattle.zl_abs.proofs.call_results.results_of.Goals as goal
 
 pub returns-in-Room : goal.returns-in-Room
 returns-in-Room c =
-    let triples = received_zipped c.args.parts.now.registers c.in-Room.places c.index-parts-6.result (omega arith) in
-    rw c.in-Room.is (rw (c.written-results.ensures.value, triples) at c.receive.ensures)
+    let first = get_or_default_zero c.args.instr.now.registers 6 c.index-instr-6.result (omega arith) in
+    rw c.in-Room.is (rw (c.written-results.ensures.value, first, c.number.ensures) at c.receive.ensures)

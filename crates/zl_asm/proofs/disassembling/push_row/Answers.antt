@@ -10,7 +10,7 @@ returns c =
     let read : registers ≡ (reading_of c.args.bytes).registers = c.split-parts.ensures.registers in
     rw (← c.registers-registers.ensures) (rw read at (row_written (string_bytes c.args.text.now) c.args.row.name.now
     (string_bytes c.push_str.new.self) (string_bytes c.push_str-2.new.self) (string_bytes c.push_registers.new.text) (string_bytes c.push_tail.new.text)
-    (take count registers) c.separator_behind.result.now (tail_texts c.args.count c.args.row.ending (reading_of c.args.bytes))
+    (take count registers) c.separator_behind.result.now (tail_texts c.args.count c.args.row.columns.now.ending (reading_of c.args.bytes))
     (c.in_ok-push_str.ensures {u = tt}).bytes (c.in_ok-push_str-2.ensures {u = tt}).bytes
     (c.in_ok-push_registers.ensures {u = tt}) (c.in_ok-push_tail.ensures {u = tt})
     (rw len c.separator_behind.ensures)))

@@ -1,11 +1,13 @@
-use Rattle.zl_asm.proofs.Common.{tail_value}
+use Rattle.zl_asm.proofs.Common.{length-map, source_of, tail_value}
+use Rattle.zl_code.specs.Instructions.{field_of}
 use Rattle.zl_asm.proofs.LineOperands.{assembled}
 use Rattle.zl_asm.proofs.operands.source_of.Goals as goal
 
 pub returns : goal.returns
+unfolding source_of
 returns c =
-    rw (← c.registers-count.ensures)
-    (assembled c.args.row.now.opcode c.registers-count.result c.args.row.now.ending c.args.operands.now
+    rw (length-map c.args.row.now.columns.now.fields.now field_of, ← c.registers-count.ensures)
+    (assembled c.args.row.now.opcode c.registers-count.result c.args.row.now.columns.now.ending c.args.operands.now
     c.split_at.result.0.now c.split_at.result.1.now c.put_registers.new.places
     (tail_value c.in_ok-tail.tail) c.join-bytes.result c.split_at.ensures.front c.split_at.ensures.back c.split_at.ensures.front_len
     (rw (← c.registers-count.ensures) at c.requires)

@@ -1,22 +1,32 @@
-use Rattle.zl_calls.proofs.Common.{refl, sym, ◌∙◌, [], ◌∷◌, call_parts, row_of, site_of}
+use Rattle.zl_calls.proofs.Common.{◌≡◌, arith, refl, sym, ◌∙◌, site_of}
+use Rattle.std.proofs.lemmas.Grind.{common_steps}
+use Rattle.std.specs.Prelude.{slice_index}
 use Rattle.zl_code.specs.Local.{reg}
 use Rattle.zl_calls.specs.declared.process.State.TheVariants as state
 use Rattle.zl_calls.proofs.Waited.{packet_comes, port_blocks, port_refuses}
 use Rattle.zl_calls.proofs.blocking.port_wait.Goals as goal
 
 pub returns-in-Err : goal.returns-in-Err
-unfolding site_of row_of call_parts
-returns-in-Err c = port_refuses _ _ c.args.process.now c.args.objects.now c.in-Err.refused (rw c.register-value.ensures at (sym c.look_up.ensures ∙ c.in-Err.is)) _ _ c.answer_packet.ensures.ends c.answer_packet.ensures.process
+unfolding site_of
+returns-in-Err c =
+    let port : c.register-value.result ≡ reg c.args.process.now.cpu (slice_index c.args.call.now.registers 1) = grind (arith, common_steps) in
+    rw c.requires.name
+    (port_refuses _ _ c.args.process.now c.args.objects.now c.in-Err.refused (rw port at (sym c.look_up.ensures ∙ c.in-Err.is)) _ _ c.answer_packet.ensures.ends
+    (rw c.of-to.ensures at c.answer_packet.ensures.process))
 
 pub returns-in-Some : goal.returns-in-Some
-unfolding site_of row_of call_parts
+unfolding site_of
 returns-in-Some c =
-    packet_comes _ _ c.args.process.now c.args.objects.now c.pop.new.self c.in-Ok.entry (rw c.register-value.ensures at (sym c.look_up.ensures ∙ c.in-Ok.is)) c.pop.ensures.rest
-    c.in-Some.packet (sym c.pop.ensures.first ∙ c.in-Some.is) _ _ c.answer_packet-in-Some.ensures.ends c.answer_packet-in-Some.ensures.process
+    let port : c.register-value.result ≡ reg c.args.process.now.cpu (slice_index c.args.call.now.registers 1) = grind (arith, common_steps) in
+    rw c.requires.name
+    (packet_comes _ _ c.args.process.now c.args.objects.now c.pop.new.self c.in-Ok.entry (rw port at (sym c.look_up.ensures ∙ c.in-Ok.is)) c.pop.ensures.rest
+    c.in-Some.packet (sym c.pop.ensures.first ∙ c.in-Some.is) _ _ c.answer_packet-in-Some.ensures.ends
+    (rw c.of-to.ensures at c.answer_packet-in-Some.ensures.process))
 
 pub returns-in-None : goal.returns-in-None
-unfolding site_of row_of call_parts
+unfolding site_of
 returns-in-None c =
-    port_blocks (reg c.args.process.now.cpu c.args.port) (c.args.to.status ∷ c.args.to.key ∷ c.args.to.kind ∷ c.args.to.trigger ∷ c.args.to.observed ∷ [])
-    c.args.process.now c.args.objects.now c.pop.new.self c.in-Ok.entry (rw c.register-value.ensures at (sym c.look_up.ensures ∙ c.in-Ok.is)) c.pop.ensures.rest
-    (sym c.pop.ensures.first ∙ c.in-None.is) c.requires (state.AwaitsPacket c.in-Ok.entry.koid c.args.to) refl
+    let port : c.register-value.result ≡ reg c.args.process.now.cpu (slice_index c.args.call.now.registers 1) = grind (arith, common_steps) in
+    rw c.requires.name
+    (port_blocks _ _ c.args.process.now c.args.objects.now c.pop.new.self c.in-Ok.entry (rw port at (sym c.look_up.ensures ∙ c.in-Ok.is)) c.pop.ensures.rest
+    (sym c.pop.ensures.first ∙ c.in-None.is) c.requires.counter (state.AwaitsPacket c.in-Ok.entry.koid c.of-to.result) (rw c.of-to.ensures refl))

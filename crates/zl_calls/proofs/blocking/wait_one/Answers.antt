@@ -1,20 +1,26 @@
-use Rattle.zl_calls.proofs.Common.{refl, sym, ap, ◌∙◌, call_parts, row_of, site_of, inr}
+use Rattle.zl_calls.proofs.Common.{◌≡◌, arith, refl, sym, ap, ◌∙◌, site_of, inr}
+use Rattle.std.proofs.lemmas.Grind.{common_steps}
+use Rattle.std.specs.Prelude.{slice_index}
+use Rattle.zl_code.specs.Local.{reg}
 use Rattle.zl_rights.specs.World.{SignalOf}
 use Rattle.zl_calls.proofs.blocking.wait_one.Goals as goal
 
 pub returns : goal.returns
-unfolding site_of row_of call_parts
-returns c = inr (record {
-  awaited = SignalOf c.in-Ok.watched.koid c.register-mask.result;
-  awaits = record {
-    watched = c.in-Ok.watched;
-    seen = rw (c.register-value.ensures, c.register-mask.ensures) at (sym c.watch.ensures ∙ c.in-Ok.is);
-    inactive = sym (c.intersects.ensures tt) ∙ c.if-intersects.false;
-    is_awaited = ap (SignalOf c.in-Ok.watched.koid) c.register-mask.ensures;
-  };
-  ends = refl;
-  process = refl;
-  state = refl;
-  counter = c.requires;
-  objects = refl;
-})
+unfolding site_of
+returns c =
+    let value : c.register-value.result ≡ reg c.args.process.now.cpu (slice_index c.args.call.now.registers 1) = grind (arith, common_steps) in
+    let mask : c.register-mask.result ≡ reg c.args.process.now.cpu (slice_index c.args.call.now.registers 2) = grind (arith, common_steps) in
+    rw c.requires.name (inr (record {
+      awaited = SignalOf c.in-Ok.watched.koid c.register-mask.result;
+      awaits = record {
+        watched = c.in-Ok.watched;
+        seen = rw (value, mask) at (sym c.watch.ensures ∙ c.in-Ok.is);
+        inactive = sym (c.intersects.ensures tt) ∙ c.if-intersects.false;
+        is_awaited = ap (SignalOf c.in-Ok.watched.koid) mask;
+      };
+      ends = refl;
+      process = refl;
+      state = grind (arith, common_steps);
+      counter = c.requires.counter;
+      objects = refl;
+    }))

@@ -1,14 +1,15 @@
-use Rattle.zl_calls.proofs.Common.{sym, ap, ◌≡◌, ◌∙◌, Option, Row}
+use Rattle.zl_calls.proofs.Common.{◌≡◌, ◌∙◌, ◌+◌, arith, sym, ap, suc}
+use Rattle.std.proofs.lemmas.Grind.{common_steps}
+use Rattle.std.specs.Prelude.{slice_index}
 use Rattle.std.specs.Result.{result_err}
-use Rattle.zl_calls.proofs.Examining.{at_row, few, row_fault, same_fault}
+use Rattle.zl_code.specs.Local.{reg}
+use Rattle.zl_calls.proofs.Examining.{one_examined}
 use Rattle.zl_calls.proofs.policy.examine.Goals as goal
 
-pub examine_parts-requires : goal.examine_parts-requires
-examine_parts-requires c = rw (← c.row.ensures.registers, c.parts-registers.ensures.registers) (few c.args.call)
-
-pub returns : goal.returns
-returns c =
-    at_row c.args.table.now.entries c.args.call c.args.cpu.now (λ made f. result_err c.examine_parts.result ≡ f)
-    (sym (same_fault c.examine_parts.result)
-    ∙ (rw (c.parts-registers.ensures.registers, c.parts-registers.ensures.last) at c.examine_parts.ensures)
-    ∙ ap (λ (r : Option Row). row_fault c.args.table.now.entries c.args.call c.args.cpu.now r) c.row.ensures.row)
+pub loop-n-preserved : goal.loop-n-preserved
+loop-n-preserved c =
+    let next : suc c.loop-n.n ≡ c.loop-n.n + 1 = omega arith in
+    let value : c.register.result ≡ reg c.args.cpu.now (slice_index c.args.call.now.registers c.loop-n.n) = grind (arith, common_steps) in
+    rw (← next) (c.loop-n.invariant
+    ∙ one_examined c.args.table.now.entries c.args.cpu.now c.args.call.now.registers _ _ c.args.columns.now.fields.now c.loop-n.n c.loop-n.n c.loop-n-test.true
+    (rw value at (sym c.examine_one.ensures ∙ ap result_err (c.in_ok-examine_one.was {u = tt}))))

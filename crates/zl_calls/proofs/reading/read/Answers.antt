@@ -1,15 +1,13 @@
 use Rattle.zl_calls.proofs.Common.{arith}
-use Rattle.zl_calls.proofs.Told.{length_same, parts_act, room_there}
+use Rattle.std.proofs.lemmas.Grind.{common_steps}
+use Rattle.zl_calls.proofs.Told.{at_read, length_same, parts_act}
 use Rattle.zl_calls.proofs.reading.read.Goals as goal
 
 pub returns-in-Ok : goal.returns-in-Ok
-returns-in-Ok c =
-    parts_act c.args.to.status c.args.channel c.args.address c.args.room c.args.to.bytes c.args.to.handles c.args.to.first c.args.to.places
-    c.args.process.now c.answer_read.new.self c.args.objects.now c.chan_read_etc.new.objects
-    (room_there c.args.to.status c.args.channel c.args.address c.args.room c.args.to.bytes c.args.to.handles c.args.to.first c.args.to.places
-    c.args.process.now.cpu c.requires.there)
+returns-in-Ok c = rw (at_read c.args.call.now c.args.process.now.cpu c.requires.name c.requires.there)
+    (parts_act _ _ _ _ _ c.args.process.now c.answer_read.new.self c.args.objects.now c.chan_read_etc.new.objects
     c.chan_read_etc.new.table _ c.in-Ok.received c.answer_read.result c.received.view_is
-    (rw (← c.register-room.ensures, ← c.register-channel.ensures) (rw c.in-Ok.is at c.chan_read_etc.ensures))
-    c.answer_read.ensures.ends
-    c.store.new.self c.register-address.result c.len.result _ _ _ c.store.ensures c.register-address.ensures
-    c.deref.ensures.value (omega (arith, c.len.ensures, c.deref.ensures.len, length_same c.deref.ensures.value)) c.as_slice-handles.ensures c.as_slice-values.ensures c.answer_read.ensures.process
+    (grind (arith, common_steps))
+    c.answer_read.ensures.ends c.store.new.self c.len.result _ _ _ (grind (arith, common_steps))
+    c.deref.ensures.value (omega (arith, c.len.ensures, c.deref.ensures.len, length_same c.deref.ensures.value)) c.as_slice-sent.ensures
+    c.as_slice-values.ensures (grind (arith, common_steps)))

@@ -5,14 +5,17 @@ use Rattle.zl_calls.proofs.stepping.do_call.Goals as goal
 
 pub returns-in-Some-clause-acts : goal.returns-in-Some-clause-acts
 returns-in-Some-clause-acts c =
-    policed_acts c.args.library.now c.args.processes.now.items c.args.objects.now c.args.blocked.now.items c.args.place c.index_mut.result.now c.requires.place c.index_mut.ensures.value c.args.call c.requires.there
+    policed_acts c.args.library.now c.args.processes.now.items c.args.objects.now c.args.blocked.now.items c.args.place c.index_mut.result.now c.requires.place
+    c.index_mut.ensures.value c.args.call.now c.requires.there
     _ c.by_policy.new.process c.by_policy.new.objects (c.in-Some.ensures {u = tt}).policed
 
 pub returns-in-Some-reach-clause-acts : goal.returns-in-Some-reach-clause-acts
 returns-in-Some-reach-clause-acts c =
-    reached_acts c.args.library.now c.args.processes.now.items c.args.objects.now c.args.blocked.now.items c.args.place c.index_mut.result.now c.requires.place c.index_mut.ensures.value c.args.call c.requires.there (c.in_default.ensures {u = tt}).done
+    reached_acts c.args.library.now c.args.processes.now.items c.args.objects.now c.args.blocked.now.items c.args.place c.index_mut.result.now c.requires.place
+    c.index_mut.ensures.value c.args.call.now c.requires.there (c.in_default.ensures {u = tt}).done
     (set c.args.processes.now.items c.args.place c.by_policy.new.process) c.by_policy.new.objects
-    (ap (set c.args.processes.now.items c.args.place) (c.in_default.ensures {u = tt}).same_process ∙ set_read c.args.processes.now.items c.args.place c.index_mut.result.now c.index_mut.ensures.value)
+    (ap (set c.args.processes.now.items c.args.place) (c.in_default.ensures {u = tt}).same_process
+    ∙ set_read c.args.processes.now.items c.args.place c.index_mut.result.now c.index_mut.ensures.value)
     (c.in_default.ensures {u = tt}).same_objects c.in-Some-reach.outcome _ (c.in-Some-reach.ensures {u = tt}).reached
 
 pub act-requires : goal.act-requires
@@ -35,7 +38,8 @@ returns-clause-acts c =
     let same : c.reach.new.processes.items ≡ c.args.processes.now.items = (c.in_default-reach.ensures {u = tt}).same_processes
     ∙ (ap (set c.args.processes.now.items c.args.place) (c.in_default.ensures {u = tt}).same_process
     ∙ set_read c.args.processes.now.items c.args.place c.index_mut.result.now c.index_mut.ensures.value) in
-    acted_acts c.args.library.now c.args.processes.now.items c.args.objects.now c.args.blocked.now.items c.args.place c.index_mut.result.now c.requires.place c.index_mut.ensures.value c.args.call c.requires.there (c.in_default.ensures {u = tt}).done
+    acted_acts c.args.library.now c.args.processes.now.items c.args.objects.now c.args.blocked.now.items c.args.place c.index_mut.result.now c.requires.place
+    c.index_mut.ensures.value c.args.call.now c.requires.there (c.in_default.ensures {u = tt}).done
     c.reach.new.processes.items c.reach.new.objects c.reach.new.blocked.items same
     ((c.in_default-reach.ensures {u = tt}).same_objects ∙ (c.in_default.ensures {u = tt}).same_objects) (c.in_default-reach.ensures {u = tt}).same_blocked
     c.index_mut-2.result.now (same_caller c.args.library.now c.args.processes.now.items c.args.objects.now c.args.blocked.now.items c.args.place

@@ -2,7 +2,8 @@ use Rattle.zl_trace.proofs.Common.{rules, ◌∙◌}
 use Rattle.std.proofs.lemmas.Iterator.Search.{find_from_yields_List}
 use Rattle.std.proofs.lemmas.Iterator.{YieldsList-from_slice}
 use Rattle.zl_code.specs.Common.{call_name}
-use Rattle.zl_trace.proofs.Named.{calls, call_among, by_name, found, missing}
+use Rattle.zl_code.specs.Instructions.{calls}
+use Rattle.zl_trace.proofs.Named.{call_among, by_name, found, missing}
 use Rattle.zl_trace.proofs.item_words.call_named.Goals as goal
 
 pub returns-clause-some : goal.returns-clause-some

@@ -1,4 +1,5 @@
 use Rattle.zl_code.proofs.Common.{rules, true, false, ap, sym, ◌∙◌, err_from_is_err_and, layout_of}
+use Rattle.zl_code.proofs.ImageBytes.{IsBytes}
 use Rattle.zl_code.proofs.ImageInstr.{IfSome-at, row_bytes-read, instr_fault-register, instr_fault-named, instr_fault-known}
 use Rattle.zl_code.proofs.instr.Instr.from_bytes.Goals as goal
 
@@ -22,9 +23,10 @@ returns-then-not-is_unused_zero-clause-fault c =
 pub returns-else-not-is_unused_zero-clause-bytes :
     goal.returns-else-not-is_unused_zero-clause-bytes
 returns-else-not-is_unused_zero-clause-bytes c =
+    let fits : IsBytes c.args.bytes = λ i. search (rules, c.well_formed) in
     let e = c.in_ok-fields-in-Some.ensures in
     let known = IfSome-at _ _ _ (ap layout_of e.opcode ∙ sym c.in-Some.ensures.layout) c.known.ensures.bytes in
-    row_bytes-read c.args.bytes _ _ _ _ (search rules) (λ i. search rules) e.opcode (record { registers = e.registers; imm = e.imm; target = e.target; places = e.places }) (sym c.if-not-is_unused_zero.ensures) known
+    row_bytes-read c.args.bytes _ _ _ _ (search rules) fits e.opcode (record { registers = e.registers; imm = e.imm; target = e.target; places = e.places }) (sym c.if-not-is_unused_zero.ensures) known
 
 pub returns-else-not-is_unused_zero-clause-fault :
     goal.returns-else-not-is_unused_zero-clause-fault

@@ -1,7 +1,7 @@
 use Rattle.zl_code.proofs.Common.{arith, refl, ap, replicate}
 use Rattle.std.proofs.lemmas.Grind.{common_steps}
 use Rattle.zl_code.proofs.ImageCells.{one_placed, all_placed}
-use Rattle.zl_code.proofs.parts.seven.Goals as goal
+use Rattle.zl_code.proofs.instr_bytes.seven.Goals as goal
 
 pub loop-place-init : goal.loop-place-init
 loop-place-init c = record {

@@ -1,5 +1,5 @@
 use Rattle.zl_code.proofs.Common.{◌≡◌, length, take, drop, replicate}
-use Rattle.zl_code.proofs.parts.seven.Given as goal
+use Rattle.zl_code.proofs.instr_bytes.seven.Given as goal
 
 abbrev pub invariant-loop-place : goal.invariant-loop-place
 invariant-loop-place l = record {

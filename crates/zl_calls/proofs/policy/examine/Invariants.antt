@@ -1,0 +1,11 @@
+use Rattle.zl_calls.proofs.Common.{◌≡◌, map}
+use Rattle.std.specs.Prelude.{drop}
+use Rattle.zl_code.specs.Instructions.{field_of}
+use Rattle.zl_calls.specs.FieldFaults.{fields_fault, last_fault}
+use Rattle.zl_calls.proofs.policy.examine.Given as goal
+
+abbrev pub invariant-loop-n : goal.invariant-loop-n
+invariant-loop-n l =
+    let in_list = last_fault l.table.entries l.cpu l.columns.ending l.call in
+    fields_fault l.table.entries l.cpu (map field_of l.columns.fields.now) 0 l.call.registers in_list
+    ≡ fields_fault l.table.entries l.cpu (map field_of (drop l.n l.columns.fields.now)) l.n l.call.registers in_list

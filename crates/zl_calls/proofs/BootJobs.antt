@@ -1,8 +1,9 @@
 -- The statements of a boot on jobs: a job is made in another, and a policy is set.
-use Rattle.zl_calls.proofs.Common.{◌≡◌, ◌+◌, ◌==◌, ◌||◌, ℕ, Bool, true, false, List, [], ◌∷◌, refl, sym, ap, ◌∙◌, subst, if◌then◌else◌, Option, Some, None, Result, Ok, Err, ⊤, IsTrue, arith, false≢true, then_some, first_some, Map, get, has_key-update, is_sorted-update, is_process, runs, Library, boot_effect, boot_fault, with_object, on_object, handles_to, body_of, Objects, with_new, is_job_at, is_job_in, is_job_body, object_value, body_value, world_value, is_in_job, Agrees, AreNamed, IsSound, IsMaking, IsCauseOf, Makes, seen, World}
+use Rattle.zl_calls.proofs.Common.{◌≡◌, ◌+◌, ◌||◌, ℕ, Bool, true, false, List, [], ◌∷◌, refl, sym, ap, ◌∙◌, subst, if◌then◌else◌, Option, Some, None, Result, Ok, Err, ⊤, OnOk, IsTrue, arith, false≢true, then_some, first_some, Map, get, has_key-update, is_sorted-update, is_process, runs, Library, boot_effect, boot_fault, with_object, on_object, handles_to, body_of, Objects, with_new, is_job_at, is_job_in, is_job_body, object_value, body_value, world_value, is_in_job, Agrees, AreNamed, IsSound, IsMaking, IsCauseOf, Makes, seen, World}
 use Rattle.zl_code.proofs.Common.{Object as ObjectValue}
 use Rattle.zl_code.specs.Boot.{is_job, lacks_koids, setting}
 use Rattle.zl_code.specs.Jobs.{has_child, job_within as body_within, policy_changed}
+use Rattle.zl_code.specs.declared.boot.BootCause.{BootCause}
 use Rattle.zl_code.specs.declared.boot.BootCause.TheVariants as cause
 use Rattle.zl_code.specs.declared.boot.Statement.TheVariants as statement
 use Rattle.zl_rights.specs.declared.policy.Action.{Action}
@@ -22,15 +23,16 @@ use Rattle.zl_objects.specs.Objects.{keeper_of, queue_of}
 use Rattle.zl_objects.specs.Seen.{is_above}
 use Rattle.zl_objects.specs.Signals.{ShowStates}
 use Rattle.zl_objects.proofs.Showing.{job_shown, process_shown}
+use Rattle.zl_calls.specs.Makes.{koid_fault}
 use Rattle.zl_calls.specs.Making.{is_killed}
 use Rattle.zl_calls.specs.calls.Job.{has_child_at}
 use Rattle.zl_calls.specs.declared.process.Process.{Process}
 use Rattle.zl_calls.specs.declared.booting.Made.{Made}
 use Rattle.zl_calls.proofs.Active.{shown_all}
 use Rattle.zl_calls.proofs.BootFaults.{job_seen}
-use Rattle.zl_calls.proofs.BootObjects.{enough_koids, grown_making, grown_world, job_grown}
+use Rattle.zl_calls.proofs.BootObjects.{object_makes}
 use Rattle.zl_calls.proofs.Counting.{same_tables}
-use Rattle.zl_calls.proofs.JobCalls.{IsJobAt, body_seen, job_found, policy_keeps, policy_named, policy_queues, policy_seen}
+use Rattle.zl_calls.proofs.JobCalls.{IsJobAt, body_seen, job_found, policy_keeps, policy_named, policy_queues, policy_seen, stands_grown}
 use Rattle.zl_calls.proofs.Rebodied.{in_job_too, named_rebodied}
 use Rattle.zl_calls.proofs.SameBodies.{found_updated, still_agrees, still_named}
 use Rattle.zl_calls.proofs.Updates.{update_seen}
@@ -157,14 +159,7 @@ module _ (lib : Library) (before : Made) (making : IsMaking before.processes.ite
           by_depth true is = refl
           by_depth false is = absurd (none (job_within parent at.job) (new_is ∙ rw is refl))
 
-      pub too_many : lacks_koids w (statement.Job parent) ≡ true → IsCauseOf (boot_fault lib w (statement.Job parent)) cause.Limit
-      too_many lacks = rw (fault_is, lacks) (by_depth (is_deepest_job at.job))
-        where
-          by_depth : (b : Bool) → IsCauseOf (then_some (b || true) cause.Limit) cause.Limit
-          by_depth true = refl
-          by_depth false = refl
-
-      module _ (child : Job) (made : new_job ≡ Ok child) (enough : lacks_koids w (statement.Job parent) ≡ false) where
+      module _ (child : Job) (made : new_job ≡ Ok child) where
         by_depth : (b : Bool) → is_deepest_job at.job ≡ b → ◌≡◌ {A = Result Job JobFault} (if b then Err fault.OutOfRange else Ok (job_within parent at.job)) (Ok child) → (is_deepest_job at.job ≡ false) × (child ≡ job_within parent at.job)
         by_depth true is h = absurd cc
         by_depth false is h = (is, cc)
@@ -172,34 +167,25 @@ module _ (lib : Library) (before : Made) (making : IsMaking before.processes.ite
         fits : (is_deepest_job at.job ≡ false) × (child ≡ job_within parent at.job)
         fits = by_depth (is_deepest_job at.job) refl (sym new_is ∙ made)
 
-        no_fault : boot_fault lib w (statement.Job parent) ≡ None
-        no_fault = fault_is ∙ rw (fits.0, enough) refl
-
-        pub wants_memory : IsCauseOf (boot_fault lib w (statement.Job parent)) cause.NoMemory
-        wants_memory = rw no_fault refl
+        -- a koid is all that it may lack
+        pub job_fault : boot_fault lib w (statement.Job parent) ≡ koid_fault before
+        job_fault = fault_is ∙ rw fits.0 refl
 
         abbrev job : Body
         job = body.Job child
 
         stands : IsTrue (is_in_job (with_new r job 0).objects job)
-        stands = subst (λ (o : Option ℕ). IsTrue (is_above (with_new r job 0).objects o)) (ap (λ (x : Job). keeper_of (body.Job x)) (sym fits.1)) (by_test (parent == 0))
-          where
-            by_test : (b : Bool) → IsTrue (b || is_job_at (with_new r job 0).objects parent)
-            by_test true = refl
-            by_test false = job_grown ps r making job parent there
+        stands = subst (λ (o : Option ℕ). IsTrue (is_above (with_new r job 0).objects o)) (ap (λ (x : Job). keeper_of (body.Job x)) (sym fits.1))
+            (stands_grown ps [] r making.sound job 0 parent at)
 
         body_is : body_value job ≡ body_within parent (body_of w parent)
         body_is = ap (λ (x : Job). body_value (body.Job x)) fits.1 ∙ ap (body_within parent) (sym (body_seen ps r parent at))
 
-        pub job_makes : (after : Objects) → after ≡ with_new r job 0 → Makes lib (statement.Job parent) before (record before { objects = after })
+        pub job_makes : (x : Result ⊤ BootCause) (after : Made) → OnOk x (koid_fault before ≡ None)
+            → OnOk x (after ≡ record before { objects = with_new r job 0 }) → OnOk x (Makes lib (statement.Job parent) before after)
         unfolding boot_effect
-        job_makes after is = record {
-          no_fault = no_fault;
-          values = [];
-          chosen = refl;
-          effect = rw is (grown_world ps r making job ∙ ap (with_object w) body_is);
-          making = rw is (grown_making ps r making job refl (λ j. refl) (λ not. not runs) stands (omega (arith, enough_koids r.next_koid 1 enough)) (ap (λ (x : Job). x.killed) fits.1));
-        }
+        job_makes = object_makes lib before making (statement.Job parent) job job_fault refl (ap (with_object w) body_is) refl (λ not. not runs) stands
+            (ap (λ (x : Job). x.killed) fits.1)
 
   -- ---- a policy
 

@@ -16,11 +16,11 @@ use Rattle.zl_calls.specs.calls.Channel.{ChanCreateDoes, CreatesChannel, channel
 use Rattle.zl_calls.proofs.Answered.{IsWrite, table_is, may_get_both, replied_inserted_two}
 use Rattle.zl_calls.proofs.Counting.{count_put, counts_written}
 use Rattle.zl_calls.proofs.Done.{IsDone, IsCalled, answered_done}
-use Rattle.zl_calls.proofs.Grown.{IsGrowing, entered_next, grown_named, grown_one, grown_seen, growing_none, there_grown}
+use Rattle.zl_calls.proofs.Grown.{IsGrowing, entered, grown_named, grown_one, grown_seen, growing_none, there_grown}
+use Rattle.zl_calls.proofs.Settled.{sound_of}
 use Rattle.zl_calls.proofs.Refused.{answers, may_create}
 use Rattle.zl_calls.proofs.Tables.{inserted_table, found_inserted}
 use Rattle.zl_calls.proofs.Taking.{one_longer}
-use Rattle.zl_calls.proofs.Written.{IsNext, keeps}
 
 -- ---- the answer of chan_create
 
@@ -112,14 +112,21 @@ module _ (lib : Library) (before after : List Process) (r r2 : Objects) (p p2 : 
     -- ---- the invariant
 
     still : (e : Entry) → IsNamed r.objects e → IsNamed with_both.objects e
-    still e named = grown_named before ((made.0, first) ∷ []) with_first growing second_end e (grown_named before [] r (growing_none before r lab) first_end e named)
+    still e named = grown_named before ((made.0, first) ∷ []) with_first growing.sound second_end 1 e
+        (grown_named before [] r (sound_of before r lab) first_end 1 e named)
 
     first_named : IsNamed with_both.objects first
-    first_named = grown_named before ((made.0, first) ∷ []) with_first growing second_end first
-        (record { object = new_object first_end 1; there = there_grown before [] r (growing_none before r lab) first_end; kind = refl; rights = refl })
+    first_named = grown_named before ((made.0, first) ∷ []) with_first growing.sound second_end 1 first
+        (record { object = new_object first_end 1; there = there_grown before [] r (sound_of before r lab) first_end 1; kind = refl; rights = refl })
 
     second_named : IsNamed with_both.objects second
-    second_named = record { object = new_object second_end 1; there = there_grown before ((made.0, first) ∷ []) with_first growing second_end; kind = refl; rights = refl }
+    second_named =
+        record {
+          object = new_object second_end 1;
+          there = there_grown before ((made.0, first) ∷ []) with_first growing.sound second_end 1;
+          kind = refl;
+          rights = refl;
+        }
 
     named : (v : ℕ) (e : Entry) → get p2.table.entries v ≡ Some e → IsNamed with_both.objects e
     named v e at = found_inserted (IsNamed with_both.objects e) creates.between second made.1 p2.table creates.second v e at
@@ -143,14 +150,12 @@ module _ (lib : Library) (before after : List Process) (r r2 : Objects) (p p2 : 
           sum_by-cons (λ (h : ℕ × Entry). cond (h.1.koid == j) 1 0) (made.0, first) [],
         ))
 
-    next_world : IsNext before after r with_both
-    next_world = entered_next before after ((made.1, second) ∷ (made.0, first) ∷ []) r with_both growing_both (omega arith) still counts
-
     chan_create_called : IsCalled lib before after r r2 p.pid create_site (outcome.Answered status.Ok)
     unfolding gives_ok
     chan_create_called = record {
       calls = (Values (two_values made), rw (refused, creates.unrefused) (chosen, refl, ends));
-      keeps = rw creates.objects (keeps before after p p2 write r with_both lab (ap (λ (q : Process). q.state) replies) table named next_world);
+      keeps = rw creates.objects (entered before after p p2 write (ap (λ (q : Process). q.state) replies) ((made.1, second) ∷ (made.0, first) ∷ []) with_both
+          growing_both table named counts);
     }
 
   -- ---- the step

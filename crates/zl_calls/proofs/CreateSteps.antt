@@ -1,5 +1,5 @@
 -- The call process_create in the midst of all processes: from what it did to a step, up to where processes wake.
-use Rattle.zl_calls.proofs.Common.{◌≡◌, ◌<◌, ◌+◌, ◌^◌, ◌==◌, ◌&&◌, ℕ, zero, suc, Bool, true, false, not, List, [], ◌∷◌, ◌++◌, length, refl, sym, ap, ◌∙◌, subst, Some, None, Result, Ok, Err, IsTrue, arith, nat_le, nat_tests, IsActed, none-some, same_Some, is_some, option_or, then_some, get_or, slice_get, slice_set, set, position, Map, is_ready, Library, Site, site, Inserts, refusal, handle_operands, remove_all, taken_handles, gives_refused, AtCall, next_for, new_entry, cpu_answered, Objects, with_new, told_by, one_value, Replies, status_of, has_room_in, process_value, state_value, world_blocked, world_value, AreBlocked, IsConsistent, IsRefusedBy}
+use Rattle.zl_calls.proofs.Common.{◌≡◌, ◌==◌, ℕ, zero, suc, true, List, [], ◌∷◌, ◌++◌, refl, sym, ap, ◌∙◌, subst, Some, None, Result, Ok, Err, IsActed, none-some, same_Some, get_or, slice_get, slice_set, set, position, is_ready, Library, Site, site, refusal, handle_operands, remove_all, taken_handles, gives_refused, AtCall, next_for, cpu_answered, Objects, with_new, told_by, one_value, Replies, status_of, process_value, state_value, world_blocked, world_value, AreBlocked, IsConsistent, IsRefusedBy}
 use Rattle.zl_code.specs.Sound.{IsSound as IsSoundWorld}
 use Rattle.zl_code.specs.CallTable.{process_create}
 use Rattle.zl_code.specs.declared.history.CallName.{CallName}
@@ -16,10 +16,10 @@ use Rattle.zl_rights.specs.declared.status.Status.TheVariants as status
 use Rattle.std.proofs.lemmas.Option.{get_or_from_slice_get}
 use Rattle.zl_objects.specs.declared.object.Body.TheVariants as body
 use Rattle.zl_objects.specs.declared.object.Life.TheVariants as life
-use Rattle.zl_objects.specs.Jobs.{action_of as action_at_job, is_dead, job_at}
 use Rattle.zl_calls.specs.Reaching.{IsAnsweredIn, IsToldIn}
 use Rattle.zl_calls.specs.Registered.{ListsBut}
-use Rattle.zl_calls.specs.calls.Task.{CreatesProcess, Lab, ProcessCreateDoes, create_refusal, create_refusal_of, lab, needs_more}
+use Rattle.zl_calls.specs.calls.Task.{CreatesProcess, Lab, ProcessCreateDoes, create_refusal, lab}
+use Rattle.zl_calls.specs.calls.Making.{MakesOne}
 use Rattle.zl_calls.specs.declared.process.Process.{Process}
 use Rattle.zl_calls.proofs.Answered.{IsWrite, table_is, same_world}
 use Rattle.zl_calls.proofs.Departed.{left_all, left_blocked, left_keeps, settled_world}
@@ -31,6 +31,7 @@ use Rattle.zl_calls.proofs.Performing.{HasLeft, acted_so, key, ready, there, unb
 use Rattle.zl_calls.proofs.Refused.{answers, refused_calls}
 use Rattle.zl_calls.proofs.Settled.{still_settles}
 use Rattle.zl_calls.proofs.Written.{refusal_keeps}
+use Rattle.zl_calls.proofs.MakeCalls.{has_left}
 use Rattle.zl_calls.proofs.CreateCalls.{create_refused, created_blocked, created_calls, created_keeps}
 
 -- ---- lists
@@ -47,25 +48,6 @@ get_again (a ∷ xs) ys zero x c at = refl
 get_again (a ∷ xs) ys (suc i) x c at = get_again xs ys i x c at
 
 -- ---- the step
-
--- where nothing refuses it, there is place in the table, and a koid is left
-record HasRoom (entries : Map Entry) (r : Objects) : Type 0 where
-  place : IsTrue (has_room_in entries)
-  koid : IsTrue (nat_le (r.next_koid + 1) (2 ^ 62))
-
-has_left : (lib : Library) (entries : Map Entry) (r : Objects) (job program : ℕ) (above : Entry) → looked_up entries job (kind.Job ∷ []) MANAGE_PROCESS ≡ Ok above → create_refusal lib entries r job program ≡ None → HasRoom entries r
-has_left lib entries r job program above found unrefused =
-    by_tests (not (is_some (slice_get lib program))) (is_dead (job_at r.objects above.koid)) (needs_more (action_at_job (job_at r.objects above.koid)) (slice_get lib program)) (has_room_in entries) (nat_le (r.next_koid + 1) (2 ^ 62)) refl refl
-    (sym (ap (create_refusal_of lib entries r program) found) ∙ unrefused)
-  where
-    by_tests : (a c d room koid : Bool) → has_room_in entries ≡ room → nat_le (r.next_koid + 1) (2 ^ 62) ≡ koid
-        → option_or (then_some a status.InvalidArgs) (option_or (then_some c status.BadState) (option_or (then_some d status.NotSupported) (then_some (not (room && koid)) status.NoResources))) ≡ None → HasRoom entries r
-    by_tests true c d room koid is_room is_koid h = absurd (none-some _ (sym h))
-    by_tests false true d room koid is_room is_koid h = absurd (none-some _ (sym h))
-    by_tests false false true room koid is_room is_koid h = absurd (none-some _ (sym h))
-    by_tests false false false false koid is_room is_koid h = absurd (none-some _ (sym h))
-    by_tests false false false true false is_room is_koid h = absurd (none-some _ (sym h))
-    by_tests false false false true true is_room is_koid h = record { place = is_room; koid = is_koid }
 
 -- the process p stands at the place, under the pid, and is at the call
 module _ (lib : Library) (ps : List Process) (r : Objects) (whole : IsConsistent ps r) (blocked : List ℕ) (are : AreBlocked ps blocked) (sound : IsSoundWorld (world_blocked ps r blocked)) (pid place : ℕ) (p : Process)
@@ -162,17 +144,9 @@ module _ (lib : Library) (ps : List Process) (r : Objects) (whole : IsConsistent
     unrefused : create_refusal lib p.table.entries r job program ≡ None
     unrefused = ap (λ (c : Process). create_refusal lib c.table.entries r job program) (sym (is_caller done.caller done.is_caller.is_there)) ∙ done.unrefused
 
-    inserts : Inserts p.table (new_entry r.next_koid kind.Process) made given.table
-    inserts = subst (λ (c : Process). Inserts c.table (new_entry r.next_koid kind.Process) made given.table) (is_caller done.caller done.is_caller.is_there) done.inserts
-
-    has : HasRoom p.table.entries r
-    has = has_left lib p.table.entries r job program above found_above unrefused
-
-    room : length p.table.entries < 1024
-    room = grind (arith, nat_tests, has.place)
-
-    koid : r.next_koid < 2 ^ 62
-    koid = grind (arith, nat_tests, has.koid)
+    makes : MakesOne (body.Process above.koid life.Created) p.table r made given.table between.objects
+    makes = subst (λ (c : Process). MakesOne (body.Process above.koid life.Created) c.table r made given.table between.objects)
+        (is_caller done.caller done.is_caller.is_there) done.makes
 
     write_mid : IsWrite ps mid p given
     write_mid = write_of lib ps r whole blocked are sound pid place p found read given (ap (λ (c : Process). c.pid) handed_is)
@@ -190,15 +164,18 @@ module _ (lib : Library) (ps : List Process) (r : Objects) (whole : IsConsistent
     made_grown = with_new r (body.Process above.koid life.Created) 1
 
     made_keeps : IsConsistent made_all made_grown
-    made_keeps = created_keeps lib ps mid r whole p given write_mid same_state job program made above found_above unrefused inserts room koid done.new done.pid done.created
+    made_keeps = created_keeps lib ps mid r whole p given write_mid same_state job program made above found_above unrefused makes.inserts
+        (has_left p.table.entries r.next_koid makes.unrefused) done.new done.pid done.created
 
     made_blocked : AreBlocked made_all blocked
-    made_blocked = created_blocked lib ps mid r whole p given write_mid same_state job program made above found_above unrefused inserts room koid done.new done.pid done.created
+    made_blocked = created_blocked lib ps mid r whole p given write_mid same_state job program made above found_above unrefused makes.inserts
+        (has_left p.table.entries r.next_koid makes.unrefused) done.new done.pid done.created
         (unblocked lib ps r whole blocked are sound pid place p found read is_ready_there) blocked are
 
     made_step : IsActed lib (world_value ps r) p.pid (item.Call p.pid name (outcome.Answered status.Ok)) (settled_world made_all made_grown)
     made_step = call_settles lib ps made_all r made_grown made_grown p name s (outcome.Answered status.Ok) write_mid.there (ready lib ps r whole blocked are sound pid place p found read is_ready_there) next
-        (created_calls lib ps mid r whole p given write_mid same_state job program made above found_above unrefused inserts room koid done.new done.pid done.created consumed destinations replies)
+        (created_calls lib ps mid r whole p given write_mid same_state job program made above found_above unrefused makes.inserts
+        (has_left p.table.entries r.next_koid makes.unrefused) done.new done.pid done.created consumed destinations replies)
         (still_settles made_all made_grown made_keeps) free
 
     made_so : HasLeft lib ps made_all r made_grown blocked blocked pid (item.Call pid name (outcome.Answered status.Ok))
@@ -222,7 +199,7 @@ module _ (lib : Library) (ps : List Process) (r : Objects) (whole : IsConsistent
       (is_told.processes
       ∙ ((λ i. slice_set (done.processes i) place (record (same i) { cpu = cpu_answered s status.Ok (made ∷ []) (same i).cpu }))
       ∙ set_again ps (done.new ∷ []) place done.after (record (done.after) { cpu = cpu_answered s status.Ok (made ∷ []) done.after.cpu }) done.caller done.is_caller.is_there))
-      (is_told.objects ∙ done.objects) (is_told.blocked ∙ done.blocked)
+      (is_told.objects ∙ done.makes.objects) (is_told.blocked ∙ done.blocked)
       (made_so made between done)
 
   pub create_so : (o : Outcome) → IsAnsweredIn (told_by one_value) (ProcessCreateDoes lib place job program p) s place (lab ps r blocked) o l2 → Left o

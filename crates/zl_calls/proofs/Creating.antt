@@ -1,9 +1,16 @@
 -- What process_create does where memory is wanted, from what its parts do.
-use Rattle.zl_calls.proofs.Common.{◌≡◌, ℕ, zero, suc, List, [], ◌∷◌, refl, sym, ap, ◌∙◌, subst, Option, Some, None, Err, get_or, slice_get, slice_set, true, Handles, IsRefusedBy, Library, Objects}
+use Rattle.zl_calls.proofs.Common.{◌≡◌, ℕ, zero, suc, List, [], ◌∷◌, refl, sym, ap, ◌∙◌, subst, Option, Some, None, Result, Ok, Err, none-some, option_or, then_some, is_some, Map, get_or, slice_get, slice_set, Bool, true, false, not, Handles, IsRefusedBy, Library, Objects}
 use Rattle.std.proofs.lemmas.Option.{get_or_from_slice_get}
 use Rattle.zl_rights.specs.declared.status.Status.{Status}
 use Rattle.zl_rights.specs.declared.status.Status.TheVariants as status
-use Rattle.zl_calls.specs.calls.Task.{ProcessCreateDoes, create_refusal, lab}
+use Rattle.zl_rights.specs.LookUp.{looked_up}
+use Rattle.zl_rights.specs.Numbers.{MANAGE_PROCESS}
+use Rattle.zl_rights.specs.declared.entry.Entry.{Entry}
+use Rattle.zl_rights.specs.declared.kind.Kind.TheVariants as kind
+use Rattle.zl_objects.specs.declared.object.Body.{Body}
+use Rattle.zl_objects.specs.Jobs.{action_of, is_dead, job_at}
+use Rattle.zl_calls.specs.calls.Making.{MakeDoes, room_refusal}
+use Rattle.zl_calls.specs.calls.Task.{ProcessCreateDoes, create_refusal, create_refusal_of, lab, needs_more}
 use Rattle.zl_calls.specs.declared.process.Process.{Process}
 
 -- what is written back as it was read changes nothing
@@ -11,6 +18,23 @@ set_itself : {X : Type 0} (xs : List X) (i : ℕ) (x : X) → x ≡ get_or xs i 
 set_itself [] i x is = refl
 set_itself (y ∷ xs) zero x is = ap (λ z. z ∷ xs) is
 set_itself (y ∷ xs) (suc i) x is = ap (λ rest. y ∷ rest) (set_itself xs i x is)
+
+-- what nothing refuses has room
+room_is_left : (lib : Library) (entries : Map Entry) (r : Objects) (job program : ℕ) → create_refusal lib entries r job program ≡ None
+    → room_refusal entries r.next_koid ≡ None
+room_is_left lib entries r job program unrefused = by_job (looked_up entries job (kind.Job ∷ []) MANAGE_PROCESS) unrefused
+  where
+    by_tests : (a b c : Bool) (o : Option Status) → option_or (then_some a status.InvalidArgs)
+        (option_or (then_some b status.BadState) (option_or (then_some c status.NotSupported) o)) ≡ None → o ≡ None
+    by_tests true b c o h = absurd (none-some _ (sym h))
+    by_tests false true c o h = absurd (none-some _ (sym h))
+    by_tests false false true o h = absurd (none-some _ (sym h))
+    by_tests false false false o h = h
+
+    by_job : (x : Result Entry Status) → create_refusal_of lib entries r program x ≡ None → room_refusal entries r.next_koid ≡ None
+    by_job (Err s) h = absurd (none-some s (sym h))
+    by_job (Ok e) h = by_tests (not (is_some (slice_get lib program))) (is_dead (job_at r.objects e.koid))
+        (needs_more (action_of (job_at r.objects e.koid)) (slice_get lib program)) (room_refusal entries r.next_koid) h
 
 module _ (lib : Library) (ps ps2 : List Process) (r : Objects) (blocked blocked2 : List ℕ) (place job program : ℕ) (same_ps : ps2 ≡ ps) (same_blocked : blocked2 ≡ blocked)
     (read : Process) (is_read : read ≡ get_or ps place read) (passes : None ≡ create_refusal lib read.table.entries r job program) (caller : Process) (there : slice_get ps place ≡ Some caller) where
@@ -28,9 +52,18 @@ module _ (lib : Library) (ps ps2 : List Process) (r : Objects) (blocked blocked2
     refused = λ i. lab ((same ∙ same_ps) i) (same_objects i) (same_blocked i);
   }
 
-  -- the handle wants memory
-  pub not_made : (written : Process) → written ≡ get_or ps2 place written → (table : Handles) → table ≡ written.table → (r2 : Objects) → r2 ≡ r → (s : Status) → s ≡ status.NoMemory
+  -- the object or its handle wants memory
+  pub not_made : (written : Process) → written ≡ get_or ps2 place written → (b : Body) (table : Handles) (r2 : Objects) (s : Status)
+      → MakeDoes b written.table r (Err s) table r2
       → ProcessCreateDoes lib place job program caller (lab ps r blocked) (Err s) (lab (slice_set ps2 place (record written { table = table })) r2 blocked2)
-  not_made written is_written table same_table r2 same_objects s is =
+  not_made written is_written b table r2 s does =
       subst (λ (x : Status). ProcessCreateDoes lib place job program caller (lab ps r blocked) (Err x) (lab (slice_set ps2 place (record written { table = table })) r2 blocked2)) (sym is)
-      (wants_memory r2 same_objects (slice_set ps2 place (record written { table = table })) (ap (λ (t : Handles). slice_set ps2 place (record written { table = t })) same_table ∙ set_itself ps2 place written is_written))
+      (wants_memory r2 does.same_objects (slice_set ps2 place (record written { table = table }))
+      (ap (λ (t : Handles). slice_set ps2 place (record written { table = t })) does.same_table ∙ set_itself ps2 place written is_written))
+    where
+      same : written ≡ caller
+      same = is_written ∙ (ap (λ (qs : List Process). get_or qs place written) same_ps ∙ get_or_from_slice_get ps place caller written there)
+
+      is : s ≡ status.NoMemory
+      is = subst (λ (o : Option Status). IsRefusedBy true o s)
+          (ap (λ (p : Process). room_refusal p.table.entries r.next_koid) same ∙ room_is_left lib caller.table.entries r job program unrefused) does.err

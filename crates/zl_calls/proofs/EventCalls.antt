@@ -1,5 +1,5 @@
 -- The call event_create, and those that change signals, signal and signal_peer, each from its table and objects to a step.
-use Rattle.zl_calls.proofs.Common.{◌≡◌, ◌+◌, ◌^◌, ℕ, Bool, true, false, not, ◌&&◌, ◌==◌, List, [], ◌∷◌, map, refl, sym, ap, ◌∙◌, cond, Option, Some, None, IsTrue, nat_le, if◌then◌else◌, arith, count_by, sum_by-cons, then_some, first_some, is_some, Map, get, has_key, Ready, EventBody, Library, Site, site, event_create, examined, has_room, has_koids, handles_to, table_of, answer_if, refusal, handle_operands, listed, may_choose, new_handles, insert_all, remove_all, taken_handles, effect, with_effect, with_object, gives_ok, gives_refused, AtCall, next_for, Values, replied, taken, Ok, Err, ⊤, option_or, bits, within, SIGNAL, kind_of, signal, body_of, body_in, operand_of, by_look_up, operand, any, cpu_answered, new_entry, on_object, object_changed, Objects, new_object, with_new, raised_changed, changing, IsAnswered, told_by, one_value, Replies, has_room_in, no_value, process_entry, process_value, object_entry, state_value, world_value, object_value, body_value, IsConsistent, IsNamed, koid_in, runs, settable_of, may_change, World}
+use Rattle.zl_calls.proofs.Common.{◌≡◌, ℕ, Bool, true, false, not, List, [], ◌∷◌, map, refl, sym, ap, ◌∙◌, Option, Some, None, IsTrue, if◌then◌else◌, then_some, first_some, is_some, Map, get, has_key, Ready, Library, Site, site, event_create, examined, has_room, has_koids, handles_to, table_of, answer_if, refusal, handle_operands, listed, may_choose, new_handles, insert_all, remove_all, taken_handles, effect, gives_ok, gives_refused, AtCall, next_for, Values, replied, taken, Ok, Err, ⊤, option_or, bits, within, SIGNAL, kind_of, signal, body_of, body_in, operand_of, by_look_up, operand, any, cpu_answered, on_object, object_changed, Objects, raised_changed, changing, IsAnswered, told_by, one_value, Replies, no_value, process_entry, process_value, object_entry, state_value, world_value, object_value, body_value, IsConsistent, IsNamed, koid_in, runs, settable_of, may_change, World}
 use Rattle.zl_code.proofs.Common.{Object as ObjectValue}
 use Rattle.zl_code.specs.Common.{signal_peer}
 use Rattle.zl_code.specs.Tests.{peer_at as peer_named, peer_in as peer_seen}
@@ -17,27 +17,17 @@ use Rattle.zl_objects.specs.declared.object.Body.TheVariants as body
 use Rattle.zl_objects.specs.declared.object.Object.{Object}
 use Rattle.zl_objects.specs.Objects.{peer_at}
 use Rattle.zl_calls.specs.declared.process.Process.{Process}
-use Rattle.zl_calls.specs.calls.Event.{CreatesEvent, EventCreateDoes, event_refusal, SignalsObject, SignalDoes, signal_refusal, signal_refusal_of, SignalsPeer, SignalPeerDoes, peer_signal_refusal, peer_signal_refusal_of, settable_at, may_change_at}
-use Rattle.zl_calls.proofs.Answered.{IsWrite, table_is, may_get_inserted, replied_inserted, replied_with}
+use Rattle.zl_calls.specs.calls.Event.{EventCreateDoes, SignalsObject, SignalDoes, signal_refusal, signal_refusal_of, SignalsPeer, SignalPeerDoes, peer_signal_refusal, peer_signal_refusal_of, settable_at, may_change_at}
+use Rattle.zl_calls.proofs.Answered.{IsWrite, table_is, replied_with}
 use Rattle.zl_calls.proofs.Done.{IsDone, IsCalled, answered_done}
-use Rattle.zl_calls.proofs.Grown.{IsGrowing, entered_next, grown_named, grown_one, grown_seen, growing_none, there_grown}
+use Rattle.zl_calls.proofs.MakeCalls.{made_done, room_refused}
 use Rattle.zl_calls.proofs.Counting.{queues_updated}
 use Rattle.zl_calls.proofs.Refused.{answers, may_create, fault_answers}
 use Rattle.zl_calls.proofs.Updates.{update_seen, update_itself}
 use Rattle.zl_calls.proofs.WriteCalls.{is_found, peer_is, peer_there}
-use Rattle.zl_calls.proofs.Written.{IsNext, keeps_inserted, inserted_counts, keeps_table, same_counts, updated_next}
+use Rattle.zl_calls.proofs.Written.{IsNext, keeps_table, same_counts, updated_next}
 use Rattle.zl_objects.proofs.Bodies.{alone_updated}
 use Rattle.zl_objects.proofs.Law.{get_seen, kept_all}
-
--- ---- the answer of event_create
-
-event_refused : (lib : Library) (w : World) (p : ℕ) → refusal lib w p event_create ≡ answers (event_refusal (table_of w p) w.next_koid)
-unfolding refusal handle_operands examined listed has_room has_koids
-event_refused lib w p = rw (may_create w p condition.NewEvent) (by_test (has_room_in (table_of w p) && nat_le (w.next_koid + 1) (2 ^ 62)))
-  where
-    by_test : (b : Bool) → first_some (None ∷ None ∷ answer_if (not b) status.NoResources ∷ []) ≡ answers (then_some (not b) status.NoResources)
-    by_test true = refl
-    by_test false = refl
 
 -- ---- the answer of signal
 
@@ -123,66 +113,12 @@ module _ (lib : Library) (before after : List Process) (r r2 : Objects) (p p2 : 
     abbrev create_site : Site
     create_site = site event_create consumed destinations
 
-    create_refused : refusal lib w p.pid event_create ≡ answers (event_refusal p.table.entries r.next_koid)
-    create_refused = event_refused lib w p.pid ∙ rw (table_is before after p p2 write r) refl
-
-    module _ (made : ℕ) (creates : CreatesEvent p.table r made p2.table r2) (replies : Replies create_site status.Ok (made ∷ []) p p2) where
-      abbrev n : ℕ
-      n = r.next_koid
-
-      abbrev fresh : Object
-      fresh = new_object body.Event 1
-
-      abbrev entry : Entry
-      entry = new_entry n kind.Event
-
-      abbrev grown : Objects
-      grown = with_new r body.Event 1
-
-      -- ---- the relation of calls
-
-      abbrev with_event : World
-      with_event = with_object w EventBody
-
-      create_rest : (record with_event { processes = map process_entry after }) ≡ world_value after r2
-      unfolding with_object
-      create_rest = rw creates.objects (ap (λ (os : Map ObjectValue). record w { processes = map process_entry after; objects = os; next_koid = n + 1 }) (grown_seen r body.Event 1 lab.given_objects))
-
-      create_chosen : IsTrue (may_choose w (taken w p.pid create_site) p.pid event_create (made ∷ []))
-      unfolding taken_handles handle_operands remove_all may_choose new_handles
-      create_chosen = rw (write.there, may_get_inserted p p2 entry made creates.inserts) refl
-
-      create_ends : world_value after r2 ≡ replied (with_effect lib w (taken w p.pid create_site) p.pid event_create (made ∷ [])) p.pid create_site status.Ok (made ∷ [])
-      unfolding taken_handles handle_operands remove_all new_handles effect insert_all with_object
-      create_ends = replied_inserted before after p p2 write r2 create_site made entry with_event refl create_rest creates.inserts replies
-
-      -- ---- the invariant
-
-      create_counts : (j : ℕ) → handles_to (world_value after grown) j ≡ handles_to (world_value before grown) j + count_by (λ (h : ℕ × Entry). h.1.koid == j) ((made, entry) ∷ [])
-      create_counts j = omega (arith, inserted_counts before after p p2 write entry made creates.inserts grown grown j refl, sum_by-cons (λ (h : ℕ × Entry). cond (h.1.koid == j) 1 0) (made, entry) [])
-
-      growing : IsGrowing before ((made, entry) ∷ []) grown
-      growing = grown_one before [] r (growing_none before r lab) body.Event (λ not. not runs) refl refl creates.koid refl (made, entry) refl
-
-      create_next : IsNext before after r grown
-      create_next = entered_next before after ((made, entry) ∷ []) r grown growing (omega arith) (grown_named before [] r (growing_none before r lab) body.Event) create_counts
-
-      entry_named : IsNamed grown.objects entry
-      entry_named = record { object = fresh; there = there_grown before [] r (growing_none before r lab) body.Event; kind = refl; rights = refl }
-
-      event_create_called : IsCalled lib before after r r2 p.pid create_site (outcome.Answered status.Ok)
-      unfolding gives_ok
-      event_create_called = record {
-        calls = (Values (made ∷ []), rw (create_refused, creates.unrefused) (create_chosen, refl, create_ends));
-        keeps = rw creates.objects (keeps_inserted before after p p2 write entry made creates.inserts r grown lab (ap (λ (q : Process). q.state) replies) creates.room entry_named create_next);
-      }
-
-    -- ---- the step
-
     pub event_create_done : state_value p.state ≡ Ready → (call : CallName) → next_for lib (process_value p) ≡ AtCall call create_site → (o : Outcome) → IsAnswered (told_by one_value) EventCreateDoes create_site p r o p2 r2 → IsDone lib before after r r2 p.pid call o
-    unfolding taken_handles handle_operands remove_all gives_refused
-    event_create_done ready call next o acts = answered_done lib before after r r2 p p2 lab write ready call create_site next one_value (CreatesEvent p.table r) true (event_refusal p.table.entries r.next_koid)
-        create_refused refl refl (λ answer. refl) event_create_called o acts.answer acts.acts acts.replied acts.ends
+    unfolding refusal handle_operands examined listed has_room has_koids taken_handles remove_all gives_refused may_choose
+        new_handles effect insert_all gives_ok
+    event_create_done = made_done lib before after r r2 p p2 lab write create_site body.Event (λ not. not runs) refl refl
+        (rw (may_create w p.pid condition.NewEvent, table_is before after p p2 write r) (room_refused p.table.entries r.next_koid)) refl refl (λ answer. refl)
+        (λ made may ends. (rw (write.there, may) refl, refl, ends))
 
   -- ---- the signals of the object k change, and nothing else is told
 

@@ -2,7 +2,7 @@
 use Rattle.zl_code.proofs.Common.{Bool, Cpu, IfSome, List, Map, None, Ok, Err, Option, Result, Row, Site, Some, [], ap, call_row, consumes, contains}
 use Rattle.zl_code.proofs.Common.{flat_map, get, handle_operands, if◌then◌else◌, map, option_or, refl, slice_index, site_of, subst, sym, then_some, true}
 use Rattle.zl_code.proofs.Common.{false, ℕ, ◌++◌, ◌==◌, ◌||◌, ◌∙◌, ◌∷◌, ◌≡◌}
-use Rattle.zl_code.proofs.Common.{arith, drop, get_or, length, zero, suc, ◌<◌}
+use Rattle.zl_code.proofs.Common.{arith, drop, get_or, length, zero, suc, ◌+◌, ◌<◌}
 use Rattle.std.specs.Result.{result_err}
 use Rattle.std.proofs.Math.Bool.{or_comm}
 use Rattle.std.proofs.lemmas.List.Recursion.{or_push}

@@ -1,5 +1,5 @@
--- One object more, with one handle that is to enter a table: what the invariant says of both.
-use Rattle.zl_calls.proofs.Common.{◌≡◌, ◌<◌, ◌≤◌, ◌+◌, ◌^◌, ℕ, Bool, nat_cmp, is_sorted, nat_lt, true, false, ◌||◌, ◌==◌, List, [], ◌∷◌, ◌++◌, map, refl, sym, ap, ◌∙◌, subst, cond, Option, Some, None, inl, inr, IsTrue, arith, eq-eqb, if◌then◌else◌, is_some, list_any, count_by, sum_by-cons, cases_Bool, eqb-true, false≢true, same_Some, Map, get, put, has_key, is_process, map-append, state_passes, All, All-nil, has_living_child, handles_to, get-put, sorted_put, put_key, queued_to, body_value, Objects, AreKeptBut, new_object, with_new, is_kept, stays_alone, is_child, is_job_at, is_job_in, object_entry, object_value, process_entry, world_value, IsConsistent, IsSound, AreNamed, IsNamed, Agrees, is_in_job}
+-- One object more, with the handles that name it and are to enter a table: what the invariant says of both.
+use Rattle.zl_calls.proofs.Common.{IsTable, is_sorted-update, has_key-update, process_value, ◌≡◌, ◌<◌, ◌+◌, ◌^◌, ℕ, Bool, nat_cmp, is_sorted, nat_lt, true, false, ◌||◌, ◌==◌, List, [], ◌∷◌, ◌++◌, map, refl, sym, ap, ◌∙◌, subst, cond, Option, Some, None, inl, inr, IsTrue, arith, eq-eqb, if◌then◌else◌, is_some, list_any, count_by, sum_by-cons, cases_Bool, eqb-true, false≢true, same_Some, Map, get, put, has_key, is_process, map-append, state_passes, All, All-nil, has_living_child, handles_to, get-put, sorted_put, put_key, queued_to, body_value, Objects, AreKeptBut, new_object, with_new, is_kept, stays_alone, is_child, is_job_at, is_job_in, object_entry, object_value, process_entry, world_value, IsConsistent, IsSound, AreNamed, IsNamed, Agrees, is_in_job}
 use Rattle.zl_code.proofs.Common.{Process as ProcessValue, State as StateValue}
 use Rattle.zl_rights.specs.declared.entry.Entry.{Entry}
 use Rattle.zl_objects.specs.declared.object.Body.{Body}
@@ -11,11 +11,12 @@ use Rattle.zl_objects.specs.Objects.{queue_of}
 use Rattle.zl_objects.proofs.Bodies.{more_in_job}
 use Rattle.zl_objects.proofs.ByKoid.{put_last}
 use Rattle.zl_objects.proofs.Law.{has_seen, kept_all}
+use Rattle.zl_calls.proofs.Answered.{IsWrite}
 use Rattle.zl_calls.proofs.Counted.{never_named}
 use Rattle.zl_calls.proofs.Counting.{queues_grown, same_tables}
 use Rattle.zl_calls.proofs.SameBodies.{kept_each, still_agrees, still_named}
 use Rattle.zl_calls.proofs.Settled.{sound_of}
-use Rattle.zl_calls.proofs.Written.{IsNext}
+use Rattle.zl_calls.proofs.Written.{after_is, found_after, same_states}
 
 any_more : {X : Type 0} (test : X → Bool) (xs : List X) (x : X) → IsTrue (list_any test xs) → IsTrue (list_any test (xs ++ x ∷ []))
 any_more test [] x some = absurd (false≢true some)
@@ -32,7 +33,7 @@ grown_seen r b handles given =
     ∙ sym (map-append object_entry r.objects ((r.next_koid, new_object b handles) ∷ []))
 
 -- where no message is, no handle is
-none_queued : (j : ℕ) (b : Body) → queue_of b ≡ [] → ◌≡◌ {A = ℕ} (queued_to j (body_value b)) 0
+pub none_queued : (j : ℕ) (b : Body) → queue_of b ≡ [] → ◌≡◌ {A = ℕ} (queued_to j (body_value b)) 0
 none_queued j (body.Job own) empty = refl
 none_queued j (body.Process job lives) empty = refl
 none_queued j body.Event empty = refl
@@ -47,27 +48,24 @@ pub record IsGrowing (ps : List Process) (m : Map Entry) (r : Objects) : Type 0 
 pub growing_none : (ps : List Process) (r : Objects) → IsConsistent ps r → IsGrowing ps [] r
 growing_none ps r lab = record { sound = sound_of ps r lab; kept = lab.kept }
 
-module _ (ps : List Process) (m : Map Entry) (r : Objects) (growing : IsGrowing ps m r) where
-  abbrev sound : IsSound ps m r
-  sound = growing.sound
-
+module _ (ps : List Process) (m : Map Entry) (r : Objects) (sound : IsSound ps m r) where
   given_key : (k : ℕ) (o : Object) → get r.objects k ≡ Some o → k < r.next_koid
   given_key k o at = sound.given_objects k (rw at refl)
 
   pub unnamed : ◌≡◌ {A = ℕ} (handles_to (world_value ps r) r.next_koid) 0
   unnamed = never_named ps m r sound r.next_koid (λ there. omega (arith, sound.given_objects r.next_koid there))
 
-  -- ---- the new object
+  -- ---- the new object, which so many handles name
 
-  module _ (b : Body) where
+  module _ (b : Body) (count : ℕ) where
     abbrev n : ℕ
     n = r.next_koid
 
     abbrev fresh : Object
-    fresh = new_object b 1
+    fresh = new_object b count
 
     abbrev grown : Objects
-    grown = with_new r b 1
+    grown = with_new r b count
 
     grown_is : put r.objects n fresh ≡ grown.objects
     grown_is = put_last r.objects n fresh sound.given_objects
@@ -142,16 +140,14 @@ module _ (ps : List Process) (m : Map Entry) (r : Objects) (growing : IsGrowing 
         by_count true h = refl
         by_count false h = still_alone j q.body h
 
-    -- what it is agrees with there being no such process, and no message is in it; the handle x names it, and none of m does
+    -- what it is agrees with there being no such process, and no message is in it; none of the handles m names it, and so many of m2 do
     module _ (quiet : ((test : StateValue → Bool) → is_process (world_value ps r) test n ≡ false) → Agrees (world_value ps r) n b) (empty : queue_of b ≡ []) (in_job : IsTrue (is_in_job grown.objects b)) (koid : n < 2 ^ 62)
-        (apart_from : ◌≡◌ {A = ℕ} (count_by (λ h. h.1.koid == n) m) 0) (x : ℕ × Entry) (names : x.1.koid ≡ n) where
+        (apart_from : ◌≡◌ {A = ℕ} (count_by (λ h. h.1.koid == n) m) 0) (m2 : Map Entry)
+        (counted_is : (j : ℕ) → count_by (λ h. h.1.koid == j) m2 ≡ cond (n == j) count 0 + count_by (λ h. h.1.koid == j) m) where
       same_handles : (j : ℕ) → handles_to (world_value ps grown) j ≡ handles_to (world_value ps r) j
-      same_handles j = same_tables ps r grown j (queues_grown r b 1 j (none_queued j b empty))
+      same_handles j = same_tables ps r grown j (queues_grown r b count j (none_queued j b empty))
 
-      with_one : (j : ℕ) → count_by (λ h. h.1.koid == j) (x ∷ m) ≡ cond (n == j) 1 0 + count_by (λ h. h.1.koid == j) m
-      with_one j = sum_by-cons (λ h. cond (h.1.koid == j) 1 0) x m ∙ rw names refl
-
-      grown_sound : IsSound ps (x ∷ m) grown
+      pub grown_sound : IsSound ps m2 grown
       unfolding is_process
       grown_sound = record {
         processes_in_order = sound.processes_in_order;
@@ -172,15 +168,16 @@ module _ (ps : List Process) (m : Map Entry) (r : Objects) (growing : IsGrowing 
         queued = λ j q at. found_grown (AreNamed grown.objects (queue_of q.body)) j q at
             (λ here is. subst (λ (o : Object). AreNamed grown.objects (queue_of o.body)) is (rw empty (All-nil (λ (y : Message). All (IsNamed grown.objects) y.handles))))
             (λ apart old. still_named r.objects grown.objects grown_named (queue_of q.body) (sound.queued j q old));
-        counted = λ j q at. found_grown (q.handles ≡ handles_to (world_value ps grown) j + count_by (λ h. h.1.koid == j) (x ∷ m)) j q at
+        counted = λ j q at. found_grown (q.handles ≡ handles_to (world_value ps grown) j + count_by (λ h. h.1.koid == j) m2) j q at
             (λ here is.
             let same : n ≡ j = eqb-true n j here in
             let none : ◌≡◌ {A = ℕ} (handles_to (world_value ps r) j) 0 = rw (← same) unnamed in
-            let alone : ◌≡◌ {A = ℕ} (count_by (λ h. h.1.koid == j) m) 0 = rw (← same) apart_from in
-            ap (λ (o : Object). o.handles) (sym is) ∙ sym (rw (same_handles j, none, with_one j, here, alone) refl))
+            let others : ◌≡◌ {A = ℕ} (count_by (λ h. h.1.koid == j) m) 0 = rw (← same) apart_from in
+            let all : cond (n == j) count 0 ≡ count = rw here refl in
+            omega (arith, ap (λ (o : Object). o.handles) is, same_handles j, none, others, counted_is j, all))
             (λ apart old.
-            let other : ◌≡◌ {A = ℕ} (cond (n == j) 1 0) 0 = rw apart refl in
-            omega (arith, sound.counted j q old, same_handles j, with_one j, other));
+            let other : ◌≡◌ {A = ℕ} (cond (n == j) count 0) 0 = rw apart refl in
+            omega (arith, sound.counted j q old, same_handles j, counted_is j, other));
         agrees = λ j q at. found_grown (Agrees (world_value ps grown) j q.body) j q at
             (λ here is. subst (λ (i : ℕ). Agrees (world_value ps grown) i q.body) (eqb-true n j here) (subst (λ (o : Object). Agrees (world_value ps grown) n o.body) is (as_before n b (quiet not_there))))
             (λ apart old. as_before j q.body (sound.agrees j q old));
@@ -192,27 +189,44 @@ module _ (ps : List Process) (m : Map Entry) (r : Objects) (growing : IsGrowing 
           as_before : (j : ℕ) (c : Body) → Agrees (world_value ps r) j c → Agrees (world_value ps grown) j c
           as_before j c = still_agrees (world_value ps r) (world_value ps grown) j c (λ test. refl)
 
-      pub grown_one : IsGrowing ps (x ∷ m) grown
-      grown_one = record {
-        sound = grown_sound;
-        kept = kept_each grown.objects (rw (← grown_is) (sorted_put r.objects n fresh growing.kept.in_order)) (λ j q at. found_grown (IsTrue (is_kept grown.objects j q)) j q at
-            (λ here is. subst (λ (o : Object). IsTrue (is_kept grown.objects j o)) is refl)
-            (λ apart old. still_kept j q (kept_all r.objects growing.kept j q old)));
-      }
+    -- a handle keeps it
+    pub kept_grown : ◌≡◌ {A = ℕ} count 1 → AreKeptBut [] r.objects → AreKeptBut [] grown.objects
+    kept_grown one kept = kept_each grown.objects grown_in_order (λ j q at. found_grown (IsTrue (is_kept grown.objects j q)) j q at
+        (λ here is. subst (λ (o : Object). IsTrue (is_kept grown.objects j o)) is (rw one refl))
+        (λ apart old. still_kept j q (kept_all r.objects kept j q old)))
+
+-- the handle x names it, and is to enter a table too
+pub grown_one : (ps : List Process) (m : Map Entry) (r : Objects) → IsGrowing ps m r → (b : Body)
+    → (((test : StateValue → Bool) → is_process (world_value ps r) test r.next_koid ≡ false) → Agrees (world_value ps r) r.next_koid b) → queue_of b ≡ []
+    → IsTrue (is_in_job (with_new r b 1).objects b) → r.next_koid < 2 ^ 62 → ◌≡◌ {A = ℕ} (count_by (λ h. h.1.koid == r.next_koid) m) 0 → (x : ℕ × Entry)
+    → x.1.koid ≡ r.next_koid → IsGrowing ps (x ∷ m) (with_new r b 1)
+grown_one ps m r growing b quiet empty in_job koid apart_from x names = record {
+  sound = grown_sound ps m r growing.sound b 1 quiet empty in_job koid apart_from (x ∷ m)
+      (λ j. sum_by-cons (λ h. cond (h.1.koid == j) 1 0) x m ∙ rw names refl);
+  kept = kept_grown ps m r growing.sound b 1 refl growing.kept;
+}
 
 -- the handles m have entered the table of a process
-pub entered_next : (before after : List Process) (m : Map Entry) (r r2 : Objects) → IsGrowing before m r2 → r.next_koid ≤ r2.next_koid → ((e : Entry) → IsNamed r.objects e → IsNamed r2.objects e)
-    → ((j : ℕ) → handles_to (world_value after r2) j ≡ handles_to (world_value before r2) j + count_by (λ h. h.1.koid == j) m) → IsNext before after r r2
-unfolding is_process
-entered_next before after m r r2 growing above still counts = record {
-  next_koid = above;
+pub entered : (before after : List Process) (p p2 : Process) (write : IsWrite before after p p2) → p2.state ≡ p.state → (m : Map Entry) (r : Objects)
+    → IsGrowing before m r → IsTable p2.table → ((v : ℕ) (e : Entry) → get p2.table.entries v ≡ Some e → IsNamed r.objects e)
+    → ((j : ℕ) → handles_to (world_value after r) j ≡ handles_to (world_value before r) j + count_by (λ h. h.1.koid == j) m) → IsConsistent after r
+entered before after p p2 write state m r growing table named counts = record {
+  processes_in_order = rw (after_is before after p p2 write, is_sorted-update (map process_entry before) p.pid (λ _. process_value p2))
+      growing.sound.processes_in_order;
+  given_processes = λ k there. growing.sound.given_processes k
+      (sym (has_key-update (map process_entry before) p.pid (λ _. process_value p2) k) ∙ (rw (after_is before after p p2 write) at there));
   given_objects = growing.sound.given_objects;
   koids = growing.sound.koids;
+  above_zero = growing.sound.above_zero;
   no_zero = growing.sound.no_zero;
-  named = still;
+  tables = λ k q at. found_after before after p p2 write (IsTable (record { entries = q.handles; last = q.last })) k q at
+      (λ is. subst (λ (x : ProcessValue). IsTable (record { entries = x.handles; last = x.last })) is table) (growing.sound.tables k q);
+  named = λ k q v e at there. found_after before after p p2 write (IsNamed r.objects e) k q at
+      (λ is. named v e (ap (λ (x : ProcessValue). get x.handles v) is ∙ there)) (λ old. growing.sound.named k q v e old there);
   queued = growing.sound.queued;
   counted = λ j q at. growing.sound.counted j q at ∙ sym (counts j);
-  agrees = λ j q at. still_agrees (world_value before r2) (world_value before r) j q.body (λ test. refl) (growing.sound.agrees j q at);
+  agrees = λ j q at. still_agrees (world_value before r) (world_value after r) j q.body (same_states before after p p2 write state r r j)
+      (growing.sound.agrees j q at);
   in_jobs = growing.sound.in_jobs;
   kept = growing.kept;
 }

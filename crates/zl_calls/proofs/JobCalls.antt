@@ -1,5 +1,5 @@
 -- The calls on jobs, job_create and job_set_policy, each from its table and objects to a step.
-use Rattle.zl_calls.proofs.Common.{◌≡◌, ◌+◌, ◌==◌, ◌^◌, ◌&&◌, ◌||◌, ℕ, Bool, true, false, not, List, [], ◌∷◌, map, refl, sym, ap, ◌∙◌, subst, cond, Option, Some, None, Result, Ok, Err, inl, inr, ⊤, IsTrue, nat_le, if◌then◌else◌, arith, count_by, sum_by-cons, cases_Bool, false≢true, then_some, first_some, option_or, is_some, Map, get, update, Ready, Library, Site, site, examined, has_room, has_koids, handles_to, table_of, answer_if, refusal, handle_operands, listed, may_choose, new_handles, insert_all, remove_all, taken_handles, effect, with_effect, with_object, gives_ok, gives_refused, AtCall, next_for, Values, replied, taken, All, All-nil, bits, within, kind_of, body_of, operand_of, by_look_up, operand, new_entry, on_object, on_process, process_with, runs, Objects, new_object, with_new, IsAnswered, told_by, one_value, no_value, Replies, has_room_in, process_entry, process_value, object_entry, object_value, body_value, queued_to, state_value, world_value, is_child, stays_alone, is_job_body, is_in_job, Agrees, AreNamed, IsConsistent, IsNamed, koid_in, World}
+use Rattle.zl_calls.proofs.Common.{◌≡◌, ◌+◌, ◌==◌, ◌^◌, ◌&&◌, ◌||◌, ℕ, Bool, true, false, not, List, [], ◌∷◌, map, refl, sym, ap, ◌∙◌, subst, Option, Some, None, Result, Ok, Err, inl, inr, ⊤, IsTrue, nat_le, if◌then◌else◌, arith, sum_by-cons, cases_Bool, false≢true, then_some, first_some, option_or, is_some, Map, get, update, Ready, Library, Site, site, examined, has_room, has_koids, handles_to, table_of, answer_if, refusal, handle_operands, listed, may_choose, new_handles, insert_all, remove_all, taken_handles, effect, with_object, gives_ok, gives_refused, AtCall, next_for, Values, replied, taken, All, All-nil, bits, within, kind_of, body_of, operand_of, by_look_up, operand, new_entry, on_object, on_process, process_with, runs, Objects, with_new, IsAnswered, told_by, one_value, no_value, Replies, has_room_in, process_entry, process_value, object_entry, object_value, body_value, queued_to, state_value, world_value, is_child, stays_alone, is_job_body, is_in_job, Agrees, AreNamed, IsConsistent, IsNamed, IsSound, koid_in, World}
 use Rattle.zl_code.proofs.Common.{Object as ObjectValue, Body as BodyValue, JobBody}
 use Rattle.std.specs.Result.{result_err}
 use Rattle.zl_rights.specs.declared.kind.Kind.{Kind}
@@ -34,16 +34,18 @@ use Rattle.zl_objects.proofs.Showing.{job_shown, process_shown}
 use Rattle.zl_calls.specs.declared.process.Process.{Process}
 use Rattle.zl_calls.specs.calls.Job.{CreatesJob, JobCreateDoes, JobSetPolicyDoes, SetsPolicy, fault_status, has_child_at, job_refusal, job_refusal_of, policy_refusal, policy_refusal_of}
 use Rattle.zl_calls.proofs.Active.{states_shown}
-use Rattle.zl_calls.proofs.Answered.{IsWrite, table_is, may_get_inserted, replied_inserted, replied_with}
+use Rattle.zl_calls.proofs.Answered.{IsWrite, table_is, replied_with}
 use Rattle.zl_calls.proofs.Counting.{queues}
 use Rattle.zl_calls.proofs.Done.{IsDone, IsCalled, answered_done}
-use Rattle.zl_calls.proofs.Grown.{IsGrowing, entered_next, grown_named, grown_one, grown_seen, growing_none, there_grown}
+use Rattle.zl_calls.proofs.Grown.{job_grown}
+use Rattle.zl_calls.proofs.MakeCalls.{made_called}
 use Rattle.zl_calls.proofs.Rebodied.{KeepsKind, named_rebodied, rebodied_next}
 use Rattle.zl_calls.proofs.Refused.{answers, fault_answers}
 use Rattle.zl_calls.proofs.SameBodies.{still_named}
+use Rattle.zl_calls.proofs.Settled.{sound_of}
 use Rattle.zl_calls.proofs.Updates.{update_itself, update_seen}
 use Rattle.zl_calls.proofs.WriteCalls.{is_found}
-use Rattle.zl_calls.proofs.Written.{IsNext, inserted_counts, keeps_inserted, keeps_table, same_counts}
+use Rattle.zl_calls.proofs.Written.{IsNext, keeps_table, same_counts}
 
 -- ---- the job that a handle names
 
@@ -71,6 +73,15 @@ body_seen ps r k at = rw (get_seen r.objects k, at.there) (ap (λ (b : Body). So
 
 pub job_found : (os : Map Object) (k : ℕ) (at : IsJobAt os k) → job_at os k ≡ Some at.job
 job_found os k at = rw at.there (rw at.is refl)
+
+-- it is there still beside a new object, which may stand in it
+pub stands_grown : (ps : List Process) (m : Map Entry) (r : Objects) → IsSound ps m r → (b : Body) (count k : ℕ) → IsJobAt r.objects k
+    → IsTrue (is_above (with_new r b count).objects (Some k))
+stands_grown ps m r sound b count k at = by_test (k == 0)
+  where
+    by_test : (t : Bool) → IsTrue (t || is_job_at (with_new r b count).objects k)
+    by_test true = refl
+    by_test false = job_grown ps m r sound b count k (rw at.there (rw at.is refl))
 
 -- a handle that was looked up is of one of the kinds
 pub is_of_kind : (o : Option Entry) (kinds : List Kind) (needed : ℕ) (e : Entry) → granted o kinds needed ≡ Ok e → takes kinds e.kind ≡ true
@@ -264,9 +275,6 @@ module _ (lib : Library) (before after : List Process) (r r2 : Objects) (p p2 : 
     refused_create = create_refused before r lab p.pid lib j named_here ∙ rw (table_is before after p p2 write r) refl
 
     module _ (made : ℕ) (creates : CreatesJob p.table r j made p2.table r2) (replies : Replies create_site status.Ok (made ∷ []) p p2) where
-      abbrev n : ℕ
-      n = r.next_koid
-
       abbrev k : ℕ
       k = creates.above.koid
 
@@ -275,15 +283,6 @@ module _ (lib : Library) (before after : List Process) (r r2 : Objects) (p p2 : 
 
       abbrev job : Body
       job = body.Job creates.child
-
-      abbrev fresh : Object
-      fresh = new_object job 1
-
-      abbrev entry : Entry
-      entry = new_entry n kind.Job
-
-      abbrev grown : Objects
-      grown = with_new r job 1
 
       child_is : creates.child ≡ job_within k above.job
       child_is = by_tests (is_deepest_job above.job) above.job.killed (ap (new_in k) (sym (job_found r.objects k above)) ∙ creates.is_child)
@@ -299,63 +298,19 @@ module _ (lib : Library) (before after : List Process) (r r2 : Objects) (p p2 : 
           ∙ (ap (λ (o : Option BodyValue). body_within k o) (sym (body_seen before r k above))
           ∙ ap (λ (i : ℕ). body_within i (body_of w i)) (sym (named_koid j MANAGE_JOB creates.above creates.is_above)))
 
-      -- ---- the relation of calls
-
-      abbrev with_job : World
-      with_job = with_object w (body_value job)
-
-      create_rest : (record with_job { processes = map process_entry after }) ≡ world_value after r2
-      unfolding with_object
-      create_rest = rw creates.objects (ap (λ (os : Map ObjectValue). record w { processes = map process_entry after; objects = os; next_koid = n + 1 }) (grown_seen r job 1 lab.given_objects))
-
-      create_chosen : IsTrue (may_choose w (taken w p.pid create_site) p.pid (job_create j) (made ∷ []))
-      unfolding taken_handles handle_operands remove_all may_choose new_handles
-      create_chosen = rw (write.there, may_get_inserted p p2 entry made creates.inserts) refl
-
-      create_ends : world_value after r2 ≡ replied (with_effect lib w (taken w p.pid create_site) p.pid (job_create j) (made ∷ [])) p.pid create_site status.Ok (made ∷ [])
-      unfolding taken_handles handle_operands remove_all new_handles effect insert_all with_object
-      create_ends =
-          replied_inserted before after p p2 write r2 create_site made entry with_job refl create_rest creates.inserts replies
-          ∙ ap (λ (b : BodyValue). replied (on_process (with_object w b) p.pid (process_with made entry)) p.pid create_site status.Ok (made ∷ [])) body_is
-
-      -- ---- the invariant
-
-      create_counts : (i : ℕ) → handles_to (world_value after grown) i ≡ handles_to (world_value before grown) i + count_by (λ (h : ℕ × Entry). h.1.koid == i) ((made, entry) ∷ [])
-      create_counts i = omega (arith, inserted_counts before after p p2 write entry made creates.inserts grown grown i refl, sum_by-cons (λ (h : ℕ × Entry). cond (h.1.koid == i) 1 0) (made, entry) [])
-
       -- the job above is there still
-      stands : IsTrue (is_in_job grown.objects job)
-      stands = subst (λ (o : Option ℕ). IsTrue (is_above grown.objects o)) (ap (λ (x : Job). keeper_of (body.Job x)) (sym child_is)) (by_test (k == 0))
-        where
-          still : IsNamed grown.objects creates.above
-          still = grown_named before [] r (growing_none before r lab) job creates.above (lab.named p.pid (process_value p) j creates.above write.there (is_found (get p.table.entries j) (kind.Job ∷ []) MANAGE_JOB creates.above creates.is_above))
-
-          job_there : IsTrue (is_job_at grown.objects k)
-          job_there =
-              let at : IsJobAt grown.objects k = job_named grown.objects creates.above still (is_of_kind (get p.table.entries j) (kind.Job ∷ []) MANAGE_JOB creates.above creates.is_above) in
-              rw at.there (rw at.is refl)
-
-          by_test : (b : Bool) → IsTrue (b || is_job_at grown.objects k)
-          by_test true = refl
-          by_test false = job_there
-
-      growing : IsGrowing before ((made, entry) ∷ []) grown
-      growing = grown_one before [] r (growing_none before r lab) job (λ not. not runs) refl stands creates.koid refl (made, entry) refl
-
-      create_next : IsNext before after r grown
-      create_next = entered_next before after ((made, entry) ∷ []) r grown growing (omega arith) (grown_named before [] r (growing_none before r lab) job) create_counts
-
-      entry_named : IsNamed grown.objects entry
-      entry_named = record { object = fresh; there = there_grown before [] r (growing_none before r lab) job; kind = refl; rights = refl }
+      stands : IsTrue (is_in_job (with_new r job 1).objects job)
+      stands = subst (λ (o : Option ℕ). IsTrue (is_above (with_new r job 1).objects o)) (ap (λ (x : Job). keeper_of (body.Job x)) (sym child_is))
+          (stands_grown before [] r (sound_of before r lab) job 1 k above)
 
       create_called : IsCalled lib before after r r2 p.pid create_site (outcome.Answered status.Ok)
-      unfolding gives_ok
-      create_called = record {
-        calls = (Values (made ∷ []), rw (refused_create, creates.unrefused) (create_chosen, refl, create_ends));
-        keeps = rw creates.objects (keeps_inserted before after p p2 write entry made creates.inserts r grown lab (ap (λ (q : Process). q.state) replies) creates.room entry_named create_next);
-      }
-
-    -- ---- the step
+      unfolding taken_handles handle_operands remove_all may_choose new_handles effect insert_all gives_ok
+      create_called = made_called lib before after r r2 p p2 lab write create_site job (λ not. not runs) refl stands made creates.makes replies
+          (refused_create ∙ ap answers creates.unrefused) (λ may ends. (rw (write.there, may) refl, refl, ends ∙ ap with_child body_is))
+        where
+          with_child : BodyValue → World
+          with_child b = replied (on_process (with_object w b) p.pid (process_with made (new_entry r.next_koid kind.Job))) p.pid create_site status.Ok
+              (made ∷ [])
 
     pub job_create_done : state_value p.state ≡ Ready → (call : CallName) → next_for lib (process_value p) ≡ AtCall call create_site → (o : Outcome) → IsAnswered (told_by one_value) (JobCreateDoes j) create_site p r o p2 r2 → IsDone lib before after r r2 p.pid call o
     unfolding taken_handles handle_operands remove_all gives_refused

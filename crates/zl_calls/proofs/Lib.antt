@@ -49,6 +49,8 @@ pub mod Polled
 pub mod Waited
 pub mod HandleCalls
 pub mod EventCalls
+pub mod MakeCalls
+pub mod OneProcess
 pub mod ChannelCalls
 pub mod WriteCalls
 pub mod ReadCalls

@@ -87,7 +87,7 @@ module _ (p p2 : Process) (r r2 : Objects) (o : Outcome) (consumed destinations 
   by_request (port_wait port) plain (inr blocks) = of_same r r2 r refl refl blocks.objects
   by_request (port_poll port) plain acts = does_lists r r2 _ _ _ _ _ acts.answer (λ x done. of_same r r2 _ refl refl done.objects) acts.acts
   by_request (process_exit code) plain acts = acts.over.listed.listed
-  by_request (job_create j) plain acts = does_lists r r2 _ _ _ _ _ acts.answer (λ x done. of_same r r2 _ refl refl done.objects) acts.acts
+  by_request (job_create j) plain acts = does_lists r r2 _ _ _ _ _ acts.answer (λ x done. of_same r r2 _ refl refl done.makes.objects) acts.acts
   by_request (job_set_policy j mode condition action) plain acts = does_lists r r2 _ _ _ _ _ acts.answer (λ x done. of_same r r2 _ refl refl done.objects) acts.acts
   by_request (wait_async h port key mask) plain acts = absurd (true≢false plain)
   by_request (port_cancel port source key) plain acts = absurd (true≢false plain)

@@ -1,6 +1,5 @@
 -- The calls on ports, port_create, port_queue, port_poll and port_wait, each from its table and objects to a step.
-use Rattle.zl_calls.proofs.Common.{◌≡◌, ◌+◌, ◌^◌, ℕ, Bool, true, false, not, ◌&&◌, ◌==◌, List, [], ◌∷◌, map, refl, sym, ap, ◌∙◌, cond, Option, Some, None, Result, Ok, Err, operand_of, on_object, IsTrue, nat_le, arith, count_by, sum_by-cons, none-some, slice_get, then_some, first_some, same_Some, ◌++◌, is_empty, Map, get, Ready, PortBody, Library, Site, site, examined, has_room, has_koids, handles_to, table_of, answer_if, refusal, handle_operands, listed, may_choose, new_handles, insert_all, remove_all, taken_handles, effect, with_effect, with_object, gives_ok, gives_refused, AtCall, next_for, Values, replied, taken, ⊤, body_of, operand, new_entry, Objects, new_object, with_new, IsAnswered, told_by, no_value, one_value, Replies, has_room_in, process_entry, process_value, state_value, world_value, IsConsistent, IsNamed, runs, World}
-use Rattle.zl_code.proofs.Common.{Object as ObjectValue}
+use Rattle.zl_calls.proofs.Common.{◌≡◌, ℕ, true, false, List, [], ◌∷◌, refl, sym, ap, ◌∙◌, Option, Some, None, Result, Ok, Err, operand_of, on_object, IsTrue, none-some, slice_get, first_some, same_Some, ◌++◌, is_empty, get, Ready, Library, Site, site, examined, has_room, has_koids, table_of, refusal, handle_operands, listed, may_choose, new_handles, insert_all, remove_all, taken_handles, effect, gives_ok, gives_refused, AtCall, next_for, Values, replied, taken, ⊤, body_of, operand, Objects, IsAnswered, told_by, no_value, one_value, Replies, process_value, state_value, world_value, IsConsistent, runs, World}
 use Rattle.std.specs.Prelude.{drop}
 use Rattle.zl_rights.specs.declared.kind.Kind.TheVariants as kind
 use Rattle.zl_rights.specs.declared.status.Status.TheVariants as status
@@ -20,24 +19,13 @@ use Rattle.zl_code.specs.Tests.{object_at}
 use Rattle.zl_code.specs.Waiting.{first_values, is_full, packet_awaited, packet_taken, packets_at, packets_in as packets_seen}
 use Rattle.zl_objects.specs.Ports.{new_port, packets_in}
 use Rattle.zl_calls.specs.declared.process.Process.{Process}
-use Rattle.zl_calls.specs.calls.Port.{CreatesPort, PortCreateDoes, PortPollDoes, PortQueueDoes, PortWaitDoes, QueuesPacket, TakesPacket, poll_refusal, port_at, port_refusal, queue_refusal, refused_by}
-use Rattle.zl_calls.proofs.Answered.{IsWrite, table_is, may_get_inserted, replied_inserted}
+use Rattle.zl_calls.specs.calls.Port.{PortCreateDoes, PortPollDoes, PortQueueDoes, PortWaitDoes, QueuesPacket, TakesPacket, poll_refusal, port_at, queue_refusal, refused_by}
+use Rattle.zl_calls.proofs.Answered.{IsWrite, table_is}
 use Rattle.zl_calls.proofs.Done.{IsDone, IsCalled, answered_done}
-use Rattle.zl_calls.proofs.Grown.{IsGrowing, entered_next, grown_named, grown_one, grown_seen, growing_none, there_grown}
+use Rattle.zl_calls.proofs.MakeCalls.{made_done, room_refused}
 use Rattle.zl_calls.proofs.Refused.{answers, may_create}
 use Rattle.zl_calls.proofs.WriteCalls.{is_found}
-use Rattle.zl_calls.proofs.Written.{IsNext, inserted_counts, keeps_inserted}
 use Rattle.zl_calls.proofs.Repacked.{packets_there, port_ends, port_kept, port_refused}
-
--- ---- the answer of port_create
-
-create_refused : (lib : Library) (w : World) (p : ℕ) → refusal lib w p port_create ≡ answers (port_refusal (table_of w p) w.next_koid)
-unfolding refusal handle_operands examined listed has_room has_koids
-create_refused lib w p = rw (may_create w p condition.NewPort) (by_test (has_room_in (table_of w p) && nat_le (w.next_koid + 1) (2 ^ 62)))
-  where
-    by_test : (b : Bool) → first_some (None ∷ None ∷ answer_if (not b) status.NoResources ∷ []) ≡ answers (then_some (not b) status.NoResources)
-    by_test true = refl
-    by_test false = refl
 
 -- ---- the answers of port_queue, port_poll and port_wait
 
@@ -79,63 +67,12 @@ module _ (lib : Library) (before after : List Process) (r r2 : Objects) (p p2 : 
     abbrev create_site : Site
     create_site = site port_create consumed destinations
 
-    refused_create : refusal lib w p.pid port_create ≡ answers (port_refusal p.table.entries r.next_koid)
-    refused_create = create_refused lib w p.pid ∙ rw (table_is before after p p2 write r) refl
-
-    module _ (made : ℕ) (creates : CreatesPort p.table r made p2.table r2) (replies : Replies create_site status.Ok (made ∷ []) p p2) where
-      abbrev n : ℕ
-      n = r.next_koid
-
-      abbrev entry : Entry
-      entry = new_entry n kind.Port
-
-      abbrev grown : Objects
-      grown = with_new r new_port 1
-
-      -- ---- the relation of calls
-
-      abbrev with_port_more : World
-      with_port_more = with_object w (PortBody [])
-
-      create_rest : (record with_port_more { processes = map process_entry after }) ≡ world_value after r2
-      unfolding with_object
-      create_rest = rw creates.objects (ap (λ (os : Map ObjectValue). record w { processes = map process_entry after; objects = os; next_koid = n + 1 }) (grown_seen r new_port 1 lab.given_objects))
-
-      create_chosen : IsTrue (may_choose w (taken w p.pid create_site) p.pid port_create (made ∷ []))
-      unfolding taken_handles handle_operands remove_all may_choose new_handles
-      create_chosen = rw (write.there, may_get_inserted p p2 entry made creates.inserts) refl
-
-      create_ends : world_value after r2 ≡ replied (with_effect lib w (taken w p.pid create_site) p.pid port_create (made ∷ [])) p.pid create_site status.Ok (made ∷ [])
-      unfolding taken_handles handle_operands remove_all new_handles effect insert_all with_object
-      create_ends = replied_inserted before after p p2 write r2 create_site made entry with_port_more refl create_rest creates.inserts replies
-
-      -- ---- the invariant
-
-      create_counts : (j : ℕ) → handles_to (world_value after grown) j ≡ handles_to (world_value before grown) j + count_by (λ (h : ℕ × Entry). h.1.koid == j) ((made, entry) ∷ [])
-      create_counts j = omega (arith, inserted_counts before after p p2 write entry made creates.inserts grown grown j refl, sum_by-cons (λ (h : ℕ × Entry). cond (h.1.koid == j) 1 0) (made, entry) [])
-
-      growing : IsGrowing before ((made, entry) ∷ []) grown
-      growing = grown_one before [] r (growing_none before r lab) new_port (λ not. not runs) refl refl creates.koid refl (made, entry) refl
-
-      create_next : IsNext before after r grown
-      create_next = entered_next before after ((made, entry) ∷ []) r grown growing (omega arith) (grown_named before [] r (growing_none before r lab) new_port) create_counts
-
-      entry_named : IsNamed grown.objects entry
-      entry_named = record { object = new_object new_port 1; there = there_grown before [] r (growing_none before r lab) new_port; kind = refl; rights = refl }
-
-      create_called : IsCalled lib before after r r2 p.pid create_site (outcome.Answered status.Ok)
-      unfolding gives_ok
-      create_called = record {
-        calls = (Values (made ∷ []), rw (refused_create, creates.unrefused) (create_chosen, refl, create_ends));
-        keeps = rw creates.objects (keeps_inserted before after p p2 write entry made creates.inserts r grown lab (ap (λ (q : Process). q.state) replies) creates.room entry_named create_next);
-      }
-
-    -- ---- the step
-
     pub port_create_done : state_value p.state ≡ Ready → (call : CallName) → next_for lib (process_value p) ≡ AtCall call create_site → (o : Outcome) → IsAnswered (told_by one_value) PortCreateDoes create_site p r o p2 r2 → IsDone lib before after r r2 p.pid call o
-    unfolding taken_handles handle_operands remove_all gives_refused
-    port_create_done ready call next o acts = answered_done lib before after r r2 p p2 lab write ready call create_site next one_value (CreatesPort p.table r) true (port_refusal p.table.entries r.next_koid)
-        refused_create refl refl (λ answer. refl) create_called o acts.answer acts.acts acts.replied acts.ends
+    unfolding refusal handle_operands examined listed has_room has_koids taken_handles remove_all gives_refused may_choose
+        new_handles effect insert_all gives_ok
+    port_create_done = made_done lib before after r r2 p p2 lab write create_site new_port (λ not. not runs) refl refl
+        (rw (may_create w p.pid condition.NewPort, table_is before after p p2 write r) (room_refused p.table.entries r.next_koid)) refl refl (λ answer. refl)
+        (λ made may ends. (rw (write.there, may) refl, refl, ends))
 
   -- ---- port_queue
 

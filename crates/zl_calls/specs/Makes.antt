@@ -1,6 +1,8 @@
 -- What one statement of a boot does to the processes and objects made so far.
 use Rattle.zl_code.specs.Common.{World, Library, boot_fault, boot_effect, may_boot, Boots, origin}
-use Rattle.std.specs.Prelude.{ℕ, ◌≡◌, ◌<◌, List, [], length, take, Option, Some, None, IsTrue, max}
+use Rattle.std.specs.Prelude.{ℕ, ◌≡◌, ◌<◌, ◌+◌, nat_lt, List, [], length, take, Option, Some, None, IsTrue, max}
+use Rattle.std.specs.Bool.{then_some}
+use Rattle.zl_code.specs.Boot.{MOST_KOIDS}
 use Rattle.zl_code.specs.declared.boot.BootCause.{BootCause}
 use Rattle.zl_code.specs.declared.boot.BootCause.TheVariants as cause
 use Rattle.zl_code.specs.declared.boot.Statement.{Statement}
@@ -24,6 +26,10 @@ pub record Makes (lib : Library) (s : Statement) (old new : Made) : Type 0 where
 abbrev pub IsCauseOf : Option BootCause → BootCause → Type 0
 IsCauseOf None c = c ≡ cause.NoMemory
 IsCauseOf (Some found) c = c ≡ found
+
+-- the fault of a statement that makes one object, where it has no other
+abbrev pub koid_fault : Made → Option BootCause
+koid_fault made = then_some (nat_lt (MOST_KOIDS + 1) (made.objects.next_koid + 1)) cause.Limit
 
 -- number n is that of a statement, or 0 where there is none, and the statements before it can be done
 pub record IsReached (lib : Library) (statements : List Statement) (n : ℕ) : Type 0 where

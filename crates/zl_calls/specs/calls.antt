@@ -1,5 +1,6 @@
 -- What system calls do, in a file for each kind of object.
 pub mod Answer
+pub mod Making
 pub mod Handle
 pub mod Event
 pub mod Process

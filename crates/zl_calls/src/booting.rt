@@ -1,6 +1,6 @@
 //! The processes and objects that the statements of a boot make.
 
-ghost use Rattle.std.specs.Prelude.{ℕ, ◌+◌, ◌≡◌, ◌≢◌, ◌≤◌, ◌<◌, nat_lt, [], ◌∷◌, length, is_some, Some, slice_get, IfOk, OnOk, IfErr, IsTrue};
+ghost use Rattle.std.specs.Prelude.{ℕ, ◌+◌, ◌≡◌, ◌≢◌, ◌≤◌, ◌<◌, nat_lt, false, [], ◌∷◌, length, is_some, None, Some, slice_get, IfOk, OnOk, IfErr, IsTrue};
 ghost use Rattle.std.specs.List.{AllByRecursion, list_all};
 ghost use Rattle.std.specs.Option.{option_map};
 ghost use Rattle.std.specs.Result.{result_err};
@@ -11,10 +11,11 @@ ghost use Rattle.zl_code.specs.Headline.{word_of};
 ghost use Rattle.zl_code.specs.Jobs.{is_only_start};
 ghost use Rattle.zl_code.specs.Limits.{most_word};
 ghost use Rattle.zl_calls.specs.Consistent.{IsConsistent};
-ghost use Rattle.zl_objects.specs.Objects.{kind_at, root_alone};
+ghost use Rattle.zl_objects.specs.Objects.{is_end_body, kind_at, root_alone, with_new};
+ghost use Rattle.zl_objects.specs.Ports.{reserved_of};
 ghost use Rattle.zl_interp.specs.Program.{program_value};
 ghost use Rattle.zl_calls.specs.Making.{IsMaking, IsUnwatched};
-ghost use Rattle.zl_calls.specs.Makes.{Makes, seen, IsCauseOf, IsReached};
+ghost use Rattle.zl_calls.specs.Makes.{Makes, seen, IsCauseOf, IsReached, koid_fault};
 ghost use Rattle.zl_calls.specs.Gives.{allowed, rights_if, IsBare, Gives};
 
 use crate::calls::job::has_children;
@@ -104,8 +105,11 @@ impl Made {
                 condition,
                 action,
             } => self.set_policy(*job, *condition, *action),
-            Statement::Event => self.make_event(),
-            Statement::Port => self.make_port(),
+            Statement::Event => self.make_object(Body::Event),
+            Statement::Port => {
+                let port = self.objects.new_port();
+                self.make_object(port)
+            }
             Statement::Channel => self.make_channel(),
             Statement::Process {
                 job,
@@ -122,10 +126,10 @@ impl Made {
     /// Makes a job in this one. No handle names it yet.
     fn make_job(&mut self, parent: Koid) -> Result<(), BootCause>
         requires { IsMaking self.old.processes.items [] self.old.objects }
-        ensures ok { OnOk result ((lib : Library)
-            → Makes lib (Statement.Job parent) self.old self.new) }
-        ensures err { IfErr result (λ cause. (lib : Library)
-            → IsCauseOf (boot_fault lib (seen self.old) (Statement.Job parent)) cause) }
+        ensures ok { (lib : Library)
+            → OnOk result (Makes lib (Statement.Job parent) self.old self.new) }
+        ensures err { (lib : Library)
+            → IfErr result (IsCauseOf (boot_fault lib (seen self.old) (Statement.Job parent))) }
     {
         if !self.objects.is_job(parent) {
             return Err(BootCause::Unknown);
@@ -134,13 +138,7 @@ impl Made {
         let Ok(child) = self.objects.job_below(parent) else {
             return Err(BootCause::Limit);
         };
-        if self.lacks_koids(1) {
-            return Err(BootCause::Limit);
-        }
-        match self.objects.create(Body::Job(child), 0) {
-            Ok(_) => Ok(()),
-            Err(_) => Err(BootCause::NoMemory),
-        }
+        self.make_object(Body::Job(child))
     }
 
     /// Sets what the job decides for the condition.
@@ -172,35 +170,19 @@ impl Made {
         }
     }
 
-    /// Makes an event. No handle names it yet.
-    fn make_event(&mut self) -> Result<(), BootCause>
-        requires { IsMaking self.old.processes.items [] self.old.objects }
-        ensures ok { OnOk result ((lib : Library)
-            → Makes lib Statement.Event self.old self.new) }
-        ensures err { IfErr result (λ cause. (lib : Library)
-            → IsCauseOf (boot_fault lib (seen self.old) Statement.Event) cause) }
+    /// Makes the object. No handle names it yet.
+    fn make_object(&mut self, body: Body) -> Result<(), BootCause>
+        requires alone { is_end_body body ≡ false }
+        requires unreserved { reserved_of body ≡ 0 }
+        ensures left { OnOk result (koid_fault self.old ≡ None) }
+        ensures made { OnOk result
+            (self.new ≡ record self.old { objects = with_new self.old.objects body 0 }) }
+        ensures err { IfErr result (IsCauseOf (koid_fault self.old)) }
     {
         if self.lacks_koids(1) {
             return Err(BootCause::Limit);
         }
-        match self.objects.create(Body::Event, 0) {
-            Ok(_) => Ok(()),
-            Err(_) => Err(BootCause::NoMemory),
-        }
-    }
-
-    /// Makes a port. No handle names it yet.
-    fn make_port(&mut self) -> Result<(), BootCause>
-        requires { IsMaking self.old.processes.items [] self.old.objects }
-        ensures ok { OnOk result ((lib : Library)
-            → Makes lib Statement.Port self.old self.new) }
-        ensures err { IfErr result (λ cause. (lib : Library)
-            → IsCauseOf (boot_fault lib (seen self.old) Statement.Port) cause) }
-    {
-        if self.lacks_koids(1) {
-            return Err(BootCause::Limit);
-        }
-        match self.objects.create_port(0) {
+        match self.objects.create(body, 0) {
             Ok(_) => Ok(()),
             Err(_) => Err(BootCause::NoMemory),
         }

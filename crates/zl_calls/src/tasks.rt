@@ -20,14 +20,14 @@ ghost use Rattle.zl_objects.specs.Objects.{starting};
 ghost use Rattle.zl_calls.specs.calls.Task.{AreBare, ClosesAllEnded, ClosesEnded, EndsOrAnswers, Enters, IsCallerStill, IsCreatedAt, IsFound, IsReachedBy, ProcessCreateDoes, ProcessStartDoes, TaskKillDoes, child_refusal, ended_within, lab, process_at, start_refusal};
 
 use crate::calls::handle::{close_each, take_out};
-use crate::calls::process::{close_all, find_job, make_process, misfits};
-use crate::calls::{insert, look_up};
+use crate::calls::process::{close_all, find_job, misfits};
+use crate::calls::{insert, look_up, make_object};
 use crate::process::{Process, State};
 use crate::stepping::place_of;
 use std::alloc::{AllocError, Global};
 use zl_code::{CallInstr, CallName, Image, Outcome, Register};
 use zl_interp::{Cpu, Library};
-use zl_objects::Objects;
+use zl_objects::{Body, Life, Objects};
 use zl_rights::{Entry, HValue, Kind, Koid, Pid, Rights, Status};
 use zl_table::Table;
 
@@ -153,7 +153,11 @@ fn process_create(
         return Err(Status::NoMemory);
     };
     let pid = objects.end_of_koids();
-    match make_process(&mut processes[place].table, objects, job) {
+    let body = Body::Process {
+        job,
+        life: Life::Created,
+    };
+    match make_object(&mut processes[place].table, objects, body) {
         Ok(made) => {
             processes.push_reserved(Process {
                 pid,

@@ -154,7 +154,7 @@ impl Object {
 
 impl Body {
     /// The kind of the object.
-    pub(crate) fn kind(&self) -> Kind
+    pub fn kind(&self) -> Kind
         ensures { result ≡ kind_in self.now }
     {
         match self {

@@ -1,9 +1,8 @@
 //! Ports: their packets, and the places that are reserved for the packets of waits.
 
-ghost use Rattle.std.specs.Prelude.{◌≡◌, ◌↔◌, ◌≤◌, Err, IfOk, IsTrue, OnErr, OnOk, Some, filter, length, nat_lt, slice_get};
+ghost use Rattle.std.specs.Prelude.{◌≡◌, ◌↔◌, ◌≤◌, Err, IsTrue, OnErr, OnOk, Some, filter, length, nat_lt, slice_get};
 ghost use Rattle.zl_rights.specs.Map.{get};
 ghost use Rattle.zl_port.specs.Packets.{MOST_USER_PACKETS, is_from, user_count, user_packet, with_packet, with_place, without_front, without_packets, without_place};
-ghost use Rattle.zl_objects.specs.Objects.{has_koids, new_object, with_new};
 ghost use Rattle.zl_objects.specs.Ports.{at_port, changing_port, has_place_body, is_port_at, new_port, packets_in, packets_of, reserved_of};
 
 use crate::object::{Body, Object};
@@ -94,20 +93,13 @@ impl Body {
 
 #[tactic(auto, using(crate::proofs::ByKoid::by_koid, crate::proofs::Kept::kept))]
 impl Objects {
-    /// Makes a port without packets that so many handles name, and gives its koid. A koid has to be
-    /// left.
+    /// What a port is when it is made: it has no packets, and no place is reserved. It takes no memory.
     ///
     /// Source: the page "zx_port_create" of the Fuchsia documentation.
-    pub fn create_port(&mut self, handles: u64) -> Result<Koid, AllocError>
-        requires { IsTrue (has_koids self.old.next_koid 1) }
-        ensures koid { IfOk result (λ koid. koid ≡ self.old.next_koid) }
-        ensures created { OnOk result (self.new ≡ with_new self.old new_port handles) }
-        ensures there { IfOk result
-            (λ koid. get self.new.objects koid ≡ Some (new_object new_port handles)) }
-        ensures unchanged { OnErr result (self.new ≡ self.old) }
+    pub fn new_port(&self) -> Body
+        ensures { result ≡ new_port }
     {
-        let port = Port::new(self.alloc());
-        self.create(Body::Port(port), handles)
+        Body::Port(Port::new(self.alloc()))
     }
 
     /// Whether the koid is that of a port.

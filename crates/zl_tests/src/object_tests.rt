@@ -96,7 +96,8 @@ fn new_port(objects: &mut Objects) -> Result<Koid, AllocError> {
     if !objects.has_koids(1) {
         return Err(AllocError);
     }
-    objects.create_port(1)
+    let port = objects.new_port();
+    objects.create(port, 1)
 }
 
 /// A wait of process 2 by its handle 1 for the signals, which gives a packet with the key.

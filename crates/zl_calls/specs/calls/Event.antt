@@ -2,7 +2,7 @@
 use Rattle.std.specs.Bool.{then_some}
 use Rattle.std.specs.Option.{option_or}
 use Rattle.zl_code.specs.Common.{bits, within, SIGNAL, SIGNALED, Map, get}
-use Rattle.std.specs.Prelude.{ℕ, ◌≡◌, ◌<◌, ◌+◌, ◌^◌, Bool, true, false, ◌&&◌, not, nat_le, [], ◌∷◌, length, Option, Some, None, Result, Ok, Err, ⊤, if◌then◌else◌, is_some, bit_or}
+use Rattle.std.specs.Prelude.{ℕ, ◌≡◌, Bool, false, ◌&&◌, not, [], ◌∷◌, Option, Some, None, Result, Ok, Err, ⊤, if◌then◌else◌, is_some, bit_or}
 use Rattle.zl_rights.specs.declared.kind.Kind.{Kind}
 use Rattle.zl_rights.specs.declared.kind.Kind.TheVariants as kind
 use Rattle.zl_rights.specs.declared.status.Status.{Status}
@@ -11,30 +11,18 @@ use Rattle.zl_rights.specs.declared.entry.Entry.{Entry}
 use Rattle.zl_rights.specs.declared.signals.Signals.{Signals}
 use Rattle.zl_rights.specs.LookUp.{looked_up}
 use Rattle.zl_rights.specs.Numbers.{SIGNAL_PEER, USER_SIGNALS}
-use Rattle.zl_code.specs.Effects.{new_entry}
-use Rattle.zl_table.specs.Table.{Handles, Inserts}
+use Rattle.zl_table.specs.Table.{Handles}
 use Rattle.zl_objects.specs.declared.object.Body.TheVariants as body
 use Rattle.zl_objects.specs.declared.object.Object.{Object}
-use Rattle.zl_objects.specs.Objects.{Objects, with_new, changing, peer_at}
-use Rattle.zl_calls.specs.calls.Answer.{Does, has_room_in}
+use Rattle.zl_objects.specs.Objects.{Objects, changing, peer_at}
+use Rattle.zl_calls.specs.calls.Answer.{Does}
+use Rattle.zl_calls.specs.calls.Making.{MakeDoes}
 
 -- ---- event_create
 
--- the answer of event_create other than OK
-abbrev pub event_refusal : Map Entry → ℕ → Option Status
-event_refusal entries next_koid = then_some (not (has_room_in entries && nat_le (next_koid + 1) (2 ^ 62))) status.NoResources
-
--- a handle to a new event gets the value made
-pub record CreatesEvent (t : Handles) (r : Objects) (made : ℕ) (t2 : Handles) (r2 : Objects) : Type 0 where
-  pub unrefused : event_refusal t.entries r.next_koid ≡ None
-  pub room : length t.entries < 1024
-  pub koid : r.next_koid < 2 ^ 62
-  pub inserts : Inserts t (new_entry r.next_koid kind.Event) made t2
-  pub objects : r2 ≡ with_new r body.Event 1
-
--- event_create, over the table of its caller
+-- event_create, over the table of its caller: it makes an event
 abbrev pub EventCreateDoes : Handles → Objects → Result ℕ Status → Handles → Objects → Type 0
-EventCreateDoes t r = Does (CreatesEvent t r) true (event_refusal t.entries r.next_koid) t r
+EventCreateDoes = MakeDoes body.Event
 
 -- ---- signal
 

@@ -1,10 +1,9 @@
 -- What calls on jobs do: job_create and job_set_policy. No public clause cites this module.
-use Rattle.std.specs.Prelude.{ℕ, ◌≡◌, ◌+◌, ◌<◌, ◌^◌, Bool, true, false, ◌&&◌, ◌||◌, not, nat_le, [], ◌∷◌, length, Option, Some, None, Result, Ok, Err, ⊤}
+use Rattle.std.specs.Prelude.{ℕ, ◌≡◌, Bool, true, false, ◌||◌, [], ◌∷◌, Option, Some, None, Result, Ok, Err, ⊤}
 use Rattle.std.specs.Bool.{then_some}
 use Rattle.std.specs.Option.{option_or}
 use Rattle.std.specs.Result.{result_err}
 use Rattle.zl_code.specs.Common.{Map}
-use Rattle.zl_code.specs.Effects.{new_entry}
 use Rattle.zl_rights.specs.LookUp.{looked_up}
 use Rattle.zl_rights.specs.Numbers.{MANAGE_JOB, SET_POLICY}
 use Rattle.zl_rights.specs.Policies.{Setting as SettingValue, setting_of}
@@ -16,12 +15,13 @@ use Rattle.zl_jobs.specs.Jobs.{Job}
 use Rattle.zl_jobs.specs.declared.job.JobFault.{JobFault}
 use Rattle.zl_jobs.specs.declared.job.JobFault.TheVariants as fault
 use Rattle.zl_objects.specs.Jobs.{has_job_below, has_process_below, is_dead, job_at, new_in, policy_answer, setting_policy}
-use Rattle.zl_objects.specs.Objects.{Objects, with_new}
+use Rattle.zl_objects.specs.Objects.{Objects}
 use Rattle.zl_objects.specs.declared.object.Body.TheVariants as body
 use Rattle.zl_objects.specs.declared.object.Object.{Object}
-use Rattle.zl_table.specs.Table.{Handles, Inserts}
+use Rattle.zl_table.specs.Table.{Handles}
 use Rattle.zl_calls.specs.declared.calls.job.Setting.{Setting}
-use Rattle.zl_calls.specs.calls.Answer.{Does, has_room_in}
+use Rattle.zl_calls.specs.calls.Answer.{Does}
+use Rattle.zl_calls.specs.calls.Making.{MakesOne, room_refusal}
 
 -- ---- job_create
 
@@ -35,8 +35,7 @@ fault_status (Err fault.BadState) = Some status.BadState
 abbrev pub job_refusal_of : Map Entry → Objects → Result Entry Status → Option Status
 job_refusal_of entries r (Err s) = Some s
 job_refusal_of entries r (Ok above) =
-    option_or (fault_status (new_in above.koid (job_at r.objects above.koid)))
-    (then_some (not (has_room_in entries && nat_le (r.next_koid + 1) (2 ^ 62))) status.NoResources)
+    option_or (fault_status (new_in above.koid (job_at r.objects above.koid))) (room_refusal entries r.next_koid)
 
 -- the answer of job_create other than OK
 abbrev pub job_refusal : Map Entry → Objects → ℕ → Option Status
@@ -49,10 +48,7 @@ pub record CreatesJob (t : Handles) (r : Objects) (value made : ℕ) (t2 : Handl
   pub is_above : looked_up t.entries value (kind.Job ∷ []) MANAGE_JOB ≡ Ok above
   pub child : Job
   pub is_child : new_in above.koid (job_at r.objects above.koid) ≡ Ok child
-  pub room : length t.entries < 1024
-  pub koid : r.next_koid < 2 ^ 62
-  pub inserts : Inserts t (new_entry r.next_koid kind.Job) made t2
-  pub objects : r2 ≡ with_new r (body.Job child) 1
+  pub makes : MakesOne (body.Job child) t r made t2 r2
 
 -- job_create in the job of the handle at the value
 abbrev pub JobCreateDoes : (value : ℕ) → Handles → Objects → Result ℕ Status → Handles → Objects → Type 0

@@ -1,5 +1,5 @@
 -- What calls on ports do: port_create, port_queue, port_poll and port_wait. No public clause cites this module.
-use Rattle.std.specs.Prelude.{ℕ, ◌≡◌, ◌<◌, ◌+◌, ◌^◌, Bool, true, false, ◌&&◌, not, nat_le, [], ◌∷◌, List, length, Option, Some, None, Result, Ok, Err, ⊤, slice_get}
+use Rattle.std.specs.Prelude.{ℕ, ◌≡◌, Bool, true, false, [], ◌∷◌, List, Option, Some, None, Result, Ok, Err, ⊤, slice_get}
 use Rattle.std.specs.Bool.{then_some}
 use Rattle.std.specs.Result.{result_err}
 use Rattle.zl_code.specs.Common.{Map, get, is_empty}
@@ -12,31 +12,19 @@ use Rattle.zl_rights.specs.Numbers.{READ, WRITE}
 use Rattle.zl_rights.specs.World.{Awaited, Packet, PacketAt}
 use Rattle.zl_rights.specs.Wakes.{packet_values}
 use Rattle.zl_port.specs.Packets.{user_packet, with_packet, without_front}
-use Rattle.zl_code.specs.Effects.{new_entry}
 use Rattle.zl_code.specs.Waiting.{is_full}
-use Rattle.zl_table.specs.Table.{Handles, Inserts}
+use Rattle.zl_table.specs.Table.{Handles}
 use Rattle.zl_objects.specs.declared.object.Object.{Object}
-use Rattle.zl_objects.specs.Objects.{Objects, with_new}
+use Rattle.zl_objects.specs.Objects.{Objects}
 use Rattle.zl_objects.specs.Ports.{changing_port, new_port, packets_in}
-use Rattle.zl_calls.specs.calls.Answer.{Action, Does, answers, has_room_in, told_by}
+use Rattle.zl_calls.specs.calls.Answer.{Action, Does, answers, told_by}
+use Rattle.zl_calls.specs.calls.Making.{MakeDoes}
 
 -- ---- port_create
 
--- the answer of port_create other than OK
-abbrev pub port_refusal : Map Entry → ℕ → Option Status
-port_refusal entries next_koid = then_some (not (has_room_in entries && nat_le (next_koid + 1) (2 ^ 62))) status.NoResources
-
--- a handle to a new port without packets gets the value made
-pub record CreatesPort (t : Handles) (r : Objects) (made : ℕ) (t2 : Handles) (r2 : Objects) : Type 0 where
-  pub unrefused : port_refusal t.entries r.next_koid ≡ None
-  pub room : length t.entries < 1024
-  pub koid : r.next_koid < 2 ^ 62
-  pub inserts : Inserts t (new_entry r.next_koid kind.Port) made t2
-  pub objects : r2 ≡ with_new r new_port 1
-
--- port_create, over the table of its caller
+-- port_create, over the table of its caller: it makes a port without packets
 abbrev pub PortCreateDoes : Handles → Objects → Result ℕ Status → Handles → Objects → Type 0
-PortCreateDoes t r = Does (CreatesPort t r) true (port_refusal t.entries r.next_koid) t r
+PortCreateDoes = MakeDoes new_port
 
 -- ---- a port that a handle names
 

@@ -1,11 +1,10 @@
 -- What calls do that reach other processes than their caller: process_create, process_start and task_kill. No public clause cites this module.
-use Rattle.std.specs.Prelude.{ℕ, ◌≡◌, ◌+◌, ◌^◌, Bool, true, false, ◌&&◌, ◌==◌, not, nat_le, List, [], ◌∷◌, ◌++◌, map, Option, Some, None, Result, Ok, Err, IfOk, IfErr, OnErr, ⊤, is_some, slice_get, slice_set, if◌then◌else◌}
+use Rattle.std.specs.Prelude.{ℕ, ◌≡◌, Bool, true, false, ◌&&◌, ◌==◌, not, List, [], ◌∷◌, ◌++◌, map, Option, Some, None, Result, Ok, Err, IfOk, IfErr, OnErr, ⊤, is_some, slice_get, slice_set, if◌then◌else◌}
 use Rattle.std.specs.Bool.{then_some}
 use Rattle.std.specs.List.{find, filter, list_any}
 use Rattle.std.specs.Option.{option_or}
 use Rattle.std.specs.Result.{result_err}
 use Rattle.zl_code.specs.Common.{Library, Map, Site, get}
-use Rattle.zl_code.specs.Effects.{new_entry}
 use Rattle.zl_code.specs.Image.{Program}
 use Rattle.zl_code.specs.Jobs.{is_allowing, misfits}
 use Rattle.zl_code.specs.Sound.{is_blocked}
@@ -23,13 +22,14 @@ use Rattle.zl_rights.specs.declared.status.Status.{Status}
 use Rattle.zl_rights.specs.declared.status.Status.TheVariants as status
 use Rattle.zl_table.specs.Table.{Inserts}
 use Rattle.zl_objects.specs.Jobs.{action_of, is_dead, is_within, job_at, killing}
-use Rattle.zl_objects.specs.Objects.{Objects, starting, with_new}
+use Rattle.zl_objects.specs.Objects.{Objects, starting}
 use Rattle.zl_objects.specs.Release.{Releases, all_koids}
 use Rattle.zl_objects.specs.declared.object.Body.TheVariants as body
 use Rattle.zl_objects.specs.declared.object.Life.TheVariants as life
 use Rattle.zl_calls.specs.Registered.{KeepsListed}
 use Rattle.zl_calls.specs.World.{process_entry, process_value, state_value}
-use Rattle.zl_calls.specs.calls.Answer.{ClosesEach, IsRefusedBy, answered_in, has_room_in, no_value, status_of, without_handle}
+use Rattle.zl_calls.specs.calls.Answer.{ClosesEach, IsRefusedBy, answered_in, no_value, status_of, without_handle}
+use Rattle.zl_calls.specs.calls.Making.{MakesOne, room_refusal}
 use Rattle.zl_calls.specs.calls.Process.{Drained}
 use Rattle.zl_calls.specs.declared.process.Process.{Process}
 use Rattle.zl_calls.specs.declared.process.State.{State}
@@ -102,7 +102,7 @@ create_refusal_of lib entries r program (Ok job) =
     option_or (then_some (not (is_some (slice_get lib program))) status.InvalidArgs)
     (option_or (then_some (is_dead (job_at r.objects job.koid)) status.BadState)
     (option_or (then_some (needs_more (action_of (job_at r.objects job.koid)) (slice_get lib program)) status.NotSupported)
-    (then_some (not (has_room_in entries && nat_le (r.next_koid + 1) (2 ^ 62))) status.NoResources)))
+    (room_refusal entries r.next_koid)))
 
 -- the answer of process_create other than OK
 abbrev pub create_refusal : Library → Map Entry → Objects → (job program : ℕ) → Option Status
@@ -116,13 +116,12 @@ pub record CreatesProcess (lib : Library) (l : Lab) (place job program made : �
   pub unrefused : create_refusal lib caller.table.entries l.objects job program ≡ None
   pub above : Entry
   pub is_above : looked_up caller.table.entries job (kind.Job ∷ []) MANAGE_PROCESS ≡ Ok above
-  pub inserts : Inserts caller.table (new_entry l.objects.next_koid kind.Process) made after.table
+  pub makes : MakesOne (body.Process above.koid life.Created) caller.table l.objects made after.table l2.objects
   -- the new process
   pub new : Process
   pub pid : new.pid ≡ l.objects.next_koid
   pub created : process_value new ≡ created_process lib program
   pub processes : l2.processes ≡ with_caller l.processes place after ++ (new ∷ [])
-  pub objects : l2.objects ≡ with_new l.objects (body.Process above.koid life.Created) 1
   pub blocked : l2.blocked ≡ l.blocked
 
 -- process_create by the process at the place; where it is refused nothing changes

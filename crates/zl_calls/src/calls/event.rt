@@ -4,10 +4,10 @@ ghost use Rattle.std.specs.Prelude.{◌≡◌};
 ghost use Rattle.zl_rights.specs.Numbers.{within};
 ghost use Rattle.zl_calls.specs.calls.Event.{EventCreateDoes, SignalDoes, SignalPeerDoes, settable_at, signals_if};
 
-use crate::calls::{insert, look_up};
+use crate::calls::{check_room, look_up, make_object};
 use bitflags::Flags;
 use zl_objects::{Body, Objects};
-use zl_rights::{Entry, HValue, Kind, Rights, Signals, Status};
+use zl_rights::{HValue, Kind, Rights, Signals, Status};
 use zl_table::Table;
 
 /// Makes an event, with a handle that has the default rights.
@@ -17,24 +17,8 @@ use zl_table::Table;
 pub fn event_create(table: &mut Table, objects: &mut Objects) -> Result<HValue, Status>
     ensures { EventCreateDoes table.old objects.old result table.new objects.new }
 {
-    if table.len() >= Table::CAPACITY || !objects.has_koids(1) {
-        return Err(Status::NoResources);
-    }
-    let Ok(koid) = objects.create(Body::Event, 1) else {
-        return Err(Status::NoMemory);
-    };
-    let entry = Entry {
-        koid,
-        kind: Kind::Event,
-        rights: Kind::Event.default_rights(),
-    };
-    match insert(table, entry) {
-        Ok(made) => Ok(made),
-        Err(refused) => {
-            objects.take_back(koid);
-            Err(refused)
-        }
-    }
+    check_room(table, objects)?;
+    make_object(table, objects, Body::Event)
 }
 
 /// Takes the signals `clear` from the object, and then gives it the signals `set`.

@@ -5,10 +5,10 @@ ghost use Rattle.std.specs.Option.{option_map};
 ghost use Rattle.zl_rights.specs.Policies.{setting_of};
 ghost use Rattle.zl_calls.specs.calls.Job.{JobCreateDoes, JobSetPolicyDoes, has_child_at, setting_value};
 
-use crate::calls::{insert, look_up};
+use crate::calls::{check_room, look_up, make_object};
 use zl_jobs::JobFault;
 use zl_objects::{Body, Objects};
-use zl_rights::{Action, Condition, Entry, HValue, Kind, Koid, Mode, Rights, Status};
+use zl_rights::{Action, Condition, HValue, Kind, Koid, Mode, Rights, Status};
 use zl_table::Table;
 
 /// Makes a job in the job of the handle, with a handle that has the default rights. It has the policy
@@ -28,24 +28,8 @@ pub fn job_create(table: &mut Table, objects: &mut Objects, value: u64) -> Resul
         Err(JobFault::OutOfRange) => return Err(Status::OutOfRange),
         Err(JobFault::BadState) => return Err(Status::BadState),
     };
-    if table.len() >= Table::CAPACITY || !objects.has_koids(1) {
-        return Err(Status::NoResources);
-    }
-    let Ok(koid) = objects.create(Body::Job(child), 1) else {
-        return Err(Status::NoMemory);
-    };
-    let entry = Entry {
-        koid,
-        kind: Kind::Job,
-        rights: Kind::Job.default_rights(),
-    };
-    match insert(table, entry) {
-        Ok(made) => Ok(made),
-        Err(refused) => {
-            objects.take_back(koid);
-            Err(refused)
-        }
-    }
+    check_room(table, objects)?;
+    make_object(table, objects, Body::Job(child))
 }
 
 /// What a call sets in the policy of a job.

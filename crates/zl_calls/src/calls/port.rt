@@ -7,11 +7,11 @@ ghost use Rattle.zl_calls.specs.calls.Async.{PortCancelDoes};
 ghost use Rattle.zl_calls.specs.calls.Port.{PortCreateDoes, PortPollDoes, PortQueueDoes};
 
 use crate::calls::handle::live_at;
-use crate::calls::{insert, look_up};
+use crate::calls::{check_room, look_up, make_object};
 use crate::waits::{cancel_waits, is_keyed};
 use zl_objects::Objects;
 use zl_port::{Packet, QueueFault, Source};
-use zl_rights::{Entry, HValue, Kind, Koid, Pid, Rights, Status};
+use zl_rights::{HValue, Kind, Koid, Pid, Rights, Status};
 use zl_table::Table;
 
 /// Makes a port without packets, with a handle that has the default rights.
@@ -21,24 +21,9 @@ use zl_table::Table;
 pub fn port_create(table: &mut Table, objects: &mut Objects) -> Result<HValue, Status>
     ensures { PortCreateDoes table.old objects.old result table.new objects.new }
 {
-    if table.len() >= Table::CAPACITY || !objects.has_koids(1) {
-        return Err(Status::NoResources);
-    }
-    let Ok(koid) = objects.create_port(1) else {
-        return Err(Status::NoMemory);
-    };
-    let entry = Entry {
-        koid,
-        kind: Kind::Port,
-        rights: Kind::Port.default_rights(),
-    };
-    match insert(table, entry) {
-        Ok(made) => Ok(made),
-        Err(refused) => {
-            objects.take_back(koid);
-            Err(refused)
-        }
-    }
+    check_room(table, objects)?;
+    let port = objects.new_port();
+    make_object(table, objects, port)
 }
 
 /// Queues a packet with the key and the word at the port at the value `port`: it goes behind all

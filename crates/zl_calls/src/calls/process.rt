@@ -1,27 +1,25 @@
 //! Calls on processes.
 
-ghost use Rattle.std.specs.Prelude.{◌≡◌, ◌<◌, [], ◌∷◌, length, slice_get, Some, IsTrue, IfOk, OnOk, IfErr, OnErr};
+ghost use Rattle.std.specs.Prelude.{◌≡◌, [], ◌∷◌, slice_get, Some, IfOk};
 ghost use Rattle.std.specs.Option.{option_map};
 ghost use Rattle.std.specs.Result.{result_err, result_ok};
-ghost use Rattle.zl_code.specs.Effects.{new_entry, signed_word};
+ghost use Rattle.zl_code.specs.Effects.{signed_word};
 ghost use Rattle.zl_code.specs.Jobs.{is_allowing, is_declared, is_only_start, misfits};
 ghost use Rattle.zl_rights.specs.LookUp.{looked_up};
 ghost use Rattle.zl_rights.specs.Numbers.{MANAGE_PROCESS};
-ghost use Rattle.zl_table.specs.Table.{Inserts};
 ghost use Rattle.zl_objects.specs.Jobs.{action_of, job_at};
-ghost use Rattle.zl_objects.specs.Objects.{has_koids, with_new};
 ghost use Rattle.zl_interp.specs.Common.{program_value};
 ghost use Rattle.zl_calls.specs.Registered.{KeepsListed};
 ghost use Rattle.zl_calls.specs.calls.Process.{Drained, Ends};
 ghost use Rattle.zl_calls.specs.calls.Task.{create_refusal, needs_more};
 
-use crate::calls::{insert, look_up};
+use crate::calls::{check_room, look_up};
 use crate::process::Process;
 use std::alloc::Global;
 use zl_code::{Image, Start};
 use zl_interp::{Library, Program};
-use zl_objects::{Body, Life, Objects};
-use zl_rights::{Action, Condition, Entry, HValue, Kind, Koid, Rights, Status};
+use zl_objects::Objects;
+use zl_rights::{Action, Condition, Entry, Kind, Koid, Rights, Status};
 use zl_table::Table;
 
 /// Ends the process with the code; its handles close, and what isn't held any more is gone.
@@ -79,9 +77,7 @@ pub fn find_job<'a>(
     if lacks_need(objects, job.koid, program) {
         return Err(Status::NotSupported);
     }
-    if table.len() >= Table::CAPACITY || !objects.has_koids(1) {
-        return Err(Status::NoResources);
-    }
+    check_room(table, objects)?;
     Ok((job.koid, program.image()))
 }
 
@@ -104,40 +100,6 @@ fn allows(objects: &Objects, job: Koid, condition: Condition) -> bool
     ensures { result ≡ is_allowing (action_of (job_at objects.now.objects job) condition) }
 {
     matches!(objects.action(job, condition), Action::Allow)
-}
-
-/// Makes the object of a process in the job, with a handle that has the default rights. Only memory
-/// can be refused.
-pub fn make_process(table: &mut Table, objects: &mut Objects, job: Koid) -> Result<HValue, Status>
-    requires room { length table.old.entries < 1024 }
-    requires koid { IsTrue (has_koids objects.old.next_koid 1) }
-    ensures ok { IfOk result (λ made. Inserts
-        table.old (new_entry objects.old.next_koid Kind.Process) made table.new) }
-    ensures made { OnOk result (objects.new
-        ≡ with_new objects.old (Body.Process job Life.Created) 1) }
-    ensures err { IfErr result (λ refused. refused ≡ Status.NoMemory) }
-    ensures same_table { OnErr result (table.new ≡ table.old) }
-    ensures same_objects { OnErr result (objects.new ≡ objects.old) }
-{
-    let body = Body::Process {
-        job,
-        life: Life::Created,
-    };
-    let Ok(koid) = objects.create(body, 1) else {
-        return Err(Status::NoMemory);
-    };
-    let entry = Entry {
-        koid,
-        kind: Kind::Process,
-        rights: Kind::Process.default_rights(),
-    };
-    match insert(table, entry) {
-        Ok(made) => Ok(made),
-        Err(refused) => {
-            objects.take_back(koid);
-            Err(refused)
-        }
-    }
 }
 
 /// Whether the program with this number was checked, and declares anything else than this handle.

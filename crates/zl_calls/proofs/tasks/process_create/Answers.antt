@@ -14,4 +14,5 @@ returns-in-Err-clause-does c = λ caller there. not_made c.args.library.now c.ar
     c.args.blocked.now.items c.prepare.new.blocked.items
     c.args.place c.args.job c.args.program c.prepare.ensures.same_processes c.prepare.ensures.same_blocked c.index.result.now c.index.ensures
     c.in_ok-job.ensures.refusal caller there
-    c.index_mut.result.now c.index_mut.ensures.value c.make_process.new.table (c.in-Err.ensures {u = tt}).same_table c.make_process.new.objects (c.in-Err.ensures {u = tt}).same_objects c.in-Err.refused (c.in-Err.ensures {u = tt}).err
+    c.index_mut.result.now c.index_mut.ensures.value _ c.make_object.new.table c.make_object.new.objects c.in-Err.refused
+    (rw c.in-Err.is at c.make_object.ensures)
